@@ -1,0 +1,7 @@
+pub mod Objects
+pub mod Meanings
+pub mod Plans
+pub mod Facts
+pub mod Exact
+pub mod Exactness
+pub mod Laws

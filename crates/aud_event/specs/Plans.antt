@@ -1,0 +1,70 @@
+-- What makes a plan, and which fault is told of what is none.
+use Rattle.std.specs.Prelude.{◌≡◌, suc, option_map, ℕ, pos, Bool, true, not, ◌&&◌, ◌||◌, if◌then◌else◌, List, [], ◌∷◌, length, Option, Some, None, nat_eq, nat_lt, nat_le, int_le, bytes_eq}
+use Rattle.std.specs.List.{list_all, list_any}
+use Rattle.std.specs.BTreeMap.{BTreeMap, get_by_text}
+use Rattle.std.specs.declared.string.String.{String}
+use Rattle.std.specs.Char.{is_ascii_alphanumeric}
+use Rattle.std.specs.Ordering.{int_eq}
+use Rattle.aud_event.specs.declared.limits.TheConstants.{LOGS_MAX, OBJECTS_MAX, NAME_MAX, COUNTER_MIN, COUNTER_MAX}
+use Rattle.aud_event.specs.declared.object.ObjKind.TheVariants.{Register, Counter, SetOf, Queue}
+use Rattle.aud_event.specs.declared.plan.PlanFault.{PlanFault}
+use Rattle.aud_event.specs.declared.plan.PlanFault.TheVariants.{NoLogs, TooManyLogs, TooManyObjects, NameTwice, OpeningRange, BadName, OutOfMemory}
+use Rattle.aud_event.specs.Meanings.{Declared}
+
+-- an ASCII letter, a digit or an underscore
+abbrev pub is_name_byte : ℕ → Bool
+is_name_byte b = is_ascii_alphanumeric b || nat_eq b 95
+
+abbrev pub is_name : List ℕ → Bool
+is_name name = nat_le 1 (length name) && nat_le (length name) NAME_MAX && list_all is_name_byte name
+
+-- whether a declaration has the name
+abbrev pub has_name : List ℕ → Declared → Bool
+has_name name d = bytes_eq d.name name
+
+abbrev pub names_differ : List Declared → Bool
+names_differ [] = true
+names_differ (d ∷ ds) = not (list_any (has_name d.name) ds) && names_differ ds
+
+-- a register opens anywhere, a counter within its range, a set and a queue empty
+abbrev pub is_opening : Declared → Bool
+is_opening d = elim d.kind [
+  | Register ↦ true
+  | Counter ↦ int_le COUNTER_MIN d.opening && int_le d.opening COUNTER_MAX
+  | SetOf ↦ int_eq d.opening (pos 0)
+  | Queue ↦ int_eq d.opening (pos 0)
+]
+
+-- the first fault of the objects one by one
+abbrev pub first_value_fault : List Declared → Option PlanFault
+first_value_fault objects =
+    if not (list_all is_opening objects) then Some OpeningRange
+    else (if not (list_all (λ d. is_name d.name) objects) then Some BadName
+    else None)
+
+-- the first fault of a plan to be, in the order of their numbers
+abbrev pub first_plan_fault : ℕ → List Declared → Option PlanFault
+first_plan_fault logs objects =
+    if nat_eq logs 0 then Some NoLogs
+    else (if nat_lt LOGS_MAX logs then Some TooManyLogs
+    else (if nat_lt OBJECTS_MAX (length objects) then Some TooManyObjects
+    else (if not (names_differ objects) then Some NameTwice
+    else first_value_fault objects)))
+
+abbrev pub plan_fault_number : PlanFault → ℕ
+plan_fault_number NoLogs = 1
+plan_fault_number TooManyLogs = 2
+plan_fault_number TooManyObjects = 3
+plan_fault_number NameTwice = 4
+plan_fault_number OpeningRange = 5
+plan_fault_number BadName = 6
+plan_fault_number OutOfMemory = 7
+
+-- the number of the first object of the name
+abbrev pub number_of : List ℕ → List Declared → Option ℕ
+number_of name [] = None
+number_of name (d ∷ ds) = if has_name name d then Some 0 else option_map suc (number_of name ds)
+
+-- a map from names to numbers that answers what a look through the objects answers
+abbrev pub IsIndex : {Y : Type 0} → BTreeMap (String Y) ℕ → List Declared → Type 0
+IsIndex numbers objects = (name : List ℕ) → get_by_text numbers name ≡ number_of name objects

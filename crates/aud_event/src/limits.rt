@@ -1,0 +1,25 @@
+//! The limits of format 1. Every limit is on one fact or on the plan; none is on totals.
+
+/// The most logs that a plan may have. It has at least one.
+pub const LOGS_MAX: u32 = 64;
+
+/// The most objects that a plan may have. It may have none.
+pub const OBJECTS_MAX: usize = 256;
+
+/// The most bytes of an object's name. It has at least one.
+pub const NAME_MAX: usize = 32;
+
+/// Places in a log are below this, and the count of an end mark is at most this.
+pub const PLACES: u32 = 4096;
+
+/// Stamps are below this.
+pub const STAMPS: u32 = 262_144;
+
+/// Transactions' numbers are below this.
+pub const TRANSACTIONS: u32 = 1024;
+
+/// The least value at which a counter may open, -2^62.
+pub const COUNTER_MIN: i64 = -4_611_686_018_427_387_904;
+
+/// The greatest value at which a counter may open, 2^62.
+pub const COUNTER_MAX: i64 = 4_611_686_018_427_387_904;

@@ -1,0 +1,9 @@
+pub mod Events
+pub mod StateTable
+pub mod FirstFault
+pub mod ByPlaces
+pub mod Tables
+pub mod RowLaws
+pub mod Insertions
+pub mod Removals
+pub mod Ends

@@ -1,0 +1,9 @@
+pub mod Histories
+pub mod WellFormed
+pub mod ByState
+pub mod FirstFault
+pub mod Completions
+pub mod Places
+pub mod Laws
+pub mod Table
+pub mod Worked

@@ -1,0 +1,4 @@
+pub mod Equality
+pub mod Grouped
+pub mod Places
+pub mod CoverMerging

@@ -1,0 +1,57 @@
+-- A set as the list of its items, least first.
+use Rattle.std.specs.Prelude.{◌≡◌, Bool, true, false, ◌||◌, List, [], ◌∷◌, refl}
+use Rattle.std.specs.declared.cmp.Ordering.{Ordering}
+use Rattle.std.specs.declared.cmp.Ordering.TheVariants.{Less, Equal, Greater}
+use Rattle.std.specs.Ordering.{eq_by_cmp}
+use Rattle.std.specs.List.{list_any}
+use Rattle.aud_lattice.specs.Laws.{SemilatticeLaws}
+
+-- one of three, by what a comparison answered
+abbrev pub by_order : {A : Type 0} → Ordering → A → A → A → A
+by_order Less a b c = a
+by_order Equal a b c = b
+by_order Greater a b c = c
+
+-- whether the list has x
+abbrev pub has : {T : Type 0} → (T → T → Ordering) → List T → T → Bool
+has cmp xs x = list_any (eq_by_cmp cmp x) xs
+
+-- the items of the set with x, least first
+abbrev pub with_item : {T : Type 0} → (T → T → Ordering) → T → List T → List T
+with_item cmp x [] = x ∷ []
+with_item cmp x (y ∷ ys) = by_order (cmp x y) (x ∷ y ∷ ys) (y ∷ ys) (y ∷ with_item cmp x ys)
+
+-- the items of both sets, least first
+abbrev pub union : {T : Type 0} → (T → T → Ordering) → List T → List T → List T
+union cmp [] ys = ys
+union cmp (x ∷ xs) ys = with_item cmp x (union cmp xs ys)
+
+-- the set once each item of the list is put in, from the front
+abbrev pub inserted : {T : Type 0} → (T → T → Ordering) → List T → List T → List T
+inserted cmp [] set = set
+inserted cmp (x ∷ xs) set = inserted cmp xs (with_item cmp x set)
+
+-- what either test passes
+abbrev pub either : {T : Type 0} → (T → Bool) → (T → Bool) → T → Bool
+either p q x = p x || q x
+
+or_comm : (a b : Bool) → (a || b) ≡ (b || a)
+or_comm true true = refl
+or_comm true false = refl
+or_comm false true = refl
+or_comm false false = refl
+
+or_assoc : (a b c : Bool) → ((a || b) || c) ≡ (a || (b || c))
+or_assoc true b c = refl
+or_assoc false b c = refl
+
+or_same : (a : Bool) → (a || a) ≡ a
+or_same true = refl
+or_same false = refl
+
+pub either_laws : {T : Type 0} → SemilatticeLaws (either {T = T})
+either_laws = record {
+  commutative = λ p q i x. or_comm (p x) (q x) i;
+  associative = λ p q r i x. or_assoc (p x) (q x) (r x) i;
+  idempotent = λ p i x. or_same (p x) i;
+}

@@ -1,0 +1,22 @@
+-- What a tree holds.
+use Rattle.std.proofs.Common.{◌≡◌, ℕ, ◌+◌, ◌*◌, ◌≤◌, List, [], ◌∷◌, ◌++◌, length, length-append, Option, None, Some, sym, ap, arith}
+use Rattle.std.specs.Arc.{arc_value}
+use Rattle.std.specs.declared.sync.Arc.{Arc}
+
+-- the items of the tree behind a link, least first
+abbrev pub items_of : {T Z : Type 0} → Option (Arc (List T) Z) → List T
+items_of None = []
+items_of (Some a) = arc_value a
+
+-- neither side is more than three times the other, each counted with one more
+abbrev pub AreBalanced : ℕ → ℕ → Type 0
+AreBalanced l r = (l + 1 ≤ 3 * (r + 1)) × (r + 1 ≤ 3 * (l + 1))
+
+-- so but for one item
+abbrev pub NearlyBalanced : ℕ → ℕ → Type 0
+NearlyBalanced l r = (l + 1 ≤ 3 * (r + 1) + 1) × (r + 1 ≤ 3 * (l + 1) + 1)
+
+-- where a list's end is as long as the list, it is the list
+pub all_taken : {T : Type 0} (xs front end : List T) → xs ≡ front ++ end → length end ≡ length xs → end ≡ xs
+all_taken xs [] end e same = sym e
+all_taken xs (x ∷ front) end e same = absurd (omega (arith, length-append (x ∷ front) end, ap length e))

@@ -1,0 +1,33 @@
+//! Copies of lists.
+
+ghost use Rattle.std.specs.Prelude.{◌≡◌, IfOk, OnOk, OnErr, IsTrue, ◌↔◌, [], ◌∷◌, ◌++◌};
+
+use aud_event::{Dup, Key, OutOfMemory};
+use std::alloc::Allocator;
+
+/// Puts a copy of the item at the end.
+pub fn push_copy<T: Dup, A: Allocator>(all: &mut Vec<T, A>, item: &T) -> Result<(), OutOfMemory>
+    ensures ok { OnOk result (all.new.items ≡ all.old.items ++ item.now ∷ []) }
+    ensures err { OnErr result (all.new.items ≡ all.old.items) }
+{
+    all.push(item.dup()?)?;
+    Ok(())
+}
+
+/// A list with copies of the items.
+pub fn copied<T: Dup, A: Allocator>(alloc: A, items: &[T]) -> Result<Vec<T, A>, OutOfMemory>
+    ensures { IfOk result (λ all. all.items ≡ items.now) }
+{
+    let mut all = Vec::with_capacity(alloc, items.len())?;
+    for item in items {
+        push_copy(&mut all, item)?;
+    }
+    Ok(all)
+}
+
+/// Whether both have the same items in the same order.
+pub fn same_items<T: Key>(xs: &[T], ys: &[T]) -> bool
+    ensures { IsTrue result ↔ (xs.now ≡ ys.now) }
+{
+    xs == ys
+}

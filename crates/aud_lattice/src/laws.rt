@@ -1,0 +1,23 @@
+//! The laws of covers as facts that a caller's proof can take.
+
+ghost use Rattle.aud_lattice.specs.Norms.{IsNormOfUnion, IsNormWithNorm, IsNormOfFirsts};
+
+use aud_event::Key;
+
+/// The cover of a union is the cover of the covers.
+#[tactic(auto, using(crate::specs::Norms::norm_of_union))]
+pub fn norm_of_union<D: Key>()
+    ensures { IsNormOfUnion D.Ord.cmp }
+{}
+
+/// Lists beside the cover of others have the cover of both together.
+#[tactic(auto, using(crate::specs::Norms::norm_with_norm))]
+pub fn norm_with_norm<D: Key>()
+    ensures { IsNormWithNorm D.Ord.cmp }
+{}
+
+/// The cover of some lists keeps those of which no proper beginning is there.
+#[tactic(auto, using(crate::specs::Norms::norm_of_firsts))]
+pub fn norm_of_firsts<D: Key>()
+    ensures { IsNormOfFirsts D.Ord.cmp }
+{}

@@ -1,0 +1,92 @@
+//! Two trees at once.
+
+ghost use Rattle.std.specs.Prelude.{◌≡◌, IfOk, IsTrue, ◌↔◌};
+ghost use Rattle.std.specs.List.Sorted.{IsStrictlySortedBy};
+ghost use Rattle.aud_lattice.specs.Sets.{with_item, union};
+ghost use Rattle.aud_lattice.specs.Trees.{items_of};
+
+use crate::iter::all_of;
+use crate::tree::{Link, contains, count, shared, with};
+use aud_event::{Dup, Key, OutOfMemory};
+use std::alloc::Allocator;
+use std::cmp::Ordering;
+
+// The tree with a copy of the item. One that is there already takes no memory.
+#[tactic(auto, using(crate::specs::Splits::with_there))]
+fn added<T: Key + Dup, A: Allocator + Clone>(
+    alloc: &A,
+    tree: Link<T, A>,
+    item: &T,
+) -> Result<Link<T, A>, OutOfMemory>
+    requires { IsStrictlySortedBy T.Ord.cmp (items_of tree) }
+    ensures { IfOk result (λ new. items_of new ≡ with_item T.Ord.cmp item.now (items_of tree)) }
+{
+    if contains(&tree, item) {
+        return Ok(tree);
+    }
+    with(alloc, &tree, item.dup()?)
+}
+
+// One tree with the items of another.
+#[tactic(auto, using(crate::specs::Sorted::sorted_with_item, crate::specs::Pours::inserted_union))]
+fn poured<T: Key + Dup, A: Allocator + Clone>(
+    alloc: &A,
+    from: &Link<T, A>,
+    into: &Link<T, A>,
+) -> Result<Link<T, A>, OutOfMemory>
+    requires { IsStrictlySortedBy T.Ord.cmp (items_of into.now) }
+    ensures { IfOk result (λ all. items_of all ≡ union T.Ord.cmp (items_of from.now) (items_of into.now)) }
+{
+    let mut all = shared(into)?;
+    for item in all_of(from) {
+        all = added(alloc, all, item)?;
+    }
+    Ok(all)
+}
+
+/// The items of both: those of the smaller tree are put into the larger one.
+#[tactic(auto, using(crate::specs::Pours::union_swap))]
+pub fn joined<T: Key + Dup, A: Allocator + Clone>(
+    alloc: &A,
+    xs: &Link<T, A>,
+    ys: &Link<T, A>,
+) -> Result<Link<T, A>, OutOfMemory>
+    requires xs_sorted { IsStrictlySortedBy T.Ord.cmp (items_of xs.now) }
+    requires ys_sorted { IsStrictlySortedBy T.Ord.cmp (items_of ys.now) }
+    ensures { IfOk result (λ all. items_of all ≡ union T.Ord.cmp (items_of xs.now) (items_of ys.now)) }
+{
+    if count(xs) < count(ys) {
+        poured(alloc, xs, ys)
+    } else {
+        poured(alloc, ys, xs)
+    }
+}
+
+fn alike<T: Key>(x: &T, y: &T) -> bool
+    ensures { IsTrue result ↔ (x.now ≡ y.now) }
+{
+    x.cmp(y) == Ordering::Equal
+}
+
+/// Whether both have the same items.
+#[tactic(auto, using(crate::specs::Pours::tails_same, crate::specs::Pours::heads_same))]
+pub fn same<T: Key + Dup, A: Allocator>(xs: &Link<T, A>, ys: &Link<T, A>) -> bool
+    ensures { IsTrue result ↔ (items_of xs.now ≡ items_of ys.now) }
+{
+    if count(xs) != count(ys) {
+        return false;
+    }
+    let mut first = all_of(xs);
+    let mut second = all_of(ys);
+    'each: loop {
+        let Some(x) = first.next() else {
+            return second.next().is_none();
+        };
+        let Some(y) = second.next() else {
+            return false;
+        };
+        if !alike(x, y) {
+            return false;
+        }
+    }
+}

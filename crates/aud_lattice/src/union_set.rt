@@ -1,0 +1,141 @@
+//! Sets that only grow, and that share their nodes with older ones.
+
+ghost use Rattle.std.specs.Prelude.{◌≡◌, IfOk, OnOk, OnErr, IsTrue, ◌↔◌, ◌⊎◌, List, [], length, not, Bool, Contains};
+ghost use Rattle.std.specs.List.Sorted.{IsStrictlySortedBy};
+ghost use Rattle.aud_lattice.specs.Sets.{has, with_item, inserted, union, either, either_laws};
+ghost use Rattle.aud_lattice.specs.Sorted.{has-union};
+ghost use Rattle.aud_lattice.specs.Trees.{items_of};
+
+use crate::Lattice;
+use crate::bulk::{arranged, tree_of};
+use crate::iter::{Iter, all_of};
+use crate::merge::{joined, same};
+use crate::tree::{Link, contains, count, shared, with};
+use aud_event::{Dup, Key, OutOfMemory};
+use std::alloc::{Allocator, Global};
+use std::marker::Model;
+
+/// A set, seen as the list of its items, least first. A copy shares all that it has with its source, so many sets that
+/// grew from one another take little more memory than the last.
+#[derive(Drop)]
+pub struct UnionSet<T: Key + Dup, A: Allocator + Clone = Global> {
+    alloc: A,
+    root: Link<T, A>,
+}
+
+impl<T: Key + Dup, A: Allocator + Clone> Model for UnionSet<T, A> {
+    ghost Value = { List T };
+
+    ghost view = { λ s. items_of s.root };
+
+    ghost invariant = { λ s. IsStrictlySortedBy T.Ord.cmp (items_of s.root) };
+}
+
+impl<T: Key + Dup, A: Allocator + Clone> UnionSet<T, A> {
+    /// No items. It takes no memory.
+    pub fn empty(alloc: A) -> UnionSet<T, A>
+        ensures { result ≡ [] }
+    {
+        UnionSet { alloc, root: None }
+    }
+
+    /// What inserting each item in turn leaves, by one sort and one pass: repeats count once.
+    pub fn from_vec(alloc: A, items: Vec<T, A>) -> Result<UnionSet<T, A>, OutOfMemory>
+        ensures each { IfOk result (λ set. set ≡ inserted T.Ord.cmp items.items []) }
+        ensures members { IfOk result (λ set. (x : T) → Contains set x ↔ Contains items.items x) }
+    {
+        let items = arranged(items)?;
+        let root = tree_of(&alloc, items)?;
+        Ok(UnionSet { alloc, root })
+    }
+
+    /// How many items there are. It takes no memory.
+    pub fn len(&self) -> usize
+        ensures { result ≡ length self.now }
+    {
+        count(&self.root)
+    }
+
+    /// Whether there are none.
+    pub fn is_empty(&self) -> bool
+        ensures { IsTrue result ↔ (length self.now ≡ 0) }
+    {
+        self.len() == 0
+    }
+
+    /// The items, least first. The walk takes no memory.
+    pub fn iter(&self) -> Iter<'_, T, A>
+        ensures all { result ≡ self.now }
+        ensures sorted { IsStrictlySortedBy T.Ord.cmp self.now }
+    {
+        all_of(&self.root)
+    }
+
+    /// Whether the item is there. It takes no memory, and as many comparisons as the tree is deep.
+    #[tactic(auto, using(crate::specs::Members::has_is))]
+    pub fn contains(&self, item: &T) -> bool
+        ensures test { result ≡ has T.Ord.cmp self.now item.now }
+        ensures member { IsTrue result ↔ Contains self.now item.now }
+    {
+        contains(&self.root, item)
+    }
+
+    /// Puts the item in, and tells whether it is new. One that is there already takes no memory; a new one takes as many
+    /// nodes as the tree is deep, and shares all others with the set before.
+    #[tactic(auto, using(crate::specs::Splits::with_there, crate::specs::Sorted::sorted_with_item, crate::specs::Members::contains_with_item))]
+    pub fn insert(&mut self, item: T) -> Result<bool, OutOfMemory>
+        ensures ok { OnOk result (self.new ≡ with_item T.Ord.cmp item self.old) }
+        ensures members { OnOk result ((x : T) → Contains self.new x ↔ (Contains self.old x ⊎ (x ≡ item))) }
+        ensures is_new { IfOk result (λ new. new ≡ not (has T.Ord.cmp self.old item)) }
+        ensures err { OnErr result (self.new ≡ self.old) }
+    {
+        if contains(&self.root, &item) {
+            return Ok(false);
+        }
+        let root = with(&self.alloc, &self.root, item)?;
+        self.root = root;
+        Ok(true)
+    }
+}
+
+/// A copy shares its source's items, so it costs the same at any size.
+impl<T: Key + Dup, A: Allocator + Clone> Dup for UnionSet<T, A> {
+    fn dup(&self) -> Result<UnionSet<T, A>, OutOfMemory> {
+        let root = shared(&self.root)?;
+        Ok(UnionSet {
+            alloc: self.alloc.clone()?,
+            root,
+        })
+    }
+}
+
+impl<T: Key + Dup, A: Allocator + Clone> Lattice for UnionSet<T, A> {
+    ghost Meaning = { T → Bool };
+
+    ghost meaning = { λ s. has T.Ord.cmp s };
+
+    ghost merge = { either };
+
+    ghost join_of = { union T.Ord.cmp };
+
+    ghost respects = { λ x y i q. has-union T.Ord.total x y q i };
+
+    ghost laws = { either_laws };
+
+    #[tactic(auto, using(crate::specs::Sorted::sorted_union, crate::specs::Members::contains_union))]
+    // The items of the smaller set that the larger has not are put into it, whichever of the two is `self`.
+    fn join(&mut self, other: &UnionSet<T, A>) -> Result<(), OutOfMemory>
+        ensures ok { OnOk result (self.new ≡ union T.Ord.cmp self.old other.now) }
+        ensures members { OnOk result ((x : T) → Contains self.new x ↔ (Contains self.old x ⊎ Contains other.now x)) }
+        ensures err { OnErr result (self.new ≡ self.old) }
+    {
+        let root = joined(&self.alloc, &self.root, &other.root)?;
+        self.root = root;
+        Ok(())
+    }
+
+    #[tactic(auto, using(crate::specs::Pours::same_has))]
+    fn same(&self, other: &UnionSet<T, A>) -> bool {
+        same(&self.root, &other.root)
+    }
+}

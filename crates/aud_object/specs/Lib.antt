@@ -1,0 +1,11 @@
+pub mod Objects
+pub mod Executions
+pub mod Blocks
+pub mod Replayed
+pub mod Laws
+pub mod Keeps
+pub mod States
+pub mod Meanings
+pub mod Logs
+pub mod Shown
+pub mod Kinds

@@ -1,0 +1,116 @@
+-- What an object holds, what it answers, and the event lists that are in its sequential specification.
+use Rattle.std.specs.Prelude.{◌≡◌, ℕ, ℤ, pos, ◌+ℤ◌, ◌-ℤ◌, Bool, true, false, not, if◌then◌else◌, int_lt, nat_eq, List, [], ◌∷◌, ◌++◌, Some, slice_get}
+use Rattle.std.specs.List.{list_any}
+use Rattle.std.specs.Ordering.{int_eq}
+use Rattle.aud_event.specs.declared.object.ObjKind.{ObjKind}
+use Rattle.aud_event.specs.declared.object.ObjKind.TheVariants as kind
+use Rattle.aud_event.specs.declared.object.Op.{Op}
+use Rattle.aud_event.specs.declared.object.Op.TheVariants.{Read, Write, Inc, Dec, Get, Add, Remove, Contains, Enq, Deq}
+use Rattle.aud_event.specs.declared.object.Answer.{Answer}
+use Rattle.aud_event.specs.declared.object.Answer.TheVariants.{Done, Int, Flag, Empty}
+use Rattle.aud_event.specs.declared.fact.Event.{Event}
+use Rattle.aud_event.specs.declared.fact.Event.TheVariants.{Inv, Ret}
+use Rattle.aud_event.specs.Meanings.{Declared}
+
+-- what an object holds: a set its members, the least first; a queue its items, the front first
+pub data ObjState : Type 0 where
+  register : ℤ → ObjState
+  counter : ℤ → ObjState
+  set_of : List ℤ → ObjState
+  queue : List ℤ → ObjState
+
+-- at which state an object opens: a register and a counter at the declared value, a set and a queue empty
+abbrev pub opens_at : ObjKind → ℤ → ObjState
+opens_at kind.Register v = register v
+opens_at kind.Counter v = counter v
+opens_at kind.SetOf v = set_of []
+opens_at kind.Queue v = queue []
+
+abbrev pub opening_of : Declared → ObjState
+opening_of d = opens_at d.kind d.opening
+
+-- whether a value is a member
+abbrev pub has_member : List ℤ → ℤ → Bool
+has_member s v = list_any (int_eq v) s
+
+-- the members with one value more, in its place by size
+abbrev pub with_member : List ℤ → ℤ → List ℤ
+with_member [] v = v ∷ []
+with_member (x ∷ s) v = if int_lt v x then v ∷ x ∷ s else (if int_eq v x then x ∷ s else x ∷ with_member s v)
+
+-- the members without a value
+abbrev pub without_member : List ℤ → ℤ → List ℤ
+without_member [] v = []
+without_member (x ∷ s) v = if int_eq v x then s else x ∷ without_member s v
+
+-- what a queue answers to a removal from its front
+abbrev pub front_of : List ℤ → Answer
+front_of [] = Empty
+front_of (v ∷ q) = Int v
+
+-- the items behind the front one
+abbrev pub behind_front : List ℤ → List ℤ
+behind_front [] = []
+behind_front (v ∷ q) = q
+
+-- the greatest i64
+abbrev pub greatest : ℤ
+greatest = pos 9223372036854775807
+
+-- the least i64
+abbrev pub least : ℤ
+least = pos 0 -ℤ pos 9223372036854775808
+
+-- the table: what an operation answers
+abbrev pub answer_of : ObjState → Op → Answer
+answer_of (register v) Read = Int v
+answer_of (register v) (Write _) = Done
+answer_of (counter n) Inc = Done
+answer_of (counter n) Dec = Done
+answer_of (counter n) Get = Int n
+answer_of (set_of s) (Add v) = Flag (not (has_member s v))
+answer_of (set_of s) (Remove v) = Flag (has_member s v)
+answer_of (set_of s) (Contains v) = Flag (has_member s v)
+answer_of (queue q) (Enq _) = Done
+answer_of (queue q) Deq = front_of q
+answer_of _ _ = Done
+
+-- the table: what the object then holds; a counter at the end of its range stays
+abbrev pub after_op : ObjState → Op → ObjState
+after_op (register v) (Write w) = register w
+after_op (counter n) Inc = counter (if int_eq n greatest then n else n +ℤ pos 1)
+after_op (counter n) Dec = counter (if int_eq n least then n else n -ℤ pos 1)
+after_op (set_of s) (Add v) = set_of (with_member s v)
+after_op (set_of s) (Remove v) = set_of (without_member s v)
+after_op (queue q) (Enq v) = queue (q ++ v ∷ [])
+after_op (queue q) Deq = queue (behind_front q)
+after_op state _ = state
+
+-- the operations that leave every state as it is
+abbrev pub is_observing : Op → Bool
+is_observing Read = true
+is_observing Get = true
+is_observing (Contains _) = true
+is_observing _ = false
+
+-- whether an event is an invocation or a response on an object
+abbrev pub is_on : ℕ → Event → Bool
+is_on ob (Inv o _) = nat_eq o ob
+is_on ob (Ret o _ _) = nat_eq o ob
+is_on ob _ = false
+
+-- the invocations and responses on an object, in their order
+abbrev pub on_object : ℕ → List Event → List Event
+on_object ob [] = []
+on_object ob (e ∷ es) = if is_on ob e then e ∷ on_object ob es else on_object ob es
+
+-- Seq(ob): executions whose answers are, one after another, those of the table. One trailing invocation may follow.
+abbrev pub IsInSeq : ObjState → List Event → Type 0
+IsInSeq state [] = Unit {0}
+IsInSeq state (Inv _ op ∷ []) = Unit {0}
+IsInSeq state (Inv _ op ∷ Ret _ _ answer ∷ es) = (answer ≡ answer_of state op) × IsInSeq (after_op state op) es
+IsInSeq state _ = ⊥
+
+-- on each object of the plan the events are in Seq of the object
+abbrev pub IsLegal : List Declared → List Event → Type 0
+IsLegal objects es = (ob : ℕ) (d : Declared) → slice_get objects ob ≡ Some d → IsInSeq (opening_of d) (on_object ob es)

@@ -1,0 +1,121 @@
+//! The items of a queue, with those that left.
+
+ghost use Rattle.std.specs.Prelude.{◌≡◌, ◌↔◌, IsTrue, [], ◌∷◌, ◌++◌, IfOk, OnErr, OnOk, MatchOption};
+ghost use Rattle.aud_object.specs.declared.change.Change.TheVariants as Change;
+ghost use Rattle.aud_object.specs.Keeps.{items_in, back_items};
+
+use crate::change::Change;
+use aud_event::{Dup, OutOfMemory};
+use std::alloc::{Allocator, Global};
+use std::marker::Model;
+
+/// The items of a queue of i64. An item that left stays before the front, so that taking it back wants no memory.
+#[derive(Drop)]
+pub struct Items<A: Allocator = Global> {
+    all: Vec<i64, A>,
+    gone: usize,
+}
+
+impl<A: Allocator> Model for Items<A> {
+    ghost use Rattle.aud_object.specs.Keeps.{ItemsOf};
+
+    ghost Value = { ItemsOf };
+
+    ghost use Rattle.std.specs.Prelude.{◌≤◌, length};
+
+    ghost view = { λ q. record { all = q.all.items; gone = q.gone } };
+
+    ghost invariant = { λ q. q.gone ≤ length q.all.items };
+}
+
+fn is_same_list(a: &[i64], b: &[i64]) -> bool
+    ensures { IsTrue result ↔ (a.now ≡ b.now) }
+{
+    a == b
+}
+
+impl<A: Allocator + Drop> Items<A> {
+    /// No items. It takes no memory.
+    pub(crate) fn new(alloc: A) -> Items<A>
+        ensures { items_in result ≡ [] }
+    {
+        Items {
+            all: Vec::new(alloc),
+            gone: 0,
+        }
+    }
+
+    /// Whether the items are the same, in one order, in linear time.
+    pub(crate) fn same(&self, other: &Items<A>) -> bool
+        ensures { IsTrue result ↔ (items_in self.now ≡ items_in other.now) }
+    {
+        is_same_list(self.left(), other.left())
+    }
+
+    /// The items, the front first.
+    fn left(&self) -> &[i64]
+        ensures { result.now ≡ items_in self.now }
+    {
+        &self.all[self.gone..]
+    }
+
+    /// Puts an item behind the others.
+    pub(crate) fn enqueue(&mut self, item: i64) -> Result<(), OutOfMemory>
+        ensures items { OnOk result (items_in self.new ≡ items_in self.old ++ item ∷ []) }
+        ensures back { OnOk result (back_items self.new Change.Enq ≡ self.old) }
+        ensures refused { OnErr result (self.new ≡ self.old) }
+    {
+        self.all.push(item)?;
+        Ok(())
+    }
+
+    /// Takes the front item, if there is one.
+    pub(crate) fn dequeue(&mut self) -> Option<i64>
+        ensures items { MatchOption result ((items_in self.old ≡ []) × (items_in self.new ≡ [])) (λ v. items_in self.old ≡ v ∷ items_in self.new) }
+        ensures back { MatchOption result (self.new ≡ self.old) (λ _. back_items self.new Change.Deq ≡ self.old) }
+    {
+        let front = self.all.get(self.gone).copied();
+        if front.is_some() {
+            self.gone += 1;
+        }
+        front
+    }
+
+    /// Takes back what the change was.
+    pub(crate) fn back(&mut self, change: Change)
+        ensures { self.new ≡ back_items self.old change }
+    {
+        match change {
+            Change::Enq => {
+                if self.gone < self.all.len() {
+                    let _last = self.all.pop();
+                }
+            }
+            Change::Deq => {
+                if self.gone > 0 {
+                    self.gone -= 1;
+                }
+            }
+            _ => {}
+        }
+    }
+}
+
+impl<A: Allocator + Clone> Items<A> {
+    /// The items, the front first.
+    pub(crate) fn list(&self, alloc: A) -> Result<Vec<i64, A>, OutOfMemory>
+        ensures { IfOk result (λ list. list.items ≡ items_in self.now) }
+    {
+        Ok(self.left().to_vec(alloc)?)
+    }
+}
+
+impl<A: Allocator + Clone> Dup for Items<A> {
+    fn dup(&self) -> Result<Items<A>, OutOfMemory> {
+        let all = self.all.clone()?;
+        Ok(Items {
+            all,
+            gone: self.gone,
+        })
+    }
+}

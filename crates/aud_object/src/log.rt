@@ -1,0 +1,11 @@
+//! The log of a store: the changes of the blocks that were replayed, with marks between them.
+
+use crate::change::Change;
+
+#[derive(Clone, Copy, Debug, PartialEq, Eq)]
+pub(crate) enum Entry {
+    /// Here a block began.
+    Mark,
+    /// The object was changed.
+    Changed(u16, Change),
+}

@@ -1,0 +1,12 @@
+pub mod DecisionOrder
+pub mod Orders
+pub mod Selection
+pub mod Letter
+pub mod Sameness
+pub mod Enumeration
+pub mod OrderFaultNumbers
+pub mod OrderFaults
+pub mod Spots
+pub mod Agendas
+pub mod Placings
+pub mod Laws

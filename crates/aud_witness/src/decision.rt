@@ -1,0 +1,137 @@
+//! Decisions about transactions, and lists of them.
+
+ghost use Rattle.std.specs.Prelude.{◌≡◌, [], ◌∷◌, ◌++◌, OnOk, OnErr, refl};
+ghost use Rattle.std.specs.Cmp.Lexicographic.{slice_cmp, lists_total};
+ghost use Rattle.std.specs.Cmp.{po, eq_by_cmp_equiv, partial_equiv_from_equiv};
+ghost use Rattle.std.specs.Ordering.{eq_by_cmp, as_partial_cmp};
+ghost use Rattle.aud_witness.specs.DecisionOrder.{decision_cmp, decisions_total, decision_exact, prefix_exact};
+
+use aud_event::{Dup, Key, OutOfMemory};
+use std::alloc::{Allocator, Global};
+use std::cmp::Ordering;
+use std::marker::Model;
+
+/// What a completion makes of a transaction: `C`, it commits, or `A`, it aborts.
+#[derive(Clone, Copy, Debug, PartialEq, Eq, PartialOrd, Ord)]
+pub enum Fate {
+    C,
+    A,
+}
+
+/// A transaction with its fate. Decisions are ordered by the transaction's number, then `C` before `A`.
+#[derive(Clone, Copy, Debug, PartialEq, Eq, PartialOrd, Ord)]
+pub struct Decision {
+    pub tx: u32,
+    pub fate: Fate,
+}
+
+impl Dup for Decision {
+    fn dup(&self) -> Result<Decision, OutOfMemory> {
+        Ok(*self)
+    }
+}
+
+impl Key for Decision {
+    ghost exact = { decision_exact };
+}
+
+/// A list of decisions: a serial order of transactions with what a completion makes of each, or a beginning of one.
+///
+/// Lists are ordered by the first decision that differs, a beginning first.
+#[derive(Debug, Drop)]
+pub struct Prefix<A: Allocator = Global> {
+    decisions: Vec<Decision, A>,
+}
+
+impl<A: Allocator> Model for Prefix<A> {
+    ghost use Rattle.std.specs.Prelude.{List};
+    ghost use Rattle.aud_witness.specs.declared.decision.Decision.{Decision};
+
+    ghost Value = { List Decision };
+
+    ghost view = { λ p. p.decisions.items };
+}
+
+impl<A: Allocator> Prefix<A> {
+    /// The empty list. It takes no memory.
+    pub fn empty(alloc: A) -> Prefix<A>
+        ensures { result ≡ [] }
+    {
+        Prefix {
+            decisions: Vec::new(alloc),
+        }
+    }
+
+    /// The list of the decisions. It takes no memory.
+    pub fn from_decisions(decisions: Vec<Decision, A>) -> Prefix<A>
+        ensures { result ≡ decisions.items }
+    {
+        Prefix { decisions }
+    }
+
+    /// The decisions in their order.
+    pub fn decisions(&self) -> &[Decision]
+        ensures { result.now ≡ self.now }
+    {
+        self.decisions.as_slice()
+    }
+
+    /// Puts a decision at the end. A refused growth leaves the list.
+    pub fn push(&mut self, decision: Decision) -> Result<(), OutOfMemory>
+        ensures ok { OnOk result (self.new ≡ self.old ++ decision ∷ []) }
+        ensures err { OnErr result (self.new ≡ self.old) }
+    {
+        self.decisions.push(decision)?;
+        Ok(())
+    }
+}
+
+impl<A: Allocator + Clone> Dup for Prefix<A> {
+    fn dup(&self) -> Result<Prefix<A>, OutOfMemory> {
+        let alloc = self.decisions.allocator().clone()?;
+        let decisions = Vec::from_slice(alloc, &self.decisions)?;
+        Ok(Prefix { decisions })
+    }
+}
+
+impl<A: Allocator> Ord for Prefix<A> {
+    ghost cmp = { slice_cmp decision_cmp };
+
+    ghost total = { lists_total decisions_total };
+
+    ghost matches_partial_cmp = { λ x y. refl };
+
+    ghost matches_eq = { λ x y. refl };
+
+    fn cmp(&self, other: &Prefix<A>) -> Ordering {
+        self.decisions.as_slice().cmp(&other.decisions.as_slice())
+    }
+}
+
+impl<A: Allocator> PartialOrd for Prefix<A> {
+    ghost partial_cmp = { as_partial_cmp (slice_cmp decision_cmp) };
+
+    ghost laws = { po (lists_total decisions_total) (λ x y. refl) };
+
+    fn partial_cmp(&self, other: &Prefix<A>) -> Option<Ordering> {
+        Some(self.cmp(other))
+    }
+}
+
+impl<A: Allocator> Eq for Prefix<A> {
+    ghost laws = { eq_by_cmp_equiv (lists_total decisions_total) };
+}
+
+impl<A: Allocator> PartialEq for Prefix<A> {
+    ghost eq = { eq_by_cmp (slice_cmp decision_cmp) };
+
+    ghost laws = { partial_equiv_from_equiv (eq_by_cmp_equiv (lists_total decisions_total)) };
+
+    fn eq(&self, other: &Prefix<A>) -> bool {
+        self.cmp(other).is_eq()
+    }
+}
+
+impl<A: Allocator> Key for Prefix<A> {
+    ghost exact = { prefix_exact };
+}

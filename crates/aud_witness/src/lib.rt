@@ -1,0 +1,20 @@
+#![tactic(auto)]
+//! Orders of transactions with their fates, the definition of opacity by them, and its laws.
+
+mod agenda;
+mod decision;
+mod end;
+mod fault;
+pub mod laws;
+mod placing;
+mod step;
+
+pub use agenda::{Agenda, allows};
+pub use decision::{Decision, Fate, Prefix};
+pub use end::End;
+pub use fault::OrderFault;
+pub use placing::Placing;
+pub use step::Step;
+
+#[cfg(test)]
+mod tests;
