@@ -5,3 +5,4 @@ pub mod Facts
 pub mod Exact
 pub mod Exactness
 pub mod Laws
+pub mod Words

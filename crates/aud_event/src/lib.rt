@@ -12,6 +12,7 @@ pub mod limits;
 mod memory;
 mod object;
 mod plan;
+mod words;
 
 pub use fact::{EndMark, Event, Fact, FactFault, Record};
 pub use key::Key;

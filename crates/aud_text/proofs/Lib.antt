@@ -1,0 +1,10 @@
+pub mod FirstLine
+pub mod Keys
+pub mod JsonText
+pub mod Digits
+pub mod Words
+pub mod OrderText
+pub mod Length
+pub mod Sound
+pub mod Back
+pub mod Objects

@@ -1,0 +1,7 @@
+pub mod Faults
+pub mod Lines
+pub mod Json
+pub mod Orders
+pub mod FactText
+pub mod Written
+pub mod PlanText

@@ -1,0 +1,103 @@
+-- The line that is written for a fact.
+use Rattle.std.specs.Prelude.{ℕ, ℤ, List, [], Option, Some, None, IfSome, codes, unwrap_or, option_map, slice_get, FitsSigned}
+use Rattle.std.specs.Int.{w64}
+use Rattle.serde_json.specs.Data.{Data, boolean, number, unsigned, string, object, Members, no_members, member}
+use Rattle.serde_json.specs.Find.{of_integer}
+use Rattle.aud_event.specs.Meanings.{PlanOf}
+use Rattle.aud_event.specs.Objects.{name_of}
+use Rattle.aud_event.specs.Words.{word_of_op}
+use Rattle.aud_event.specs.declared.object.OpName.{OpName}
+use Rattle.aud_event.specs.declared.object.Op.{Op}
+use Rattle.aud_event.specs.declared.object.Op.TheVariants as op
+use Rattle.aud_event.specs.declared.object.Answer.{Answer}
+use Rattle.aud_event.specs.declared.object.Answer.TheVariants.{Done, Int, Flag, Empty}
+use Rattle.aud_event.specs.declared.fact.Event.{Event}
+use Rattle.aud_event.specs.declared.fact.Event.TheVariants as event
+use Rattle.aud_event.specs.declared.fact.EndMark.{EndMark}
+use Rattle.aud_event.specs.declared.fact.Record.{Record}
+use Rattle.aud_event.specs.declared.fact.Fact.{Fact}
+use Rattle.aud_event.specs.declared.fact.Fact.TheVariants.{Rec, End}
+
+abbrev pub whole_data : ℤ → Data
+whole_data z = number (of_integer z)
+
+abbrev pub small_data : ℕ → Data
+small_data n = number (unsigned n)
+
+abbrev pub answer_data : Answer → Data
+answer_data Done = string (codes "done")
+answer_data (Int z) = whole_data z
+answer_data (Flag b) = boolean b
+answer_data Empty = string (codes "empty")
+
+abbrev pub argument_of : Op → Option ℤ
+argument_of op.Read = None
+argument_of (op.Write z) = Some z
+argument_of op.Inc = None
+argument_of op.Dec = None
+argument_of op.Get = None
+argument_of (op.Add z) = Some z
+argument_of (op.Remove z) = Some z
+argument_of (op.Contains z) = Some z
+argument_of (op.Enq z) = Some z
+argument_of op.Deq = None
+
+-- the name of an object, by its number
+abbrev pub object_name : PlanOf → ℕ → List ℕ
+object_name plan ob = unwrap_or (option_map (λ d. d.name) (slice_get plan.objects ob)) []
+
+-- the keys `at`, `ev` and `log`, then the others
+abbrev pub headed : Record → List ℕ → Members → Members
+headed r ev rest = member (codes "at") (small_data r.at) (member (codes "ev") (string ev) (member (codes "log") (small_data r.log) rest))
+
+-- the keys `stamp` and `tx`
+abbrev pub tailed : Record → Members
+tailed r = member (codes "stamp") (small_data r.stamp) (member (codes "tx") (small_data r.tx) no_members)
+
+-- the keys `ob` and `op`, then the others
+abbrev pub operated : PlanOf → ℕ → OpName → Members → Members
+operated plan ob o rest = member (codes "ob") (string (object_name plan ob)) (member (codes "op") (string (word_of_op o)) rest)
+
+abbrev pub with_argument : Option ℤ → Members → Members
+with_argument None rest = rest
+with_argument (Some z) rest = member (codes "arg") (whole_data z) rest
+
+abbrev pub record_members : PlanOf → Record → Event → Members
+record_members plan r (event.Inv ob o) = with_argument (argument_of o) (headed r (codes "inv") (operated plan ob (name_of o) (tailed r)))
+record_members plan r (event.Ret ob o a) = member (codes "ans") (answer_data a) (headed r (codes "ret") (operated plan ob o (tailed r)))
+record_members plan r event.TryC = headed r (codes "tryc") (tailed r)
+record_members plan r event.TryA = headed r (codes "trya") (tailed r)
+record_members plan r event.Commit = headed r (codes "commit") (tailed r)
+record_members plan r event.Abort = headed r (codes "abort") (tailed r)
+
+abbrev pub end_members : EndMark → Members
+end_members m = member (codes "end") (small_data m.count) (member (codes "log") (small_data m.log) no_members)
+
+-- the keys of a fact's line in the order of their bytes, with their values
+abbrev pub fact_members : PlanOf → Fact → Members
+fact_members plan (End m) = end_members m
+fact_members plan (Rec r) = record_members plan r r.event
+
+abbrev pub data_of : PlanOf → Fact → Data
+data_of plan f = object (fact_members plan f)
+
+-- ---- whole numbers of i64
+
+abbrev pub AnswerFits : Answer → Type 0
+AnswerFits Done = Unit {0}
+AnswerFits (Int z) = FitsSigned w64 z
+AnswerFits (Flag b) = Unit {0}
+AnswerFits Empty = Unit {0}
+
+abbrev pub EventFits : Event → Type 0
+EventFits (event.Inv ob o) = IfSome (argument_of o) (λ z. FitsSigned w64 z)
+EventFits (event.Ret ob o a) = AnswerFits a
+EventFits event.TryC = Unit {0}
+EventFits event.TryA = Unit {0}
+EventFits event.Commit = Unit {0}
+EventFits event.Abort = Unit {0}
+
+-- the argument or the answer of a fact is a whole number of i64, where it is a number
+abbrev pub FactFits : Fact → Type 0
+FactFits (End m) = Unit {0}
+FactFits (Rec r) = EventFits r.event

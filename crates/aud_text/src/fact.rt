@@ -1,0 +1,228 @@
+//! Reading the lines of facts.
+
+ghost use Rattle.std.specs.Prelude.{◌≡◌, ◌⊎◌, Err};
+ghost use Rattle.serde_json.specs.View.{view};
+ghost use Rattle.aud_text.specs.Json.{fits_at};
+ghost use Rattle.aud_text.specs.FactText.{fact_read, judged, types_fit, answer_fits, answer_of, answer_of_word, answer_at, object_number, object_at, op_with, fact_of, event_of, record_of, end_of};
+
+use crate::fault::TextFault;
+use crate::shape::{Shape, allowed_keys, op_of, required_keys, shape_in};
+use crate::value::{
+    has_only_allowed, has_required, json_in, small_if_there, small_of, text_if_there,
+    whole_if_there, whole_of, word_of,
+};
+use aud_event::{Answer, EndMark, Event, Fact, Op, OpName, Plan, Record};
+use serde_json::Value;
+use std::alloc::{Allocator, Global};
+
+/// The most bytes that a line of a plan or of a fact may have, its line feed aside.
+pub const LINE_MAX: usize = 4096;
+
+// ---- types
+
+fn answer_if_there(value: &Value, key: &str) -> bool
+    ensures { result ≡ fits_at answer_fits key.now (view value.now) }
+{
+    match value.get(key) {
+        Some(found) => match found {
+            Value::Bool(_) => true,
+            Value::Number(n) => n.is_i64(),
+            Value::String(_) => true,
+            Value::Null => false,
+            Value::Array(_) => false,
+            Value::Object(_) => false,
+        },
+        None => true,
+    }
+}
+
+fn all_types_fit(value: &Value) -> bool
+    ensures { result ≡ types_fit (view value.now) }
+{
+    small_if_there(value, "at")
+        && small_if_there(value, "end")
+        && small_if_there(value, "log")
+        && small_if_there(value, "stamp")
+        && small_if_there(value, "tx")
+        && text_if_there(value, "ev")
+        && text_if_there(value, "ob")
+        && text_if_there(value, "op")
+        && whole_if_there(value, "arg")
+        && answer_if_there(value, "ans")
+}
+
+// ---- the fact
+
+fn answer_word(word: &str) -> Option<Answer>
+    ensures { result ≡ answer_of_word word.now }
+{
+    match word {
+        "done" => Some(Answer::Done),
+        "empty" => Some(Answer::Empty),
+        _ => None,
+    }
+}
+
+fn answer_in(value: &Value) -> Option<Answer>
+    ensures { result ≡ answer_of (view value.now) }
+{
+    match value {
+        Value::Bool(b) => Some(Answer::Flag(*b)),
+        Value::Number(n) => match n.as_i64() {
+            Some(z) => Some(Answer::Int(z)),
+            None => None,
+        },
+        Value::String(s) => answer_word(s.as_str()),
+        Value::Null => None,
+        Value::Array(_) => None,
+        Value::Object(_) => None,
+    }
+}
+
+fn answer_at_key(value: &Value) -> Option<Answer>
+    ensures { result ≡ answer_at (view value.now) }
+{
+    match value.get("ans") {
+        Some(found) => answer_in(found),
+        None => None,
+    }
+}
+
+fn number_in<A: Allocator>(plan: &Plan<A>, name: &str) -> u16
+    ensures { result ≡ object_number plan.now name.now }
+{
+    match plan.number(name) {
+        Some(number) => number,
+        None => 256,
+    }
+}
+
+fn object_in<A: Allocator>(plan: &Plan<A>, value: &Value) -> Option<u16>
+    ensures { result ≡ object_at plan.now (view value.now) }
+{
+    match word_of(value, "ob") {
+        Some(name) => Some(number_in(plan, name)),
+        None => None,
+    }
+}
+
+fn op_of_argument(op: OpName, argument: Option<i64>) -> Option<Op>
+    ensures { result ≡ op_with argument op }
+{
+    match op {
+        OpName::Read => Some(Op::Read),
+        OpName::Write => Some(Op::Write(argument?)),
+        OpName::Inc => Some(Op::Inc),
+        OpName::Dec => Some(Op::Dec),
+        OpName::Get => Some(Op::Get),
+        OpName::Add => Some(Op::Add(argument?)),
+        OpName::Remove => Some(Op::Remove(argument?)),
+        OpName::Contains => Some(Op::Contains(argument?)),
+        OpName::Enq => Some(Op::Enq(argument?)),
+        OpName::Deq => Some(Op::Deq),
+    }
+}
+
+fn invocation<A: Allocator>(plan: &Plan<A>, value: &Value, name: OpName) -> Option<Event>
+    ensures { result ≡ event_of plan.now (view value.now) (Shape.Invoke (Some name)) }
+{
+    let object = object_in(plan, value)?;
+    let op = op_of_argument(name, whole_of(value, "arg"))?;
+    Some(Event::Inv(object, op))
+}
+
+fn response<A: Allocator>(plan: &Plan<A>, value: &Value) -> Option<Event>
+    ensures { result ≡ event_of plan.now (view value.now) Shape.Respond }
+{
+    let object = object_in(plan, value)?;
+    let op = op_of(value)?;
+    let answer = answer_at_key(value)?;
+    Some(Event::Ret(object, op, answer))
+}
+
+fn record_in(value: &Value, event: Event) -> Option<Fact>
+    ensures { result ≡ record_of (view value.now) event }
+{
+    let log = small_of(value, "log")?;
+    let at = small_of(value, "at")?;
+    let stamp = small_of(value, "stamp")?;
+    let tx = small_of(value, "tx")?;
+    Some(Fact::Rec(Record {
+        log,
+        at,
+        stamp,
+        tx,
+        event,
+    }))
+}
+
+fn end_mark_in(value: &Value) -> Option<Fact>
+    ensures { result ≡ end_of (view value.now) }
+{
+    let log = small_of(value, "log")?;
+    let count = small_of(value, "end")?;
+    Some(Fact::End(EndMark { log, count }))
+}
+
+fn fact_in<A: Allocator>(plan: &Plan<A>, value: &Value, shape: Shape) -> Option<Fact>
+    ensures { result ≡ fact_of plan.now (view value.now) shape }
+{
+    match shape {
+        Shape::EndMark => end_mark_in(value),
+        Shape::Invoke(Some(name)) => {
+            let event = invocation(plan, value, name)?;
+            record_in(value, event)
+        }
+        Shape::Invoke(None) => None,
+        Shape::Respond => {
+            let event = response(plan, value)?;
+            record_in(value, event)
+        }
+        Shape::TryCommit => record_in(value, Event::TryC),
+        Shape::TryAbort => record_in(value, Event::TryA),
+        Shape::Commit => record_in(value, Event::Commit),
+        Shape::Abort => record_in(value, Event::Abort),
+        Shape::Strange => None,
+    }
+}
+
+/// The fact that a JSON value says in the plan, or the least fault that it deserves. It takes no memory.
+pub fn judge<A: Allocator>(plan: &Plan<A>, value: &Value) -> Result<Fact, TextFault>
+    ensures { result ≡ judged plan.now (view value.now) }
+{
+    let Some(members) = value.as_object() else {
+        return Err(TextFault::NotObject);
+    };
+    let shape = shape_in(value);
+    if !has_required(value, required_keys(shape)) {
+        return Err(TextFault::KeyMissing);
+    }
+    if !has_only_allowed(members, allowed_keys(shape)) {
+        return Err(TextFault::KeyUnknown);
+    }
+    if !all_types_fit(value) {
+        return Err(TextFault::TypeOrRange);
+    }
+    match fact_in(plan, value, shape) {
+        None => Err(TextFault::UnknownWord),
+        Some(fact) => match fact.check(plan) {
+            Ok(()) => Ok(fact),
+            Err(fault) => Err(TextFault::Fact(fault)),
+        },
+    }
+}
+
+/// The fact that a line says in the plan, or the least fault that it deserves.
+pub fn read_fact<A: Allocator>(
+    alloc: Global,
+    plan: &Plan<A>,
+    line: &[u8],
+) -> Result<Fact, TextFault>
+    ensures { (result ≡ Err TextFault.OutOfMemory) ⊎ (result ≡ fact_read plan.now line.now) }
+{
+    let value = match json_in(alloc, line, LINE_MAX) {
+        Ok(value) => value,
+        Err(fault) => return Err(fault),
+    };
+    judge(plan, &value)
+}

@@ -1,0 +1,25 @@
+#![tactic(auto)]
+//! Texts in and out: plans, facts and order texts, each read by its written grammar.
+
+mod fact;
+mod fault;
+mod header;
+mod line;
+mod object;
+mod order;
+mod plan;
+mod shape;
+mod value;
+mod word;
+mod write;
+
+pub use fact::{LINE_MAX, judge, read_fact};
+pub use fault::{PlanTextFault, TextFault};
+pub use line::{FilledLine, LineAt, count_lines, first_line, next_filled};
+pub use order::{ORDER_MAX, orders_read_back, orders_read_exactly, read_order, write_order};
+pub use plan::read_plan;
+pub use value::{has_only_allowed, has_required, json_in};
+pub use write::write_fact;
+
+#[cfg(test)]
+mod tests;
