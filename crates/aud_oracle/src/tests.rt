@@ -4,7 +4,7 @@ use crate::{is_opaque, order_fault, shows_plainly, witnesses};
 use aud_event::OutOfMemory;
 use aud_history::History;
 use aud_refusing::Refusing;
-use aud_witness::{Decision, Fate, Prefix};
+use aud_witness::{Decision, Fate, Prefix, shows};
 use aud_worked::{
     both_find_it_absent, count_is_lost, idle_write_stands_later, item_is_passed_on,
     live_write_is_seen, nothing_happened, pending_commit_is_seen, pending_commit_is_unseen,
@@ -37,10 +37,12 @@ fn is_shown_by(
 ) -> Result<(), OutOfMemory> {
     let found = witnesses(alloc, &history)?;
     assert_eq!(rt; found.len(), orders.len());
+    assert!(rt; history.first_fault().is_none());
     for (one, other) in found.iter().zip(orders) {
         assert!(rt; one == other);
         assert!(rt; shows_plainly(alloc, &history, one)?);
         assert!(rt; order_fault(alloc, &history, one)?.is_none());
+        assert!(rt; shows(alloc, &history, one)?.is_ok());
     }
     assert_eq!(rt; is_opaque(alloc, &history)?, orders.len() > 0);
     Ok(())
@@ -57,12 +59,14 @@ fn is_refused(
 ) -> Result<(), OutOfMemory> {
     let order = order(alloc, decisions)?;
     assert!(rt; !shows_plainly(alloc, history, &order)?);
-    match order_fault(alloc, history, &order)? {
-        Some(fault) => {
+    assert!(rt; history.first_fault().is_none());
+    match shows(alloc, history, &order)? {
+        Err(fault) => {
             assert_eq!(rt; fault.number(), number);
             assert_eq!(rt; fault.transaction(), tx);
+            assert_eq!(rt; order_fault(alloc, history, &order)?, Some(fault));
         }
-        None => assert!(rt; false, "the order has no fault"),
+        Ok(()) => assert!(rt; false, "the order has no fault"),
     }
     Ok(())
 }

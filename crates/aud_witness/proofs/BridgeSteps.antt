@@ -65,11 +65,11 @@ block-same h d es fine ob =
     ∙ sym (on_object-append ob es (block h d))
 
 -- each event fits the objects
-abbrev AllFit : List Declared → List Event → Type 0
+abbrev pub AllFit : List Declared → List Event → Type 0
 AllFit objects [] = Unit {0}
 AllFit objects (e ∷ es) = (first_event_fault objects e ≡ None) × AllFit objects es
 
-fit-from_plan : (plan : PlanOf) (t : ℕ) (h : History) → All (FitsPlan plan) h → AllFit plan.objects (events_of t h)
+pub fit-from_plan : (plan : PlanOf) (t : ℕ) (h : History) → All (FitsPlan plan) h → AllFit plan.objects (events_of t h)
 fit-from_plan plan t [] all = tt
 fit-from_plan plan t (e ∷ h) all =
     let rest = fit-from_plan plan t h (λ k d inside. all (suc k) d (omega arith)) in

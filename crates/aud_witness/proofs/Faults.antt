@@ -115,7 +115,7 @@ filter_none f (x ∷ ts) all =
     subst (λ k. cond (not k) (x ∷ filter (λ t. not (f t)) ts) (filter (λ t. not (f t)) ts) ≡ []) (sym first) rest
 
 -- a good list that names all is full
-IsFull-from_IsGood : (objects : List Declared) (h : History) (p : List Decision) → IsGood objects h p → ((t : ℕ) → is_in h t ≡ true → is_named p t ≡ true) → IsFull h p
+pub IsFull-from_IsGood : (objects : List Declared) (h : History) (p : List Decision) → IsGood objects h p → ((t : ℕ) → is_in h t ≡ true → is_named p t ≡ true) → IsFull h p
 IsFull-from_IsGood objects h p good all = record {
   once = once_at_places p (λ before d rest e. (good before d rest e).new);
   same = λ t. same_bools (is_named p t) (is_in h t)

@@ -17,5 +17,6 @@ pub mod Enumerated
 pub mod Faults
 pub mod Bridge
 pub mod BridgeSteps
+pub mod WalkLemmas
 pub mod WorkedOrders
 pub mod WorkedLetters

@@ -1,8 +1,8 @@
 -- A placing: what is ready, and the way back.
 use Rattle.std.specs.Prelude.{◌≡◌, ◌≢◌, ℕ, suc, zero, ◌+◌, ◌-◌, ◌<◌, ◌≤◌, Bool, true, false, not, ◌&&◌, ◌||◌, if◌then◌else◌, nat_lt, nat_le, List, [], ◌∷◌, ◌++◌, length, replicate, reverse, Option, Some, None, Result, Ok, Err, MatchOption, slice_get, slice_set, slice_index_or, refl}
-use Rattle.std.proofs.Common.{sym, ◌∙◌, ap, subst, cond, inl, inr, arith, get_or, set, length-set, get_or-set_same, get_or-set_other, ◌⊎◌}
+use Rattle.std.proofs.Common.{sym, ◌∙◌, ap, subst, cond, inl, inr, arith, get_or, set, drop, length-set, get_or-set_same, get_or-set_other, ◌⊎◌}
 use Rattle.std.proofs.lemmas.Bool.Decides.{nat_tests}
-use Rattle.std.proofs.lemmas.List.{reverse-append}
+use Rattle.std.proofs.lemmas.List.{reverse-append, drop_more}
 use Rattle.aud_event.proofs.Bools.{or_true, and_true, true_and, or_right, true_or, not_true, not_false, split, is_false, nat_eq-is}
 use Rattle.aud_object.specs.Objects.{ObjState}
 use Rattle.aud_object.specs.Meanings.{StoreOf}
@@ -12,10 +12,10 @@ use Rattle.aud_witness.specs.declared.decision.Fate.TheVariants.{C, A}
 use Rattle.aud_witness.specs.declared.decision.Decision.{Decision}
 use Rattle.aud_witness.specs.declared.fault.OrderFault.{OrderFault}
 use Rattle.aud_witness.specs.declared.fault.OrderFault.TheVariants.{Illegal}
-use Rattle.aud_history.specs.Table.{RowOf}
+use Rattle.aud_history.specs.Table.{RowOf, fresh_row}
 use Rattle.aud_witness.specs.declared.end.End.{End}
 use Rattle.aud_witness.specs.declared.step.Step.{Step}
-use Rattle.aud_witness.specs.Spots.{Spot, is_ended, are_earlier_placed, states_with, block_stepped}
+use Rattle.aud_witness.specs.Spots.{Spot, unplaced, is_ended, are_earlier_placed, states_with, block_stepped}
 use Rattle.aud_witness.specs.Agendas.{AgendaOf, AreEnds, IsEarliest}
 use Rattle.aud_witness.specs.Placings.{PlacingOf, CanGoBack, spots_before, is_kept_fate, store_with, Advances}
 
@@ -216,3 +216,19 @@ tried (Some after) right fate store new h is = (after, (refl, h.1))
 -- the same of a placing that is seen as the first
 pub advanced-view : (old seen new : PlacingOf) (d : Decision) (k : ℕ) (r : RowOf) → old ≡ seen → Advances old d new (block_stepped old.spot d k r) → Advances seen d new (block_stepped seen.spot d k r)
 advanced-view old seen new d k r is advances = subst (λ (v : PlacingOf). Advances v d new (block_stepped v.spot d k r)) is advances
+
+-- the rows from one on
+unplaced-at : (rows : List RowOf) (placed : List Bool) (k : ℕ) (d : RowOf) → k < length rows → length placed ≡ length rows →
+    unplaced (drop k rows) (drop k placed) ≡ (if get_or placed k false then unplaced (drop (k + 1) rows) (drop (k + 1) placed) else (get_or rows k d).tx ∷ unplaced (drop (k + 1) rows) (drop (k + 1) placed))
+unplaced-at rows placed k d inside same =
+    ap (λ l. unplaced l (drop k placed)) (drop_more rows k d inside)
+    ∙ ap (unplaced (get_or rows k d ∷ drop (k + 1) rows)) (drop_more placed k false (omega arith))
+
+pub unplaced-over : (rows : List RowOf) (placed : List Bool) (n : ℕ) → 0 < n → n ≤ length rows → length placed ≡ length rows → get_or placed (n - 1) false ≡ true →
+    unplaced (drop n rows) (drop n placed) ≡ unplaced (drop (n - 1) rows) (drop (n - 1) placed)
+unplaced-over rows placed n some inside same there =
+    let back : n - 1 + 1 ≡ n = omega arith in
+    sym
+    (unplaced-at rows placed (n - 1) (fresh_row 0 0) (omega arith) same
+    ∙ ap (λ b. cond b (unplaced (drop (n - 1 + 1) rows) (drop (n - 1 + 1) placed)) ((get_or rows (n - 1) (fresh_row 0 0)).tx ∷ unplaced (drop (n - 1 + 1) rows) (drop (n - 1 + 1) placed))) there
+    ∙ ap (λ m. unplaced (drop m rows) (drop m placed)) back)

@@ -9,4 +9,5 @@ pub mod OrderFaults
 pub mod Spots
 pub mod Agendas
 pub mod Placings
+pub mod Walks
 pub mod Laws

@@ -77,3 +77,9 @@ stepped rows s d =
       | None ↦ Err (UnknownTx d.tx)
       | Some k ↦ elim (slice_get rows k) [ None ↦ Err (UnknownTx d.tx) | Some r ↦ row_stepped rows s d k r ]
     ]
+
+-- the transactions of the rows that are not placed
+abbrev pub unplaced : List RowOf → List Bool → List ℕ
+unplaced [] placed = []
+unplaced (r ∷ rs) [] = r.tx ∷ unplaced rs []
+unplaced (r ∷ rs) (b ∷ bs) = if b then unplaced rs bs else r.tx ∷ unplaced rs bs

@@ -1,6 +1,7 @@
 //! Laws of the definitions. Each function does nothing: its contract is the law.
 
 ghost use Rattle.aud_witness.specs.Sameness.{InterleavingIsFree, SerialIsOpaque, NamesAreFree, NeighboursMaySwap, KeptAreSerial, AbortedIsUnseen};
+ghost use Rattle.aud_witness.specs.Walks.{WalksAreGood};
 ghost use Rattle.aud_witness.specs.Laws.{ShowsIsFullAndGood, BadIsRefuted, TestIsDefinition, EnumerationIsWhole, NoFaultIsShows, VisibleIsSelection, OpaqueIsLetter, LetterIsOpaque};
 
 /// A list shows a history exactly where it is full and each decision in turn is good.
@@ -71,4 +72,10 @@ pub fn kept_are_serial()
 /// Nobody sees a transaction of fate A: without it the rest of the list shows the rest of the history.
 pub fn aborted_is_unseen()
     ensures { AbortedIsUnseen }
+{}
+
+/// Decisions can be placed in turn by the rows of the table exactly where they are good, and show the history exactly where
+/// that leaves no row unplaced.
+pub fn walks_are_good()
+    ensures { WalksAreGood }
 {}

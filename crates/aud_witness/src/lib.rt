@@ -7,6 +7,7 @@ mod end;
 mod fault;
 pub mod laws;
 mod placing;
+mod showing;
 mod step;
 
 pub use agenda::{Agenda, allows};
@@ -14,6 +15,7 @@ pub use decision::{Decision, Fate, Prefix};
 pub use end::End;
 pub use fault::OrderFault;
 pub use placing::Placing;
+pub use showing::shows;
 pub use step::Step;
 
 #[cfg(test)]

@@ -1,9 +1,10 @@
 //! Transactions placed one after another: a cursor over lists of decisions.
 
-ghost use Rattle.std.specs.Prelude.{◌≡◌, ◌≢◌, ◌<◌, ◌≤◌, ◌++◌, [], ◌∷◌, None, Some, Ok, Err, length, replicate, true, false, vec_len, vec_capacity, ℕ, IfOk, OnErr, MatchResult, MatchOption, slice_get, slice_index_or};
+ghost use Rattle.std.specs.Prelude.{◌≡◌, ◌≢◌, ◌<◌, ◌≤◌, ◌++◌, [], ◌∷◌, None, Some, Ok, Err, length, replicate, true, false, vec_len, vec_capacity, ℕ, IfOk, OnErr, MatchResult, MatchOption, slice_get, slice_index_or, nat_lt, if◌then◌else◌};
 ghost use Rattle.aud_history.specs.Table.{RowOf};
 ghost use Rattle.aud_object.specs.Replayed.{replayed};
-ghost use Rattle.aud_witness.specs.Spots.{first_spot, stepped, block_stepped, early_fault, are_earlier_placed};
+ghost use Rattle.aud_witness.specs.OrderFaults.{least_of};
+ghost use Rattle.aud_witness.specs.Spots.{unplaced, first_spot, stepped, block_stepped, early_fault, are_earlier_placed};
 ghost use Rattle.aud_witness.specs.Placings.{is_kept_fate, store_with, Advances, GoesBack};
 ghost use Rattle.aud_witness.specs.declared.end.End.{End};
 ghost use Rattle.aud_witness.specs.Agendas.{IsEarliest, AreEnds};
@@ -100,6 +101,16 @@ fn is_kept(fate: Fate) -> bool
     }
 }
 
+/// The lesser of a number and another, if there is another.
+fn lesser(number: u32, other: Option<u32>) -> u32
+    ensures { MatchOption other (result ≡ number) (λ u. result ≡ (if nat_lt number u then number else u)) }
+{
+    match other {
+        None => number,
+        Some(other) => if number < other { number } else { other },
+    }
+}
+
 /// Puts an element at the end of a list that has room for it.
 fn push_within<T: Drop, A: Allocator>(list: &mut Vec<T, A>, item: T)
     requires { vec_len list.old < vec_capacity list.old }
@@ -153,8 +164,24 @@ impl<'a, A: Allocator + Copy> Placing<'a, A> {
         is_placed(&self.placed, row)
     }
 
+    /// The least transaction that is not placed.
+    pub fn least_unplaced(&self) -> Option<u32>
+        ensures { result ≡ least_of (unplaced self.now.agenda.rows self.now.spot.placed) }
+    {
+        let rows = self.agenda.table().rows();
+        let mut least = None;
+        let mut place = rows.len();
+        while place > 0 {
+            place -= 1;
+            if !self.has_row(place) {
+                least = Some(lesser(rows[place].tx(), least));
+            }
+        }
+        least
+    }
+
     /// Whether every transaction that ended below the stamp is placed.
-    fn are_earlier_placed(&self, stamp: u32) -> bool
+    pub fn are_earlier_placed(&self, stamp: u32) -> bool
         ensures { result ≡ are_earlier_placed self.now.agenda.rows self.now.spot.placed stamp }
     {
         match self.agenda.ends().get(self.earliest) {

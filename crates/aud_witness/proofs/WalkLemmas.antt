@@ -1,0 +1,216 @@
+-- Decisions placed in turn by the rows of the table: what can be placed is good, and an order is told of exactly.
+use Rattle.std.specs.Prelude.{◌≡◌, ◌↔◌, ℕ, suc, zero, ◌+◌, ◌<◌, ◌≤◌, Bool, true, false, not, ◌&&◌, if◌then◌else◌, nat_eq, List, [], ◌∷◌, ◌++◌, map, filter, length, take, drop, Option, Some, None, is_some, Result, Ok, Err, MatchResult, slice_index_or, refl}
+use Rattle.std.specs.List.{list_any, list_all}
+use Rattle.std.proofs.Common.{sym, ◌∙◌, ap, subst, cond, inl, inr, arith, get_or, append_assoc}
+use Rattle.std.proofs.lemmas.List.{take_more, take_all, drop_more, drop_all}
+use Rattle.aud_event.specs.declared.fact.Event.{Event}
+use Rattle.aud_event.specs.Meanings.{Declared, PlanOf}
+use Rattle.aud_event.proofs.Bools.{and_true, true_and, or_true, or_right, true_or, nat_eq-is, nat_eq-refl}
+use Rattle.aud_history.specs.Histories.{History, events_of, is_in}
+use Rattle.aud_history.specs.WellFormed.{IsWellFormed}
+use Rattle.aud_history.specs.FirstFault.{IsWithinLimits}
+use Rattle.aud_history.specs.Table.{RowOf, transactions, row_of, table_of}
+use Rattle.aud_history.proofs.Tables.{any-transactions}
+use Rattle.aud_witness.specs.declared.decision.Decision.{Decision}
+use Rattle.aud_witness.specs.declared.fault.OrderFault.{OrderFault}
+use Rattle.aud_witness.specs.declared.fault.OrderFault.TheVariants.{Missing}
+use Rattle.aud_witness.specs.Orders.{is_named, Shows, IsFull, IsGood}
+use Rattle.aud_witness.specs.OrderFaults.{place_fault, least_of, missing_fault, fault_behind, first_order_fault}
+use Rattle.aud_witness.specs.Spots.{Spot, first_spot, stepped, unplaced}
+use Rattle.aud_witness.specs.Placings.{PlacingOf, Advances}
+use Rattle.aud_witness.specs.Walks.{walked, are_all_placed, WalksSay, WalksAreGood}
+use Rattle.aud_witness.proofs.Beginnings.{IsGood-from_Shows}
+use Rattle.aud_witness.proofs.Good.{append_nil, IsGood-empty, IsGood-push, Shows-from_IsGood}
+use Rattle.aud_witness.proofs.Faults.{IsGoodNext-from_no_fault, no_fault-from_IsGoodNext, IsFull-from_IsGood, Shows-from_no_fault, no_fault-from_Shows}
+use Rattle.aud_witness.proofs.BridgeSteps.{AllFit, fit-from_plan, Stands, Stands-root, Told, stepped-told}
+
+-- every event of every transaction fits the objects
+abbrev pub Fits : List Declared → History → Type 0
+Fits objects h = (t : ℕ) → AllFit objects (events_of t h)
+
+pub fits-from_limits : (plan : PlanOf) (h : History) → IsWithinLimits plan h → Fits plan.objects h
+fits-from_limits plan h within = λ t. fit-from_plan plan t h within.1
+
+-- # Walks
+
+-- what a walk places behind a good list is good
+pub walked-good : (objects : List Declared) (h : History) (p rest : List Decision) (s t : Spot) → IsWellFormed h → Fits objects h → Stands objects h p s → IsGood objects h p →
+    walked (table_of h) s rest ≡ Some t → IsGood objects h (p ++ rest) × Stands objects h (p ++ rest) t
+walked-good objects h p [] s t fine fits stands good led =
+    let same : s ≡ t = cc in
+    subst (λ l. IsGood objects h l × Stands objects h l t) (sym (append_nil p)) (good, subst (λ u. Stands objects h p u) same stands)
+walked-good objects h p (d ∷ rest) s t fine fits stands good led =
+    elim (stepped (table_of h) s d) as (λ (r : Result Spot OrderFault). Told objects h p d r → (elim r as (λ (_ : Result Spot OrderFault). Option Spot) [ Err _ ↦ None | Ok u ↦ walked (table_of h) u rest ]) ≡ Some t → IsGood objects h (p ++ d ∷ rest) × Stands objects h (p ++ d ∷ rest) t) [
+      | Err fault ↦ λ told none. absurd (cc)
+      | Ok u ↦ λ told on.
+          subst (λ l. IsGood objects h l × Stands objects h l t) (append_assoc p (d ∷ []) rest)
+          (walked-good objects h (p ++ d ∷ []) rest u t fine fits told.1 (IsGood-push objects h p d good (IsGoodNext-from_no_fault objects h p d told.0)) on)
+    ] (stepped-told objects h p s d fine (fits d.tx) stands) led
+
+-- a good list can be walked
+pub good-walked : (objects : List Declared) (h : History) (p rest : List Decision) (s : Spot) → IsWellFormed h → Fits objects h → Stands objects h p s →
+    IsGood objects h (p ++ rest) → (t : Spot) × (walked (table_of h) s rest ≡ Some t)
+good-walked objects h p [] s fine fits stands good = (s, refl)
+good-walked objects h p (d ∷ rest) s fine fits stands good =
+    elim (stepped (table_of h) s d) as (λ (r : Result Spot OrderFault). Told objects h p d r → (t : Spot) × ((elim r as (λ (_ : Result Spot OrderFault). Option Spot) [ Err _ ↦ None | Ok u ↦ walked (table_of h) u rest ]) ≡ Some t)) [
+      | Err fault ↦ λ told. let none : place_fault objects h p d ≡ None = no_fault-from_IsGoodNext objects h p d (good p d rest refl) in absurd (cc)
+      | Ok u ↦ λ told. good-walked objects h (p ++ d ∷ []) rest u fine fits told.1 (subst (λ l. IsGood objects h l) (sym (append_assoc p (d ∷ []) rest)) good)
+    ] (stepped-told objects h p s d fine (fits d.tx) stands)
+
+all-named : (f : ℕ → Bool) (ts : List ℕ) → list_all (λ b. b) (map f ts) ≡ true → (t : ℕ) → list_any (nat_eq t) ts ≡ true → f t ≡ true
+all-named f [] all t there = absurd (cc)
+all-named f (x ∷ ts) all t there =
+    let both = and_true (f x) (list_all (λ b. b) (map f ts)) all in
+    elim (or_true (nat_eq t x) (list_any (nat_eq t) ts) there) [
+      | inl same ↦ subst (λ n. f n ≡ true) (sym (nat_eq-is t x same)) both.0
+      | inr later ↦ all-named f ts both.1 t later
+    ]
+
+all-from : (f : ℕ → Bool) (ts : List ℕ) → ((t : ℕ) → list_any (nat_eq t) ts ≡ true → f t ≡ true) → list_all (λ b. b) (map f ts) ≡ true
+all-from f [] each = refl
+all-from f (x ∷ ts) each =
+    true_and (f x) (list_all (λ b. b) (map f ts)) (each x (true_or (nat_eq x x) (list_any (nat_eq x) ts) (nat_eq-refl x)))
+    (all-from f ts (λ t there. each t (or_right (nat_eq t x) (list_any (nat_eq t) ts) there)))
+
+some-from : {X : Type 0} (o : Option X) → is_some o ≡ true → (x : X) × (o ≡ Some x)
+some-from None none = absurd (cc)
+some-from (Some x) there = (x, refl)
+
+root-good : (objects : List Declared) (h : History) (p : List Decision) (t : Spot) → IsWellFormed h → Fits objects h →
+    walked (table_of h) (first_spot (table_of h) objects) p ≡ Some t → IsGood objects h p × Stands objects h p t
+root-good objects h p t fine fits led =
+    walked-good objects h [] p (first_spot (table_of h) objects) t fine fits (Stands-root objects h) (IsGood-empty objects h) led
+
+root-walked : (objects : List Declared) (h : History) (p : List Decision) → IsWellFormed h → Fits objects h →
+    IsGood objects h p → (t : Spot) × (walked (table_of h) (first_spot (table_of h) objects) p ≡ Some t)
+root-walked objects h p fine fits good = good-walked objects h [] p (first_spot (table_of h) objects) fine fits (Stands-root objects h) good
+
+walked-Shows : (objects : List Declared) (h : History) (p : List Decision) (t : Spot) → IsWellFormed h → Fits objects h →
+    walked (table_of h) (first_spot (table_of h) objects) p ≡ Some t → are_all_placed t ≡ true → Shows objects h p
+walked-Shows objects h p t fine fits led all =
+    let there = root-good objects h p t fine fits led in
+    let every : list_all (λ b. b) (map (is_named p) (transactions h)) ≡ true = subst (λ l. list_all (λ b. b) l ≡ true) there.1.placed all in
+    Shows-from_IsGood objects h p
+    (IsFull-from_IsGood objects h p there.0 (λ u inside. all-named (is_named p) (transactions h) every u (any-transactions h u ∙ inside))) there.0
+
+Shows-walked : (objects : List Declared) (h : History) (p : List Decision) → IsWellFormed h → Fits objects h → Shows objects h p →
+    (t : Spot) × ((walked (table_of h) (first_spot (table_of h) objects) p ≡ Some t) × (are_all_placed t ≡ true))
+Shows-walked objects h p fine fits shown =
+    let good : IsGood objects h p = IsGood-from_Shows objects h p [] (subst (λ l. Shows objects h l) (sym (append_nil p)) shown) in
+    let (t, led) = root-walked objects h p fine fits good in
+    let there = root-good objects h p t fine fits led in (
+      t,
+      (
+        led,
+        subst (λ l. list_all (λ b. b) l ≡ true) (sym there.1.placed)
+            (all-from (is_named p) (transactions h) (λ u inside. shown.full.same u ∙ (sym (any-transactions h u) ∙ inside))),
+      ),
+    )
+
+pub walks-say : WalksAreGood
+walks-say plan h fine within =
+    let fits = fits-from_limits plan h within in
+    record {
+      good = λ p. (
+        λ there. (let (t, led) = some-from (walked (table_of h) (first_spot (table_of h) plan.objects) p) there in (root-good plan.objects h p t fine fits led).0),
+        λ good. (let (t, led) = root-walked plan.objects h p fine fits good in ap is_some led),
+      );
+      shows = λ p. (Shows-walked plan.objects h p fine fits, λ (t, (led, all)). walked-Shows plan.objects h p t fine fits led all);
+    }
+
+-- # What is told of an order
+
+-- the first i decisions were placed, and led to the spot
+pub record Goes (objects : List Declared) (h : History) (p : List Decision) (i : ℕ) (s : Spot) : Type 0 where
+  pub stands : Stands objects h (take i p) s
+  pub fault : fault_behind objects h (take i p) (drop i p) ≡ first_order_fault objects h p
+
+pub Goes-root : (objects : List Declared) (h : History) (p : List Decision) → Goes objects h p 0 (first_spot (table_of h) objects)
+Goes-root objects h p = record { stands = Stands-root objects h; fault = refl }
+
+-- the fault behind i decisions, where the next one is d
+next-fault : (objects : List Declared) (h : History) (p : List Decision) (i : ℕ) (d d0 : Decision) → i < length p → get_or p i d0 ≡ d →
+    fault_behind objects h (take i p) (drop i p) ≡ fault_behind objects h (take i p) (d ∷ drop (i + 1) p)
+next-fault objects h p i d d0 inside is = ap (fault_behind objects h (take i p)) (drop_more p i d0 inside ∙ ap (λ x. x ∷ drop (i + 1) p) is)
+
+pub Goes-on : (objects : List Declared) (h : History) (p : List Decision) (i : ℕ) (d d0 : Decision) (s t : Spot) → IsWellFormed h → Fits objects h → i < length p → get_or p i d0 ≡ d →
+    Goes objects h p i s → stepped (table_of h) s d ≡ Ok t → Goes objects h p (i + 1) t
+Goes-on objects h p i d d0 s t fine fits inside is goes led =
+    let told : Told objects h (take i p) d (Ok t) = subst (λ r. Told objects h (take i p) d r) led (stepped-told objects h (take i p) s d fine (fits d.tx) goes.stands) in
+    let longer : take (i + 1) p ≡ take i p ++ d ∷ [] = take_more p i d0 inside ∙ ap (λ x. take i p ++ x ∷ []) is in
+    let on : fault_behind objects h (take i p) (d ∷ drop (i + 1) p) ≡ fault_behind objects h (take i p ++ d ∷ []) (drop (i + 1) p) =
+    ap (λ (o : Option OrderFault). elim o as (λ (_ : Option OrderFault). Option OrderFault) [ Some fault ↦ Some fault | None ↦ fault_behind objects h (take i p ++ d ∷ []) (drop (i + 1) p) ]) told.0 in
+    record {
+      stands = subst (λ l. Stands objects h l t) (sym longer) told.1;
+      fault = ap (λ l. fault_behind objects h l (drop (i + 1) p)) longer ∙ (sym on ∙ (sym (next-fault objects h p i d d0 inside is) ∙ goes.fault));
+    }
+
+pub Goes-wrong : (objects : List Declared) (h : History) (p : List Decision) (i : ℕ) (d d0 : Decision) (s : Spot) (fault : OrderFault) → IsWellFormed h → Fits objects h → i < length p → get_or p i d0 ≡ d →
+    Goes objects h p i s → stepped (table_of h) s d ≡ Err fault → first_order_fault objects h p ≡ Some fault
+Goes-wrong objects h p i d d0 s fault fine fits inside is goes led =
+    let told : place_fault objects h (take i p) d ≡ Some fault = subst (λ r. Told objects h (take i p) d r) led (stepped-told objects h (take i p) s d fine (fits d.tx) goes.stands) in
+    sym goes.fault
+    ∙ (next-fault objects h p i d d0 inside is
+    ∙ ap (λ (o : Option OrderFault). elim o as (λ (_ : Option OrderFault). Option OrderFault) [ Some fault ↦ Some fault | None ↦ fault_behind objects h (take i p ++ d ∷ []) (drop (i + 1) p) ]) told)
+
+unplaced-are_unnamed : (h : History) (f : ℕ → Bool) (ts : List ℕ) → unplaced (map (row_of h) ts) (map f ts) ≡ filter (λ t. not (f t)) ts
+unplaced-are_unnamed h f [] = refl
+unplaced-are_unnamed h f (t ∷ ts) =
+    elim (f t) as (λ b. cond b (unplaced (map (row_of h) ts) (map f ts)) (t ∷ unplaced (map (row_of h) ts) (map f ts)) ≡ cond (not b) (t ∷ filter (λ t. not (f t)) ts) (filter (λ t. not (f t)) ts)) [
+      | true ↦ unplaced-are_unnamed h f ts
+      | false ↦ ap (λ l. t ∷ l) (unplaced-are_unnamed h f ts)
+    ]
+
+-- a missing transaction, if there is one
+abbrev pub missing : Option ℕ → Option OrderFault
+missing None = None
+missing (Some t) = Some (Missing t)
+
+pub Goes-out : (objects : List Declared) (h : History) (p : List Decision) (i : ℕ) (s : Spot) → length p ≤ i → Goes objects h p i s →
+    first_order_fault objects h p ≡ missing (least_of (unplaced (table_of h) s.placed))
+Goes-out objects h p i s past goes =
+    let all : take i p ≡ p = take_all i p past in
+    let none : drop i p ≡ [] = drop_all i p past in
+    sym goes.fault
+    ∙ (ap (fault_behind objects h (take i p)) none
+    ∙ (by_least (least_of (filter (λ t. not (is_named (take i p) t)) (transactions h)))
+    ∙ ap (λ l. missing (least_of l)) (sym (unplaced-are_unnamed h (is_named (take i p)) (transactions h)) ∙ ap (unplaced (table_of h)) (sym goes.stands.placed))))
+  where
+    by_least : (o : Option ℕ) → (elim o as (λ (_ : Option ℕ). Option OrderFault) [ None ↦ None | Some t ↦ Some (Missing t) ]) ≡ missing o
+    by_least None = refl
+    by_least (Some t) = refl
+
+pub not-shown : (objects : List Declared) (h : History) (p : List Decision) (fault : OrderFault) → first_order_fault objects h p ≡ Some fault →
+    (false ≡ true → Shows objects h p) × (Shows objects h p → false ≡ true)
+not-shown objects h p fault told = (
+  λ e. absurd (cc),
+  λ shown. (let none : first_order_fault objects h p ≡ None = no_fault-from_Shows objects h p shown in absurd (cc)),
+)
+
+pub is-shown : (objects : List Declared) (h : History) (p : List Decision) → first_order_fault objects h p ≡ None →
+    (true ≡ true → Shows objects h p) × (Shows objects h p → true ≡ true)
+is-shown objects h p none = (λ _. Shows-from_no_fault objects h p none, λ _. refl)
+
+-- what placing a decision answered
+pub step-refused : (old new : PlacingOf) (d : Decision) (r : Result (Unit {0}) OrderFault) (fault : OrderFault) →
+    MatchResult r (λ _. Advances old d new (stepped old.agenda.rows old.spot d)) (λ f. (stepped old.agenda.rows old.spot d ≡ Err f) × (new ≡ old)) → r ≡ Err fault →
+    stepped old.agenda.rows old.spot d ≡ Err fault
+step-refused old new d (Ok _) fault told is = absurd (cc)
+step-refused old new d (Err f) fault told is = let same : f ≡ fault = cc in told.0 ∙ ap Err same
+
+pub step-taken : (old new : PlacingOf) (d : Decision) (r : Result (Unit {0}) OrderFault) →
+    MatchResult r (λ _. Advances old d new (stepped old.agenda.rows old.spot d)) (λ f. (stepped old.agenda.rows old.spot d ≡ Err f) × (new ≡ old)) → r ≡ Ok tt →
+    (stepped old.agenda.rows old.spot d ≡ Ok new.spot) × (new.agenda ≡ old.agenda)
+step-taken old new d (Ok _) told is = (told.spot, told.agenda)
+step-taken old new d (Err f) told is = absurd (cc)
+
+-- the same over what a loop has at hand
+pub Goes-wrong-here : (objects : List Declared) (h : History) (p items : List Decision) (i : ℕ) (d d0 : Decision) (s : Spot) (fault : OrderFault) (rows : List RowOf) → IsWellFormed h → Fits objects h →
+    items ≡ p → rows ≡ table_of h → i < length items → Goes objects h p i s → stepped rows s d ≡ Err fault → get_or items i d0 ≡ d → first_order_fault objects h p ≡ Some fault
+Goes-wrong-here objects h p items i d d0 s fault rows fine fits same table inside goes led is =
+    Goes-wrong objects h p i d d0 s fault fine fits (subst (λ l. i < length l) same inside) (ap (λ l. get_or l i d0) (sym same) ∙ is) goes (subst (λ r. stepped r s d ≡ Err fault) table led)
+
+pub Goes-on-here : (objects : List Declared) (h : History) (p items : List Decision) (i : ℕ) (d d0 : Decision) (s t : Spot) (rows : List RowOf) → IsWellFormed h → Fits objects h →
+    items ≡ p → rows ≡ table_of h → i < length items → Goes objects h p i s → stepped rows s d ≡ Ok t → get_or items i d0 ≡ d → Goes objects h p (i + 1) t
+Goes-on-here objects h p items i d d0 s t rows fine fits same table inside goes led is =
+    Goes-on objects h p i d d0 s t fine fits (subst (λ l. i < length l) same inside) (ap (λ l. get_or l i d0) (sym same) ∙ is) goes (subst (λ r. stepped r s d ≡ Ok t) table led)
