@@ -17,3 +17,4 @@ pub mod Covering
 pub mod Minimal
 pub mod Norms
 pub mod Marked
+pub mod FactRank

@@ -17,6 +17,7 @@ mod least;
 mod mark;
 mod merge;
 mod pair;
+mod ranked;
 mod row;
 #[cfg(test)]
 mod tests;
@@ -30,6 +31,7 @@ pub use iter::Iter;
 pub use least::Least;
 pub use mark::Mark;
 pub use pair::Pair;
+pub use ranked::Rank;
 pub use row::Row;
 pub use union_set::UnionSet;
 

@@ -1,8 +1,8 @@
 //! The calls at concrete types with ample memory, and each growth refused in turn.
 
 use crate::laws::{norm_of_firsts, norm_of_union, norm_with_norm};
-use crate::{Cover, Lattice, Least, Mark, Pair, Row, UnionSet, joined, joined_both_ways};
-use aud_event::{Dup, EndMark, Fact, OutOfMemory};
+use crate::{Cover, Lattice, Least, Mark, Pair, Rank, Row, UnionSet, joined, joined_both_ways};
+use aud_event::{Dup, EndMark, Event, Fact, OutOfMemory, Record};
 use aud_refusing::Refusing;
 use std::alloc::{Allocator, Global};
 use std::process::Abort;
@@ -294,6 +294,60 @@ fn each_growth_of_a_bulk_is_refused_in_turn(rt: HostRuntime) -> Result<(), Fail>
             assert_eq!(rt; set.len(), 10);
             assert!(rt; nth >= 10, "{nth} growths");
             return Ok(());
+        }
+    }
+    assert!(rt; false, "each of 1,000 growths was met");
+    Ok(())
+}
+
+/// Records of four logs as they arrive, the last one first, and an end mark twice.
+fn arrivals<A: Allocator + Clone>(alloc: A) -> Result<Vec<Fact, A>, OutOfMemory> {
+    let mut facts = Vec::new(alloc);
+    for number in 0..40u32 {
+        facts.push(Fact::Rec(Record {
+            log: number % 4,
+            at: 9u32.wrapping_sub(number / 4),
+            stamp: number,
+            tx: 1,
+            event: Event::TryC,
+        }))?;
+    }
+    facts.push(Fact::End(EndMark { log: 1, count: 10 }))?;
+    facts.push(Fact::End(EndMark { log: 1, count: 10 }))?;
+    Ok(facts)
+}
+
+#[test]
+fn ranks_do_not_show(rt: HostRuntime) -> Result<(), Fail> {
+    let ranked = UnionSet::from_ranked(rt.alloc(), arrivals(rt.alloc())?)?;
+    let plain = UnionSet::from_vec(rt.alloc(), arrivals(rt.alloc())?)?;
+    assert_eq!(rt; ranked.len(), 41);
+    assert!(rt; ranked.same(&plain));
+    assert_eq!(rt;
+        Fact::End(EndMark { log: 1, count: 10 }).rank(),
+        18_446_744_073_709_551_615
+    );
+    Ok(())
+}
+
+fn ranked_bulk_of<A: Allocator + Clone>(alloc: A) -> Result<UnionSet<Fact, A>, OutOfMemory> {
+    let facts = arrivals(alloc.clone()?)?;
+    UnionSet::from_ranked(alloc, facts)
+}
+
+#[test]
+fn each_growth_of_a_ranked_bulk_is_refused_in_turn(rt: HostRuntime) -> Result<(), Fail> {
+    for nth in 0..1000u64 {
+        let alloc = Refusing::new(rt.alloc(), rt.alloc(), nth)?;
+        match ranked_bulk_of(&alloc) {
+            Err(OutOfMemory) => assert!(rt; alloc.was_met()),
+            Ok(set) => {
+                assert_eq!(rt; set.len(), 41);
+                if !alloc.was_met() {
+                    assert!(rt; nth >= 41, "{nth} growths");
+                    return Ok(());
+                }
+            }
         }
     }
     assert!(rt; false, "each of 1,000 growths was met");

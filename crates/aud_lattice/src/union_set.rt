@@ -10,6 +10,7 @@ use crate::Lattice;
 use crate::bulk::{arranged, tree_of};
 use crate::iter::{Iter, all_of};
 use crate::merge::{joined, same};
+use crate::ranked::{Rank, ranked};
 use crate::tree::{Link, contains, count, shared, with};
 use aud_event::{Dup, Key, OutOfMemory};
 use std::alloc::{Allocator, Global};
@@ -95,6 +96,18 @@ impl<T: Key + Dup, A: Allocator + Clone> UnionSet<T, A> {
         let root = with(&self.alloc, &self.root, item)?;
         self.root = root;
         Ok(true)
+    }
+}
+
+impl<T: Key + Dup + Rank, A: Allocator + Clone> UnionSet<T, A> {
+    /// What inserting each item in turn leaves, as `from_vec` does it, faster for items whose ranks tell them apart.
+    pub fn from_ranked(alloc: A, items: Vec<T, A>) -> Result<UnionSet<T, A>, OutOfMemory>
+        ensures each { IfOk result (λ set. set ≡ inserted T.Ord.cmp items.items []) }
+        ensures members { IfOk result (λ set. (x : T) → Contains set x ↔ Contains items.items x) }
+    {
+        let items = arranged(ranked(items)?)?;
+        let root = tree_of(&alloc, items)?;
+        Ok(UnionSet { alloc, root })
     }
 }
 
