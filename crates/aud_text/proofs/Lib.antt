@@ -8,3 +8,4 @@ pub mod Length
 pub mod Sound
 pub mod Back
 pub mod Objects
+pub mod Quick

@@ -1,9 +1,9 @@
 //! Reading the lines of facts.
 
-ghost use Rattle.std.specs.Prelude.{◌≡◌, ◌⊎◌, Err};
-ghost use Rattle.serde_json.specs.View.{view};
-ghost use Rattle.aud_text.specs.Json.{fits_at};
-ghost use Rattle.aud_text.specs.FactText.{fact_read, judged, types_fit, answer_fits, answer_of, answer_of_word, answer_at, object_number, object_at, op_with, fact_of, event_of, record_of, end_of};
+ghost use Rattle.std.specs.Prelude.{◌≡◌, ◌⊎◌, Err, if◌then◌else◌};
+ghost use Rattle.serde_json.specs.View.{view, members_view};
+ghost use Rattle.aud_text.specs.Json.{fits_at, has_all, has_only};
+ghost use Rattle.aud_text.specs.FactText.{fact_read, judged, required, allowed, types_fit, answer_fits, answer_of, answer_of_word, answer_at, object_number, object_at, op_with, fact_of, event_of, record_of, end_of};
 
 use crate::fault::TextFault;
 use crate::shape::{Shape, allowed_keys, op_of, required_keys, shape_in};
@@ -12,7 +12,7 @@ use crate::value::{
     whole_if_there, whole_of, word_of,
 };
 use aud_event::{Answer, EndMark, Event, Fact, Op, OpName, Plan, Record};
-use serde_json::Value;
+use serde_json::{Map, Value};
 use std::alloc::{Allocator, Global};
 
 /// The most bytes that a line of a plan or of a fact may have, its line feed aside.
@@ -186,6 +186,27 @@ fn fact_in<A: Allocator>(plan: &Plan<A>, value: &Value, shape: Shape) -> Option<
     }
 }
 
+// ---- the answer
+
+/// The least fault of a value of which no fact comes.
+fn fault_of(value: &Value, members: &Map<String, Value>, shape: Shape) -> TextFault
+    ensures { result ≡ (if has_all (required shape) (view value.now)
+        then (if has_only (allowed shape) (members_view members.now.entries)
+        then (if types_fit (view value.now) then TextFault.UnknownWord else TextFault.TypeOrRange)
+        else TextFault.KeyUnknown)
+        else TextFault.KeyMissing) }
+{
+    if !has_required(value, required_keys(shape)) {
+        TextFault::KeyMissing
+    } else if !has_only_allowed(members, allowed_keys(shape)) {
+        TextFault::KeyUnknown
+    } else if !all_types_fit(value) {
+        TextFault::TypeOrRange
+    } else {
+        TextFault::UnknownWord
+    }
+}
+
 /// The fact that a JSON value says in the plan, or the least fault that it deserves. It takes no memory.
 pub fn judge<A: Allocator>(plan: &Plan<A>, value: &Value) -> Result<Fact, TextFault>
     ensures { result ≡ judged plan.now (view value.now) }
@@ -194,21 +215,17 @@ pub fn judge<A: Allocator>(plan: &Plan<A>, value: &Value) -> Result<Fact, TextFa
         return Err(TextFault::NotObject);
     };
     let shape = shape_in(value);
-    if !has_required(value, required_keys(shape)) {
-        return Err(TextFault::KeyMissing);
-    }
+    // A fact that is built has its keys and their types, so that no more than the other keys are left to look at.
+    let fact = match fact_in(plan, value, shape) {
+        Some(fact) => fact,
+        None => return Err(fault_of(value, members, shape)),
+    };
     if !has_only_allowed(members, allowed_keys(shape)) {
         return Err(TextFault::KeyUnknown);
     }
-    if !all_types_fit(value) {
-        return Err(TextFault::TypeOrRange);
-    }
-    match fact_in(plan, value, shape) {
-        None => Err(TextFault::UnknownWord),
-        Some(fact) => match fact.check(plan) {
-            Ok(()) => Ok(fact),
-            Err(fault) => Err(TextFault::Fact(fault)),
-        },
+    match fact.check(plan) {
+        Ok(()) => Ok(fact),
+        Err(fault) => Err(TextFault::Fact(fault)),
     }
 }
 
