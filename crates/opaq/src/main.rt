@@ -1,119 +1,67 @@
-// Judges each worked history by the definition of opacity, and prints a line for each.
+// Does what the words ask for with standard input, and prints one line.
 #![tactic(auto)]
 
-mod verdict;
+mod input;
+mod message;
 
-use aud_history::History;
-use aud_text::write_order;
-use aud_worked as worked;
+use aud_cli::{Cause, Command, Ended, Job, job_of, run_lines};
+use aud_report::{MemorySink, MemorySource};
+use input::{InputFault, read_to_end};
+use message::message_of;
 use std::alloc::Global;
-use verdict::{Verdict, judge};
+use std::io::{self, Write};
+use std::process::ExitCode;
 
-/// Prints the name of a history and what there is to tell of it.
-fn tell(rt: &impl Print, alloc: Global, name: &str, history: &History) -> anyhow::Result<()> {
-    match judge(alloc, history)? {
-        Verdict::NotWellFormed(stamp, rule) => {
-            let number = rule.number();
-            println!(rt; "{name}: not well-formed: event {stamp} breaks rule {number}")?;
-        }
-        Verdict::Shown(order) => {
-            let order = String::from_utf8(write_order(alloc, &order)?)?;
-            println!(rt; "{name}: opaque: {order}")?;
-        }
-        Verdict::NotOpaque => println!(rt; "{name}: not opaque")?,
+/// The exit status where the words are not understood.
+const USAGE: u8 = 64;
+
+/// Runs the job over standard input, and prints its line.
+fn run_job(rt: &HostRuntime, alloc: Global, job: &Job) -> Ended {
+    let bytes = match read_to_end(alloc, &mut rt.reader()) {
+        Ok(bytes) => bytes,
+        Err(InputFault::Failed) => return Ended::Failed(Cause::Input),
+        Err(InputFault::OutOfMemory) => return Ended::Failed(Cause::Memory),
+    };
+    let mut source = MemorySource::new(bytes);
+    let mut sink = MemorySink::new(alloc);
+    let ended = run_lines(alloc, job, &mut source, &mut sink);
+    if let Ended::Failed(cause) = ended {
+        // A sink in memory fails for want of memory alone.
+        return match cause {
+            Cause::Output => Ended::Failed(Cause::Memory),
+            other => Ended::Failed(other),
+        };
     }
-    Ok(())
+    match io::writer(rt).write_all(sink.held()) {
+        Ok(()) => ended,
+        Err(_) => Ended::Failed(Cause::Output),
+    }
 }
 
-/// Histories of registers.
-fn registers(rt: &impl Print, alloc: Global) -> anyhow::Result<()> {
-    tell(
-        rt,
-        alloc,
-        "nothing happened",
-        &worked::nothing_happened(alloc)?,
-    )?;
-    tell(
-        rt,
-        alloc,
-        "reader behind commit",
-        &worked::reader_behind_commit(alloc)?,
-    )?;
-    tell(
-        rt,
-        alloc,
-        "torn read then abort",
-        &worked::torn_read_then_abort(alloc)?,
-    )?;
-    tell(
-        rt,
-        alloc,
-        "pending commit is seen",
-        &worked::pending_commit_is_seen(alloc)?,
-    )?;
-    tell(
-        rt,
-        alloc,
-        "pending commit is unseen",
-        &worked::pending_commit_is_unseen(alloc)?,
-    )?;
-    tell(
-        rt,
-        alloc,
-        "stale read behind commit",
-        &worked::stale_read_behind_commit(alloc)?,
-    )?;
-    tell(
-        rt,
-        alloc,
-        "live write is seen",
-        &worked::live_write_is_seen(alloc)?,
-    )?;
-    tell(
-        rt,
-        alloc,
-        "read before commit",
-        &worked::read_before_commit(alloc)?,
-    )?;
-    tell(
-        rt,
-        alloc,
-        "idle write stands later",
-        &worked::idle_write_stands_later(alloc)?,
-    )
+fn words_of(rt: &HostRuntime, alloc: Global) -> Option<Vec<String>> {
+    std::env::args(rt).ok()?.collect(alloc).ok()
 }
 
-/// Histories of a queue, a counter and a set.
-fn others(rt: &impl Print, alloc: Global) -> anyhow::Result<()> {
-    tell(
-        rt,
-        alloc,
-        "item is passed on",
-        &worked::item_is_passed_on(alloc)?,
-    )?;
-    tell(rt, alloc, "count is lost", &worked::count_is_lost(alloc)?)?;
-    tell(
-        rt,
-        alloc,
-        "both find it absent",
-        &worked::both_find_it_absent(alloc)?,
-    )
+/// Does what the words ask for, and gives the exit status.
+fn run(rt: &HostRuntime, alloc: Global) -> u8 {
+    let Some(words) = words_of(rt, alloc) else {
+        let _ = eprint!(rt; "{}", message_of(Cause::Memory));
+        return USAGE;
+    };
+    let ended = match job_of(alloc, words.as_slice()) {
+        Ok(Command::Lines(job)) => run_job(rt, alloc, &job),
+        Err(usage) => {
+            let _ = eprint!(rt; "{}", usage.text());
+            return USAGE;
+        }
+    };
+    if let Ended::Failed(cause) = ended {
+        let _ = eprint!(rt; "{}", message_of(cause));
+    }
+    ended.status()
 }
 
-/// Histories that are not well-formed.
-fn malformed(rt: &impl Print, alloc: Global) -> anyhow::Result<()> {
-    tell(rt, alloc, "answer unasked", &worked::answer_unasked(alloc)?)?;
-    tell(
-        rt,
-        alloc,
-        "abort while idle",
-        &worked::abort_while_idle(alloc)?,
-    )
-}
-
-fn main(rt: HostRuntime) -> anyhow::Result<()> {
+fn main(rt: HostRuntime) -> ExitCode {
     let alloc = rt.alloc();
-    registers(&rt, alloc)?;
-    others(&rt, alloc)?;
-    malformed(&rt, alloc)
+    ExitCode::from(run(&rt, alloc))
 }

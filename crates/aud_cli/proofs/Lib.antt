@@ -1,0 +1,4 @@
+pub mod Checked
+pub mod Read
+pub mod HistoryLemmas
+pub mod WorkedLines

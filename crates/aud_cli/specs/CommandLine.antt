@@ -1,0 +1,25 @@
+-- The command line, as `clap` reads it.
+use Rattle.std.specs.Prelude.{[], Option, Some, true, codes}
+use Rattle.clap.specs.Words.{App, Rule, Text, new_app, new_rule, with_rule, with_subcommand}
+use Rattle.clap.specs.declared.builder.ArgAction.TheVariants.{Set}
+
+-- `--NAME VALUE`, which must stand
+abbrev pub needed_rule : Text → Rule
+needed_rule name = record (new_rule name) { long = Some name; action = Some Set; value_names = 1; required = true }
+
+-- `--NAME VALUE`, which may stand
+abbrev pub value_rule : Text → Rule
+value_rule name = record (new_rule name) { long = Some name; action = Some Set; value_names = 1 }
+
+abbrev pub check_app : App
+check_app = with_rule (new_app (codes "check")) (needed_rule (codes "order"))
+
+abbrev pub decide_app : App
+decide_app = with_rule (new_app (codes "decide")) (value_rule (codes "budget"))
+
+-- a word must follow the program's name
+abbrev pub bare_app : App
+bare_app = record (new_app (codes "opaq")) { top = record (new_app (codes "opaq")).top { arg_required_else_help = true; subcommand_required = true } }
+
+abbrev pub opaq_app : App
+opaq_app = with_subcommand (with_subcommand bare_app check_app.top) decide_app.top

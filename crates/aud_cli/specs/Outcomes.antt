@@ -1,0 +1,75 @@
+-- How a run ends, and what it leaves of its source and its sink.
+use Rattle.std.specs.Prelude.{◌≡◌, ◌+◌, ◌++◌, ℕ, List}
+use Rattle.aud_report.specs.Devices.{BeginsOnly}
+use Rattle.aud_report.specs.Lines.{line_of}
+use Rattle.aud_report.specs.declared.said.Said.{Said}
+use Rattle.aud_report.specs.declared.said.Said.TheVariants as said
+use Rattle.aud_cli.specs.declared.ended.Cause.{Cause}
+use Rattle.aud_cli.specs.declared.ended.Cause.TheVariants.{Memory, Input, Output, Thread}
+use Rattle.aud_cli.specs.declared.ended.Ended.{Ended}
+use Rattle.aud_cli.specs.declared.ended.Ended.TheVariants as ended
+
+-- how a run ends that says this
+abbrev pub ended_by : Said → Ended
+ended_by (said.Opaque order) = ended.Opaque
+ended_by said.NotOpaque = ended.NotOpaque
+ended_by said.Unfinished = ended.Unfinished
+ended_by (said.Conflict kind log at) = ended.Refused
+ended_by (said.Waiting log) = ended.Refused
+ended_by (said.Gap stamp) = ended.Refused
+ended_by (said.IllFormed rule stamp) = ended.Refused
+ended_by (said.OrderRefused e) = ended.Refused
+ended_by (said.OrderTextRefused e) = ended.Refused
+ended_by (said.PlanRefused e) = ended.Refused
+ended_by (said.RecordRefused line e) = ended.Refused
+
+-- the exit status of the program
+abbrev pub status_of : Ended → ℕ
+status_of ended.Opaque = 0
+status_of ended.NotOpaque = 1
+status_of ended.Unfinished = 2
+status_of ended.Refused = 3
+status_of (ended.Failed cause) = 4
+
+-- what is seen of the devices at one moment: how often the source and the sink failed so far, and what the sink holds
+pub record Seen : Type 0 where
+  pub source_failures : ℕ
+  pub sink_failures : ℕ
+  pub held : List ℕ
+
+-- one line went out that may be said, no device failed, and the run ends as the line says
+pub record Whole (May : Said → Type 0) (before after : Seen) (e : Ended) : Type 0 where
+  pub said : Said
+  pub may : May said
+  pub ends : ended_by said ≡ e
+  pub written : after.held ≡ before.held ++ line_of said
+  pub read : after.source_failures ≡ before.source_failures
+  pub wrote : after.sink_failures ≡ before.sink_failures
+
+-- the sink failed, and a beginning of a line went out that may be said
+pub record Cut (May : Said → Type 0) (before after : Seen) : Type 0 where
+  pub said : Said
+  pub may : May said
+  pub written : BeginsOnly before.held after.held (line_of said)
+  pub read : after.source_failures ≡ before.source_failures
+  pub wrote : after.sink_failures ≡ before.sink_failures + 1
+
+-- nothing went out, and the source failed so often
+pub record Nothing (failures : ℕ) (before after : Seen) : Type 0 where
+  pub written : after.held ≡ before.held
+  pub read : after.source_failures ≡ before.source_failures + failures
+  pub wrote : after.sink_failures ≡ before.sink_failures
+
+abbrev pub CutBy : Cause → (Said → Type 0) → Seen → Seen → Type 0
+CutBy Memory May before after = Nothing 0 before after
+CutBy Input May before after = Nothing 1 before after
+CutBy Output May before after = Cut May before after
+CutBy Thread May before after = ⊥
+
+-- what a run leaves that ends so, where these are the things that it may say
+abbrev pub Outcome : (Said → Type 0) → Seen → Seen → Ended → Type 0
+Outcome May before after ended.Opaque = Whole May before after ended.Opaque
+Outcome May before after ended.NotOpaque = Whole May before after ended.NotOpaque
+Outcome May before after ended.Unfinished = Whole May before after ended.Unfinished
+Outcome May before after ended.Refused = Whole May before after ended.Refused
+Outcome May before after (ended.Failed cause) = CutBy cause May before after

@@ -1,0 +1,43 @@
+-- What the words ask for.
+use Rattle.std.specs.Prelude.{◌≡◌, ◌≤◌, ℕ, List, [], Option, Some, None, codes, ⊤, string_bytes}
+use Rattle.std.specs.Str.Parse.{IsNumeral, digits_value, without_leading_plus}
+use Rattle.clap.specs.Words.{Row, Text, first_of, subcommand_of, fault_of}
+use Rattle.aud_cli.specs.CommandLine.{opaq_app}
+use Rattle.aud_cli.specs.declared.job.Job.{Job}
+use Rattle.aud_cli.specs.declared.job.Job.TheVariants.{Check, Decide}
+use Rattle.aud_cli.specs.declared.job.Command.{Command}
+use Rattle.aud_cli.specs.declared.job.Command.TheVariants.{Lines}
+use Rattle.aud_cli.specs.declared.job.Usage.{Usage}
+use Rattle.aud_cli.specs.declared.job.Usage.TheVariants.{Told, OutOfMemory}
+
+-- the text is digits, perhaps behind a plus, and they say the number, which is at most so great
+abbrev pub IsNumberUpTo : ℕ → Text → ℕ → Type 0
+IsNumberUpTo most t n = IsNumeral 10 (without_leading_plus t) × ((n ≡ digits_value 10 (without_leading_plus t)) × (n ≤ most))
+
+-- an option that may be absent: how many expansions there may be at most
+abbrev pub IsBudget : Option Text → Option ℕ → Type 0
+IsBudget None None = ⊤
+IsBudget None (Some n) = ⊥
+IsBudget (Some t) None = ⊥
+IsBudget (Some t) (Some n) = IsNumberUpTo 1000000000000 t n
+
+-- a subcommand and its options ask for the job
+abbrev pub AsksFor : Text → List Row → Job → Type 0
+AsksFor name rows (Check order) = (name ≡ codes "check") × (first_of (codes "order") rows ≡ Some (string_bytes order))
+AsksFor name rows (Decide budget) = (name ≡ codes "decide") × IsBudget (first_of (codes "budget") rows) budget
+
+abbrev pub Commands : Text → List Row → Command → Type 0
+Commands name rows (Lines job) = AsksFor name rows job
+
+-- `clap` takes the words, and the subcommand that it reads in them, with its options, asks for the command
+pub record Asked (words : List Text) (command : Command) : Type 0 where
+  pub name : Text
+  pub rows : List Row
+  pub taken : fault_of opaq_app words ≡ []
+  pub read : subcommand_of opaq_app words ≡ Some (name, rows)
+  pub asks : Commands name rows command
+
+-- what the user is told
+abbrev pub usage_text : Usage → List ℕ
+usage_text (Told text) = string_bytes text
+usage_text OutOfMemory = codes "opaq: out of memory\n"

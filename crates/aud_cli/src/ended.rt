@@ -1,0 +1,66 @@
+//! How a run ends.
+
+ghost use Rattle.std.specs.Prelude.{◌≡◌};
+ghost use Rattle.aud_cli.specs.Outcomes.{ended_by, status_of};
+
+use aud_report::Said;
+
+/// What a run failed for.
+#[derive(Clone, Copy, Debug, PartialEq, Eq)]
+pub enum Cause {
+    Memory,
+    /// The source failed.
+    Input,
+    /// The sink failed.
+    Output,
+    /// A thread was not to be had.
+    Thread,
+}
+
+/// How a run ends.
+#[derive(Clone, Copy, Debug, PartialEq, Eq)]
+pub enum Ended {
+    /// An order shows the history opaque.
+    Opaque,
+    /// No order does.
+    NotOpaque,
+    /// The search ended before it knew.
+    Unfinished,
+    /// The input, the history or the order is refused.
+    Refused,
+    Failed(Cause),
+}
+
+impl Ended {
+    /// The exit status of the program, 0 to 4.
+    pub fn status(self) -> u8
+        ensures { result ≡ status_of self }
+    {
+        match self {
+            Ended::Opaque => 0,
+            Ended::NotOpaque => 1,
+            Ended::Unfinished => 2,
+            Ended::Refused => 3,
+            Ended::Failed(_) => 4,
+        }
+    }
+}
+
+/// How a run ends that says this.
+pub(crate) fn end_of(said: &Said) -> Ended
+    ensures { result ≡ ended_by said.now }
+{
+    match said {
+        Said::Opaque(_) => Ended::Opaque,
+        Said::NotOpaque => Ended::NotOpaque,
+        Said::Unfinished => Ended::Unfinished,
+        Said::Conflict(_, _, _)
+        | Said::Waiting(_)
+        | Said::Gap(_)
+        | Said::IllFormed(_, _)
+        | Said::OrderRefused(_)
+        | Said::OrderTextRefused(_)
+        | Said::PlanRefused(_)
+        | Said::RecordRefused(_, _) => Ended::Refused,
+    }
+}

@@ -1,0 +1,19 @@
+#![tactic(auto)]
+//! The program's words and runs: from the words to a job, and from an input's bytes to the line that is said of it.
+
+mod command_line;
+mod ended;
+mod input;
+mod job;
+mod question;
+mod run;
+mod words;
+
+pub use ended::{Cause, Ended};
+pub use input::{Input, InputFault, read_input};
+pub use job::{Command, Job, Usage};
+pub use run::run_lines;
+pub use words::job_of;
+
+#[cfg(test)]
+mod tests;

@@ -1,0 +1,10 @@
+pub mod Lists
+pub mod Reflexive
+pub mod Ordered
+pub mod Conflicts
+pub mod Surveys
+pub mod Inserted
+pub mod Sealing
+pub mod Limits
+pub mod Grown
+pub mod Unions

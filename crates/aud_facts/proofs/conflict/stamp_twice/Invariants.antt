@@ -1,0 +1,9 @@
+use Rattle.std.proofs.Common.{◌≡◌}
+use Rattle.aud_facts.specs.Scans.{AreWithin, first_place, is_twice}
+use Rattle.aud_facts.proofs.conflict.stamp_twice.Given as goal
+
+abbrev pub invariant-loop-fact : goal.invariant-loop-fact
+invariant-loop-fact g l = record {
+  within : AreWithin l.fact-iterator;
+  rest : first_place (is_twice l.set) l.fact-iterator ≡ first_place (is_twice l.set) l.set;
+}

@@ -1,0 +1,7 @@
+use Rattle.std.specs.Prelude.{ℕ, Option, None}
+use Rattle.std.proofs.lemmas.List.{get_or-replicate}
+use Rattle.aud_event.specs.declared.limits.TheConstants.{LOGS_MAX}
+use Rattle.aud_facts.proofs.table.no_bounds.Goals as goal
+
+pub returns : goal.returns
+returns c = λ log lt. get_or-replicate {A = Option ℕ} LOGS_MAX log None None lt

@@ -1,0 +1,9 @@
+pub mod Kinds
+pub mod Clashes
+pub mod Status
+pub mod Order
+pub mod Sets
+pub mod Growth
+pub mod Joins
+pub mod Scans
+pub mod Worked

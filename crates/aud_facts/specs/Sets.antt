@@ -1,0 +1,28 @@
+-- What contracts see of a set of facts.
+use Rattle.std.specs.Prelude.{◌≡◌, ℕ, List, None}
+use Rattle.aud_event.specs.declared.fact.Event.{Event}
+use Rattle.aud_facts.specs.declared.status.FactStatus.TheVariants.{Sealed}
+use Rattle.aud_facts.specs.Status.{status_of, hist}
+use Rattle.std.specs.List.{AllByRecursion}
+use Rattle.aud_event.specs.declared.fact.Fact.{Fact}
+use Rattle.aud_event.specs.Meanings.{PlanOf}
+use Rattle.aud_event.specs.Facts.{first_fact_fault}
+
+-- facts under a plan
+pub record FactsOf : Type 0 where
+  pub plan : PlanOf
+  pub facts : List Fact
+
+-- every fact passes the plan's check
+abbrev pub AreSound : PlanOf → List Fact → Type 0
+AreSound plan facts = AllByRecursion (λ f. first_fact_fault plan f ≡ None) facts
+
+-- a sealed set with its history
+pub record SealedOf : Type 0 where
+  pub facts : FactsOf
+  pub history : List (ℕ × Event)
+
+-- the facts are sealed, and this is their history
+pub record IsSealedWith (facts : FactsOf) (history : List (ℕ × Event)) : Type 0 where
+  pub sealed : status_of facts.plan.logs facts.facts ≡ Sealed
+  pub events : history ≡ hist facts.facts

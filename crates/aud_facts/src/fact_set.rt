@@ -1,0 +1,198 @@
+//! Facts of one plan.
+
+ghost use Rattle.std.specs.Prelude.{◌≡◌, ◌≢◌, IfOk, OnOk, OnErr, IsTrue, ◌↔◌, [], None, MatchOption, All, false};
+ghost use Rattle.aud_event.specs.Facts.{first_fact_fault};
+ghost use Rattle.aud_event.specs.contracts.fact.FactOrd.TheImpl as fact_ord;
+ghost use Rattle.aud_history.specs.FirstFault.{IsWithinLimits};
+ghost use Rattle.aud_lattice.specs.Sets.{has, with_item, inserted};
+ghost use Rattle.aud_facts.specs.Growth.{IsConflict};
+ghost use Rattle.aud_facts.specs.Joins.{joined};
+ghost use Rattle.aud_facts.specs.Order.{AreOrdered};
+ghost use Rattle.aud_facts.specs.Sets.{FactsOf, AreSound, IsSealedWith};
+ghost use Rattle.aud_facts.specs.Status.{status_of, hist, count, is_record};
+
+use crate::conflict::status_in;
+use crate::placing::history_of;
+use crate::sealed::Sealed;
+use crate::status::FactStatus;
+use aud_event::{Dup, Fact, OutOfMemory, Plan};
+use aud_history::History;
+use aud_lattice::{Lattice, UnionSet};
+use std::alloc::{Allocator, Global};
+use std::marker::Model;
+use std::sync::Arc;
+
+/// A plan and facts that fit it, seen as the plan and the list of the facts, least first. A copy shares what it has with
+/// its source.
+#[derive(Drop)]
+pub struct Facts<A: Allocator + Copy = Global> {
+    alloc: A,
+    plan: Arc<Plan<A>, A>,
+    set: UnionSet<Fact, A>,
+}
+
+impl<A: Allocator + Copy> Model for Facts<A> {
+    ghost use Rattle.aud_facts.specs.Sets.{FactsOf, AreSound};
+    ghost use Rattle.aud_facts.specs.Order.{AreOrdered};
+
+    ghost Value = { FactsOf };
+
+    ghost view = { λ f. record { plan = f.plan.value; facts = f.set } };
+
+    ghost invariant = { λ f. AreSound f.plan.value f.set };
+}
+
+fn fits<A: Allocator>(plan: &Plan<A>, fact: &Fact) -> bool
+    ensures { IsTrue result ↔ (first_fact_fault plan.now fact.now ≡ None) }
+{
+    fact.check(plan).is_ok()
+}
+
+/// Whether each of the facts passes the plan's check, as `Facts::from_vec` asks.
+pub fn all_fit<A: Allocator>(plan: &Plan<A>, facts: &[Fact]) -> bool
+    ensures { IsTrue result ↔ All (λ f. first_fact_fault plan.now f ≡ None) facts.now }
+{
+    facts.iter().all(|fact| fits(plan, fact))
+}
+
+// The status of facts that fit the plan, and how many records there are.
+fn status_of_set<A: Allocator + Copy>(
+    plan: &Plan<A>,
+    set: &UnionSet<Fact, A>,
+) -> (FactStatus, usize)
+    requires { AreSound plan.now set.now }
+    ensures status { result.0 ≡ status_of plan.now.logs set.now }
+    ensures records { result.1 ≡ count is_record set.now }
+{
+    let _ordered = set.iter();
+    status_in(set, plan.logs())
+}
+
+// The history of a sealed set, within the limits of a history.
+fn history_of_set<A: Allocator + Copy>(
+    alloc: A,
+    plan: Arc<Plan<A>, A>,
+    set: &UnionSet<Fact, A>,
+    records: usize,
+) -> Result<History<A>, OutOfMemory>
+    requires sound { AreSound plan.value set.now }
+    requires sealed { status_of plan.value.logs set.now ≡ FactStatus.Sealed }
+    requires records { records ≡ count is_record set.now }
+    ensures { IfOk result (λ h. h ≡ record { plan = plan.value; events = hist set.now }) }
+{
+    let _ordered = set.iter();
+    let events = history_of(alloc, set, records, plan.logs())?;
+    Ok(History::new(plan, events))
+}
+
+impl<A: Allocator + Copy> Facts<A> {
+    /// No facts. It takes no memory.
+    pub fn empty(alloc: A, plan: Arc<Plan<A>, A>) -> Facts<A>
+        ensures { result ≡ record { plan = plan.value; facts = [] } }
+    {
+        Facts {
+            alloc,
+            plan,
+            set: UnionSet::empty(alloc),
+        }
+    }
+
+    /// What inserting each fact in turn leaves, by one sort and one pass: repeats count once.
+    pub fn from_vec(
+        alloc: A,
+        plan: Arc<Plan<A>, A>,
+        facts: Vec<Fact, A>,
+    ) -> Result<Facts<A>, OutOfMemory>
+        requires { All (λ f. first_fact_fault plan.value f ≡ None) facts.items }
+        ensures { IfOk result (λ all. all ≡ record { plan = plan.value; facts = inserted fact_ord.ghosts.cmp facts.items [] }) }
+    {
+        let set = UnionSet::from_ranked(alloc, facts)?;
+        Ok(Facts { alloc, plan, set })
+    }
+
+    /// The plan.
+    pub fn plan(&self) -> &Plan<A>
+        ensures { result.now ≡ self.now.plan }
+    {
+        &self.plan
+    }
+
+    /// The facts as a set.
+    pub fn set(&self) -> &UnionSet<Fact, A>
+        ensures set { result.now ≡ self.now.facts }
+        ensures sound { AreSound self.now.plan self.now.facts }
+        ensures ordered { AreOrdered self.now.facts }
+    {
+        let _ordered = self.set.iter();
+        &self.set
+    }
+
+    /// Puts the fact in. One that is there already takes no memory. A sealed set that gains a new fact is in conflict.
+    pub fn insert(&mut self, fact: &Fact) -> Result<(), OutOfMemory>
+        requires { first_fact_fault self.old.plan fact.now ≡ None }
+        ensures ok { OnOk result (self.new ≡ record { plan = self.old.plan; facts = with_item fact_ord.ghosts.cmp fact.now self.old.facts }) }
+        ensures err { OnErr result (self.new ≡ self.old) }
+        ensures grows { status_of self.old.plan.logs self.old.facts ≡ FactStatus.Sealed → has fact_ord.ghosts.cmp self.old.facts fact.now ≡ false → OnOk result (IsConflict (status_of self.new.plan.logs self.new.facts)) }
+    {
+        let _ordered = self.set.iter();
+        self.set.insert(*fact)?;
+        Ok(())
+    }
+
+    /// Takes in the facts of another set of an equal plan. A refused join leaves the set as it was.
+    pub fn join(&mut self, other: &Facts<A>) -> Result<(), OutOfMemory>
+        requires { self.old.plan ≡ other.now.plan }
+        ensures ok { OnOk result (self.new ≡ joined self.old other.now) }
+        ensures err { OnErr result (self.new ≡ self.old) }
+    {
+        let theirs = other.set();
+        self.set.join(theirs)?;
+        Ok(())
+    }
+
+    /// Whether both have equal plans and the same facts. It takes no memory.
+    pub fn same(&self, other: &Facts<A>) -> bool
+        ensures { IsTrue result ↔ (self.now ≡ other.now) }
+    {
+        self.plan.same(&other.plan) && self.set.same(&other.set)
+    }
+
+    /// The first that holds: a conflict, a log that waits, a gap, or sealed. It takes no memory and always answers. It
+    /// walks over the facts once, or once more where a stamp stands twice or a record stands past a count, and its tables
+    /// take 260 KiB of the stack.
+    pub fn status(&self) -> FactStatus
+        ensures { result ≡ status_of self.now.plan.logs self.now.facts }
+    {
+        status_of_set(&self.plan, &self.set).0
+    }
+
+    /// The facts with their history, exactly where they are sealed.
+    pub fn seal(&self) -> Result<Option<Arc<Sealed<A>, A>>, OutOfMemory>
+        ensures { IfOk result (λ o. MatchOption o (status_of self.now.plan.logs self.now.facts ≢ FactStatus.Sealed) (λ s. (s.value.facts ≡ self.now) × IsSealedWith self.now s.value.history)) }
+    {
+        let (status, records) = status_of_set(&self.plan, &self.set);
+        match status {
+            FactStatus::Sealed => {
+                let plan = Arc::try_clone(&self.plan)?;
+                let history = history_of_set(self.alloc, plan, &self.set, records)?;
+                let facts = self.dup()?;
+                let sealed = Arc::new(self.alloc, Sealed { facts, history })?;
+                Ok(Some(sealed))
+            }
+            FactStatus::Conflict(_, _, _) | FactStatus::Waiting(_) | FactStatus::Gap(_) => Ok(None),
+        }
+    }
+}
+
+/// A copy shares its source's plan and facts, so it costs the same at any size.
+impl<A: Allocator + Copy> Dup for Facts<A> {
+    fn dup(&self) -> Result<Facts<A>, OutOfMemory> {
+        let plan = Arc::try_clone(&self.plan)?;
+        let set = self.set.dup()?;
+        Ok(Facts {
+            alloc: self.alloc,
+            plan,
+            set,
+        })
+    }
+}

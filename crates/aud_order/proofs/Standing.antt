@@ -1,0 +1,239 @@
+-- Where a cursor stands, by the definition.
+use Rattle.std.specs.Prelude.{◌≡◌, ◌↔◌, ℕ, zero, suc, ◌+◌, ◌-◌, ◌<◌, ◌≤◌, Bool, true, false, not, ◌&&◌, ◌||◌, if◌then◌else◌, nat_eq, nat_lt, min, List, [], ◌∷◌, ◌++◌, map, length, replicate, Option, Some, None, Result, Ok, Err, MatchOption, slice_get, slice_index_or, refl}
+use Rattle.std.specs.List.{list_any, position, position_or_len}
+use Rattle.std.specs.Option.{unwrap_or}
+use Rattle.std.proofs.Common.{sym, ◌∙◌, ap, subst, cond, inl, inr, arith, get_or, take, ◌⊎◌}
+use Rattle.std.proofs.Math.ListN.{length-map}
+use Rattle.std.proofs.lemmas.Bool.Decides.{nat_tests}
+use Rattle.std.proofs.lemmas.List.Quantifiers.{position-Some}
+use Rattle.aud_event.specs.Meanings.{Declared, PlanOf}
+use Rattle.aud_event.proofs.Bools.{split, is_false, nat_eq-is, same_bools}
+use Rattle.aud_object.specs.Objects.{opening_of}
+use Rattle.aud_history.specs.Histories.{History, is_in}
+use Rattle.aud_history.specs.WellFormed.{IsWellFormed}
+use Rattle.aud_history.specs.FirstFault.{IsWithinLimits}
+use Rattle.aud_history.specs.Table.{RowOf, transactions, first_stamp, row_of, table_of}
+use Rattle.aud_history.proofs.Tables.{any-transactions}
+use Rattle.aud_witness.specs.declared.decision.Decision.{Decision}
+use Rattle.aud_witness.specs.declared.fault.OrderFault.{OrderFault}
+use Rattle.aud_witness.specs.declared.fault.OrderFault.TheVariants.{UnknownTx, Twice, FateNotAllowed, RealTime, Illegal, Missing}
+use Rattle.aud_witness.specs.Orders.{is_named, IsGood, IsGoodNext}
+use Rattle.aud_witness.specs.OrderFaults.{is_enabled, place_fault}
+use Rattle.aud_witness.specs.Agendas.{AgendaOf}
+use Rattle.aud_witness.specs.Spots.{Spot, first_spot, stepped, are_earlier_placed}
+use Rattle.aud_witness.specs.Placings.{PlacingOf, Advances, GoesBack}
+use Rattle.aud_witness.proofs.Good.{IsGood-empty, IsGood-push, place_of}
+use Rattle.aud_witness.proofs.Faults.{IsGoodNext-from_no_fault, no_fault-from_IsGoodNext}
+use Rattle.aud_witness.proofs.Bridge.{tx-rows, row-at, named-at, enabled-by_rows}
+use Rattle.aud_witness.proofs.BridgeSteps.{Stands, Stands-root, Told, stepped-told, fit-from_plan}
+use Rattle.aud_order.specs.Shapes.{ShapeOf, plan_of, objects_of, history_of}
+use Rattle.aud_order.specs.declared.pushed.Pushed.{Pushed}
+use Rattle.aud_order.specs.declared.pushed.Pushed.TheVariants as told
+use Rattle.aud_order.specs.Cursors.{Leads, ArePlaced, IsAt, pushed_by_fault}
+use Rattle.aud_order.proofs.Opens.{placed-before}
+use Rattle.aud_order.proofs.Lists.{length-push, push-parts, take-push}
+use Rattle.aud_order.proofs.KidLemmas.{in-transactions}
+
+-- what is told of one more decision
+pub told-next : (plan : PlanOf) (h : History) (p : List Decision) (s : Spot) (d : Decision) → IsWellFormed h → IsWithinLimits plan h → Stands plan.objects h p s →
+    Told plan.objects h p d (stepped (table_of h) s d)
+told-next plan h p s d fine fits stands = stepped-told plan.objects h p s d fine (fit-from_plan plan d.tx h fits.1) stands
+
+-- the decisions that lead somewhere are good, and they lead where the definition says
+pub standing : (plan : PlanOf) (h : History) (path : List Decision) (s : Spot) (past : List Spot) → IsWellFormed h → IsWithinLimits plan h →
+    Leads (table_of h) (first_spot (table_of h) plan.objects) path s past → IsGood plan.objects h path × Stands plan.objects h path s
+standing plan h path s [] fine fits leads =
+    let at_root : Stands plan.objects h [] s = subst (λ (x : Spot). Stands plan.objects h [] x) (sym leads.1) (Stands-root plan.objects h) in (
+      subst (λ l. IsGood plan.objects h l) (sym leads.0) (IsGood-empty plan.objects h),
+      subst (λ l. Stands plan.objects h l s) (sym leads.0) at_root,
+    )
+standing plan h path s (t ∷ past) fine fits (p, (d, (is, step, leads))) =
+    let before = standing plan h p t past fine fits leads in
+    let told : Told plan.objects h p d (Ok s) = subst (λ r. Told plan.objects h p d r) step (told-next plan h p t d fine fits before.1) in (
+      subst (λ l. IsGood plan.objects h l) (sym is) (IsGood-push plan.objects h p d before.0 (IsGoodNext-from_no_fault plan.objects h p d told.0)),
+      subst (λ l. Stands plan.objects h l s) (sym is) told.1,
+    )
+
+pub good-at : (shape : ShapeOf) (p : PlacingOf) (k : ℕ) → IsAt shape p k → IsGood (objects_of shape) (history_of shape) p.path
+good-at shape p k at = (standing (plan_of shape) (history_of shape) p.path p.spot p.past at.fine at.fits at.leads).0
+
+pub stands-at : (shape : ShapeOf) (p : PlacingOf) (k : ℕ) → IsAt shape p k → Stands (objects_of shape) (history_of shape) p.path p.spot
+stands-at shape p k at = (standing (plan_of shape) (history_of shape) p.path p.spot p.past at.fine at.fits at.leads).1
+
+pub told-at : (shape : ShapeOf) (p : PlacingOf) (k : ℕ) (d : Decision) → IsAt shape p k →
+    Told (objects_of shape) (history_of shape) p.path d (stepped (table_of (history_of shape)) p.spot d)
+told-at shape p k d at = told-next (plan_of shape) (history_of shape) p.path p.spot d at.fine at.fits (stands-at shape p k at)
+
+-- # One decision
+
+pub fault-ok : (shape : ShapeOf) (p new : PlacingOf) (k : ℕ) (d : Decision) → IsAt shape p k → Advances p d new (stepped p.agenda.rows p.spot d) →
+    place_fault (objects_of shape) (history_of shape) p.path d ≡ None
+fault-ok shape p new k d at advances =
+    let led : stepped (table_of (history_of shape)) p.spot d ≡ Ok new.spot = subst (λ rows. stepped rows p.spot d ≡ Ok new.spot) at.rows advances.spot in
+    let told : Told (objects_of shape) (history_of shape) p.path d (Ok new.spot) = subst (λ r. Told (objects_of shape) (history_of shape) p.path d r) led (told-at shape p k d at) in
+    told.0
+
+pub fault-err : (shape : ShapeOf) (p : PlacingOf) (k : ℕ) (d : Decision) (fault : OrderFault) → IsAt shape p k → stepped p.agenda.rows p.spot d ≡ Err fault →
+    place_fault (objects_of shape) (history_of shape) p.path d ≡ Some fault
+fault-err shape p k d fault at is =
+    let led : stepped (table_of (history_of shape)) p.spot d ≡ Err fault = subst (λ rows. stepped rows p.spot d ≡ Err fault) at.rows is in
+    subst (λ r. Told (objects_of shape) (history_of shape) p.path d r) led (told-at shape p k d at)
+
+-- # What is placed
+
+keys : (h : History) → map (λ (r : RowOf). r.tx) (table_of h) ≡ transactions h
+keys h = tx-rows h (transactions h)
+
+lt-any : (q : ℕ → Bool) (ts : List ℕ) → nat_lt (position_or_len q ts) (length ts) ≡ list_any q ts
+lt-any q [] = grind (arith, nat_tests)
+lt-any q (t ∷ ts) =
+    elim (q t) as (λ k. nat_lt (cond (not k) (1 + position_or_len q ts) 0) (suc (length ts)) ≡ (k || list_any q ts)) [
+      | true ↦ grind (arith, nat_tests)
+      | false ↦ (let down : nat_lt (1 + position_or_len q ts) (suc (length ts)) ≡ nat_lt (position_or_len q ts) (length ts) = grind (arith, nat_tests) in down) ∙ lt-any q ts
+    ]
+
+absent-from_position : (q : ℕ → Bool) (ts : List ℕ) → position q ts ≡ None → list_any q ts ≡ false
+absent-from_position q ts none = sym (lt-any q ts) ∙ by_test (nat_lt (position_or_len q ts) (length ts)) none
+  where
+    by_test : (k : Bool) → cond k (Some (position_or_len q ts)) None ≡ None → k ≡ false
+    by_test true e = cc
+    by_test false e = refl
+
+pub has-row : (shape : ShapeOf) (p : PlacingOf) (k i t : ℕ) → IsAt shape p k → position (nat_eq t) (map (λ (r : RowOf). r.tx) (table_of (history_of shape))) ≡ Some i →
+    slice_index_or p.spot.placed i false ≡ is_named p.path t
+has-row shape p k i t at found =
+    let h = history_of shape in
+    let place = position-Some (nat_eq t) (transactions h) i 0 (ap (position (nat_eq t)) (sym (keys h)) ∙ found) in
+    let is : get_or (transactions h) i 0 ≡ t = sym (nat_eq-is t (get_or (transactions h) i 0) place.1) in
+    ap (λ l. get_or l i false) (stands-at shape p k at).placed ∙ named-at (is_named p.path) (transactions h) i 0 place.0 ∙ ap (is_named p.path) is
+
+pub has-none : (shape : ShapeOf) (p : PlacingOf) (k t : ℕ) → IsAt shape p k → position (nat_eq t) (map (λ (r : RowOf). r.tx) (table_of (history_of shape))) ≡ None → is_named p.path t ≡ false
+has-none shape p k t at none =
+    let h = history_of shape in
+    let absent : is_in h t ≡ false = sym (any-transactions h t) ∙ absent-from_position (nat_eq t) (transactions h) (ap (position (nat_eq t)) (sym (keys h)) ∙ none) in
+    is_false (is_named p.path t) (λ named.
+    let (a, (d, (b, (is, same, _)))) = place_of p.path t named in
+    let there : is_in h t ≡ true = subst (λ n. is_in h n ≡ true) same (good-at shape p k at a d b is).in_history in
+    cc)
+
+-- the row at a place
+pub row-there : (h : History) (k : ℕ) → k < length (table_of h) → slice_get (table_of h) k ≡ Some (row_of h (get_or (transactions h) k 0))
+row-there h k inside = row-at h (transactions h) k 0 (subst (λ n. k < n) (length-map (transactions h) (row_of h)) inside)
+
+pub placed-there : (shape : ShapeOf) (p : PlacingOf) (k i : ℕ) → IsAt shape p k → i < length (table_of (history_of shape)) →
+    slice_index_or p.spot.placed i false ≡ is_named p.path (get_or (transactions (history_of shape)) i 0)
+placed-there shape p k i at inside =
+    let h = history_of shape in
+    ap (λ l. get_or l i false) (stands-at shape p k at).placed ∙ named-at (is_named p.path) (transactions h) i 0 (subst (λ n. i < n) (length-map (transactions h) (row_of h)) inside)
+
+pub enabled-there : (shape : ShapeOf) (p : PlacingOf) (k i : ℕ) → IsAt shape p k → i < length (table_of (history_of shape)) →
+    are_earlier_placed p.agenda.rows p.spot.placed (first_stamp (history_of shape) (get_or (transactions (history_of shape)) i 0)) ≡ is_enabled (history_of shape) p.path (get_or (transactions (history_of shape)) i 0)
+enabled-there shape p k i at inside =
+    let h = history_of shape in
+    let t = get_or (transactions h) i 0 in
+    ap (λ rows. are_earlier_placed rows p.spot.placed (first_stamp h t)) at.rows
+    ∙ ap (λ l. are_earlier_placed (table_of h) l (first_stamp h t)) (stands-at shape p k at).placed
+    ∙ enabled-by_rows h p.path t (in-transactions h i 0 (subst (λ n. i < n) (length-map (transactions h) (row_of h)) inside))
+
+abbrev TellsReady : History → List Decision → Option RowOf → Bool → Type 0
+TellsReady h path o b = MatchOption o ⊥ (λ row. b ≡ (not (is_named path row.tx) && is_enabled h path row.tx))
+
+pub ready-not : (shape : ShapeOf) (p : PlacingOf) (k i : ℕ) → IsAt shape p k → i < length (table_of (history_of shape)) → true ≡ slice_index_or p.spot.placed i false →
+    TellsReady (history_of shape) p.path (slice_get (table_of (history_of shape)) i) false
+ready-not shape p k i at inside placed =
+    let h = history_of shape in
+    let t = get_or (transactions h) i 0 in
+    subst (λ o. TellsReady h p.path o false) (sym (row-there h i inside))
+    (ap (λ b. not b && is_enabled h p.path t) (placed ∙ placed-there shape p k i at inside))
+
+got : (rows : List RowOf) (i : ℕ) (d x : RowOf) → slice_get rows i ≡ Some x → get_or rows i d ≡ x
+got [] i d x at = absurd (cc)
+got (y ∷ rows) zero d x at = cc
+got (y ∷ rows) (suc i) d x at = got rows i d x at
+
+pub enabled-by : (shape : ShapeOf) (p : PlacingOf) (k i first : ℕ) (b : Bool) (r : RowOf) → IsAt shape p k → i < length (table_of (history_of shape)) →
+    r ≡ slice_index_or (table_of (history_of shape)) i r → first ≡ r.first → b ≡ are_earlier_placed p.agenda.rows p.spot.placed first → b ≡ is_enabled (history_of shape) p.path (get_or (transactions (history_of shape)) i 0)
+enabled-by shape p k i first b r at inside is begins test =
+    let h = history_of shape in
+    let row : r ≡ row_of h (get_or (transactions h) i 0) = is ∙ got (table_of h) i r (row_of h (get_or (transactions h) i 0)) (row-there h i inside) in
+    test ∙ ap (are_earlier_placed p.agenda.rows p.spot.placed) (begins ∙ ap (λ (x : RowOf). x.first) row) ∙ enabled-there shape p k i at inside
+
+pub ready-by : (shape : ShapeOf) (p : PlacingOf) (k i first : ℕ) (b : Bool) (r : RowOf) → IsAt shape p k → i < length (table_of (history_of shape)) → slice_index_or p.spot.placed i false ≡ false →
+    r ≡ slice_index_or (table_of (history_of shape)) i r → first ≡ r.first → b ≡ are_earlier_placed p.agenda.rows p.spot.placed first → TellsReady (history_of shape) p.path (slice_get (table_of (history_of shape)) i) b
+ready-by shape p k i first b r at inside fresh is begins test =
+    let h = history_of shape in
+    let t = get_or (transactions h) i 0 in
+    let row : r ≡ row_of h t = is ∙ got (table_of h) i r (row_of h t) (row-there h i inside) in
+    let stamp : first ≡ first_stamp h t = begins ∙ ap (λ (x : RowOf). x.first) row in
+    let new : is_named p.path t ≡ false = sym (placed-there shape p k i at inside) ∙ fresh in
+    subst (λ o. TellsReady h p.path o b) (sym (row-there h i inside))
+    (test ∙ ap (are_earlier_placed p.agenda.rows p.spot.placed) stamp ∙ enabled-there shape p k i at inside ∙ ap (λ c. not c && is_enabled h p.path t) (sym new))
+
+-- # One decision back
+
+pub back-at : (shape : ShapeOf) (p new : PlacingOf) (count : ℕ) (d : Decision) (q : List Decision) (o : Option ℕ) → IsAt shape p count → GoesBack p new → p.path ≡ q ++ d ∷ [] →
+    o ≡ position (nat_eq d.tx) (map (λ (r : RowOf). r.tx) (table_of (history_of shape))) → IsAt shape new (min count (unwrap_or o 0))
+back-at shape p new count d q o at back is place =
+    let leads : Leads (table_of (history_of shape)) (first_spot (table_of (history_of shape)) (objects_of shape)) p.path p.spot (new.spot ∷ new.past) =
+    subst (λ l. Leads (table_of (history_of shape)) (first_spot (table_of (history_of shape)) (objects_of shape)) p.path p.spot l) back.past at.leads in
+    let (r, (e, (grown, step, rest))) = leads in
+    let parts = push-parts r q e d (sym grown ∙ is) in
+    let front : new.path ≡ r = back.path ∙ ap (λ l. take (length l - 1) l) grown ∙ take-push r e in
+    record {
+      fine = at.fine;
+      fits = at.fits;
+      rows = ap (λ (a : AgendaOf). a.rows) back.agenda ∙ at.rows;
+      leads = subst (λ l. Leads (table_of (history_of shape)) (first_spot (table_of (history_of shape)) (objects_of shape)) l new.spot new.past) (sym front) rest;
+      opens = by_place o refl parts.1 step;
+    }
+  where
+    by_place : (x : Option ℕ) → o ≡ x → {e : Decision} → e ≡ d → stepped (table_of (history_of shape)) new.spot e ≡ Ok p.spot → ArePlaced new.spot.placed (min count (unwrap_or o 0))
+    by_place None none same step = λ j below.
+        let nothing : unwrap_or o 0 ≡ 0 = ap (λ y. unwrap_or y 0) none in
+        absurd (omega arith)
+    by_place (Some i) some {e} same step =
+        let low : ArePlaced new.spot.placed (min count i) =
+        placed-before (table_of (history_of shape)) new.spot p.spot d count i (subst (λ (x : Decision). stepped (table_of (history_of shape)) new.spot x ≡ Ok p.spot) same step) (sym place ∙ some) at.opens in
+        subst (λ n. ArePlaced new.spot.placed (min count n)) (sym (ap (λ y. unwrap_or y 0) some)) low
+
+-- # What is told
+
+pub good-told : (objects : List Declared) (h : History) (p : List Decision) (d : Decision) → place_fault objects h p d ≡ None → (told.Good ≡ told.Good) ↔ IsGoodNext objects h p d
+good-told objects h p d none = ((λ _. IsGoodNext-from_no_fault objects h p d none), (λ _. refl))
+
+told-bad : (fault : OrderFault) → pushed_by_fault fault ≡ told.Good → ⊥
+told-bad (UnknownTx _) is = cc
+told-bad (Twice _) is = cc
+told-bad (FateNotAllowed _) is = cc
+told-bad (RealTime _) is = cc
+told-bad (Illegal _) is = cc
+told-bad (Missing _) is = cc
+
+pub bad-told : (objects : List Declared) (h : History) (p : List Decision) (d : Decision) (fault : OrderFault) (pushed : Pushed) → pushed ≡ pushed_by_fault fault → place_fault objects h p d ≡ Some fault →
+    (pushed ≡ told.Good) ↔ IsGoodNext objects h p d
+bad-told objects h p d fault pushed is some = (
+  (λ good. absurd (told-bad fault (sym is ∙ good))),
+  (λ next. let none : place_fault objects h p d ≡ None = no_fault-from_IsGoodNext objects h p d next in absurd (cc)),
+)
+
+-- # The last decision
+
+last-split : (path : List Decision) (d : Decision) → slice_get path (length path - 1) ≡ Some d → (q : List Decision) × (path ≡ q ++ d ∷ [])
+last-split [] d at = absurd (cc)
+last-split (x ∷ []) d at = let same : x ≡ d = cc in ([], ap (λ (y : Decision). y ∷ []) same)
+last-split (x ∷ y ∷ path) d at =
+    let down : length (x ∷ y ∷ path) - 1 ≡ suc (length (y ∷ path) - 1) = omega arith in
+    let rest : slice_get (y ∷ path) (length (y ∷ path) - 1) ≡ Some d = sym (ap (slice_get (x ∷ y ∷ path)) down) ∙ at in
+    let (q, is) = last-split (y ∷ path) d rest in
+    (x ∷ q, ap (λ l. x ∷ l) is)
+
+pub pop-at : (shape : ShapeOf) (p new : PlacingOf) (count : ℕ) (d : Decision) (o : Option ℕ) (b : Bool) → IsAt shape p count →
+    (b ≡ false → (p.path ≡ []) × (new ≡ p)) → (b ≡ true → GoesBack p new) → slice_get p.path (length p.path - 1) ≡ Some d →
+    o ≡ position (nat_eq d.tx) (map (λ (r : RowOf). r.tx) (table_of (history_of shape))) → IsAt shape new (min count (unwrap_or o 0))
+pop-at shape p new count d o true at root back last place =
+    let (q, is) = last-split p.path d last in back-at shape p new count d q o at (back refl) is place
+pop-at shape p new count d o false at root back last place =
+    let (q, is) = last-split p.path d last in
+    let long : length p.path ≡ length q + 1 = ap length is ∙ length-push q d in
+    let short : length p.path ≡ 0 = ap length (root refl).0 in
+    absurd (omega arith)

@@ -1,0 +1,7 @@
+use Rattle.std.specs.Prelude.{◌≡◌, true, false, slice_index_or}
+use Rattle.std.proofs.Common.{sym, ◌∙◌}
+use Rattle.aud_order.proofs.Opens.{placed-more}
+use Rattle.aud_order.proofs.cursor.open_from.Goals as goal
+
+pub loop-open-preserved : goal.loop-open-preserved
+loop-open-preserved g c = placed-more c.args.placing.now.spot.placed c.loop-open.open c.loop-open.invariant (sym c.has_row.ensures ∙ c.if-has_row.true)

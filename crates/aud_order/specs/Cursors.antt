@@ -1,0 +1,50 @@
+-- A cursor over the good lists of decisions.
+use Rattle.std.specs.Prelude.{◌≡◌, ℕ, ◌<◌, ◌≤◌, Bool, true, false, List, [], ◌∷◌, ◌++◌, length, Option, Some, None, Result, Ok, slice_index_or}
+use Rattle.aud_history.specs.WellFormed.{IsWellFormed}
+use Rattle.aud_history.specs.FirstFault.{IsWithinLimits}
+use Rattle.aud_history.specs.Table.{RowOf, table_of}
+use Rattle.aud_witness.specs.declared.decision.Decision.{Decision}
+use Rattle.aud_witness.specs.declared.fault.OrderFault.{OrderFault}
+use Rattle.aud_witness.specs.declared.fault.OrderFault.TheVariants.{UnknownTx, Twice, FateNotAllowed, RealTime, Illegal, Missing}
+use Rattle.aud_witness.specs.Spots.{Spot, first_spot, stepped}
+use Rattle.aud_witness.specs.Placings.{PlacingOf}
+use Rattle.aud_order.specs.declared.pushed.Pushed.{Pushed}
+use Rattle.aud_order.specs.declared.pushed.Pushed.TheVariants as told
+use Rattle.aud_order.specs.Shapes.{ShapeOf, plan_of, objects_of, history_of}
+
+-- how contracts see a cursor
+pub record CursorOf : Type 0 where
+  pub shape : ShapeOf
+  pub path : List Decision
+
+-- what a cursor tells of a decision in which something is wrong
+abbrev pub pushed_by_fault : OrderFault → Pushed
+pushed_by_fault (UnknownTx _) = told.NotAChoice
+pushed_by_fault (Twice _) = told.NotAChoice
+pushed_by_fault (FateNotAllowed _) = told.NotAChoice
+pushed_by_fault (RealTime _) = told.NotEnabled
+pushed_by_fault (Illegal _) = told.Illegal
+pushed_by_fault (Missing _) = told.NotAChoice
+
+-- what a cursor tells of a decision, by what is wrong with it
+abbrev pub pushed_by : Option OrderFault → Pushed
+pushed_by None = told.Good
+pushed_by (Some fault) = pushed_by_fault fault
+
+-- the decisions lead from the first spot to a spot, over the spots behind it, the last one first
+abbrev pub Leads : List RowOf → Spot → List Decision → Spot → List Spot → Type 0
+Leads rows root path s [] = (path ≡ []) × (s ≡ root)
+Leads rows root path s (t ∷ past) =
+    (p : List Decision) × ((d : Decision) × ((path ≡ p ++ d ∷ []) × (stepped rows t d ≡ Ok s) × Leads rows root p t past))
+
+-- the rows up to a place are placed
+abbrev pub ArePlaced : List Bool → ℕ → Type 0
+ArePlaced placed count = (k : ℕ) → k < count → slice_index_or placed k false ≡ true
+
+-- a cursor over the shape stands where its decisions led
+pub record IsAt (shape : ShapeOf) (p : PlacingOf) (first_open : ℕ) : Type 0 where
+  pub fine : IsWellFormed (history_of shape)
+  pub fits : IsWithinLimits (plan_of shape) (history_of shape)
+  pub rows : p.agenda.rows ≡ table_of (history_of shape)
+  pub leads : Leads (table_of (history_of shape)) (first_spot (table_of (history_of shape)) (objects_of shape)) p.path p.spot p.past
+  pub opens : ArePlaced p.spot.placed first_open

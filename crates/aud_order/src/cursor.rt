@@ -1,0 +1,228 @@
+//! A cursor over the good lists of decisions of a history.
+
+ghost use Rattle.std.specs.Prelude.{◌≡◌, ◌≢◌, ◌↔◌, ◌<◌, ◌≤◌, ◌-◌, ◌++◌, ◌&&◌, [], ◌∷◌, not, true, false, length, take, map, filter, IsTrue, IfOk, OnOk, OnErr, MatchOption, slice_get, slice_index_or};
+ghost use Rattle.aud_object.specs.Objects.{opening_of};
+ghost use Rattle.aud_object.specs.Executions.{states_after};
+ghost use Rattle.aud_history.specs.Table.{table_of, transactions};
+ghost use Rattle.aud_witness.specs.Orders.{is_named, kept, IsFull, IsGood, IsGoodNext};
+ghost use Rattle.aud_witness.specs.OrderFaults.{is_enabled, place_fault, is_good_next};
+ghost use Rattle.aud_order.specs.Shapes.{objects_of, history_of};
+ghost use Rattle.aud_order.specs.Cursors.{pushed_by, ArePlaced};
+ghost use Rattle.aud_order.specs.Kids.{AreKids, goods};
+
+use crate::pushed::Pushed;
+use crate::shape::Shape;
+use aud_event::OutOfMemory;
+use aud_object::Store;
+use aud_witness::{Decision, Fate, Placing};
+use std::alloc::{Allocator, Global};
+use std::marker::Model;
+
+/// A good list of decisions of a history, with the states of all objects after what is kept of it.
+///
+/// A step forward costs what the block of its transaction touches, and so does a step back.
+#[derive(Drop)]
+pub struct Cursor<'a, A: Allocator + Copy = Global> {
+    shape: &'a Shape<A>,
+    placing: Placing<'a, A>,
+    first_open: usize,
+}
+
+impl<'a, A: Allocator + Copy> Model for Cursor<'a, A> {
+    ghost use Rattle.aud_order.specs.Cursors.{CursorOf, IsAt};
+
+    ghost Value = { CursorOf };
+
+    ghost view = { λ c. record { shape = c.shape.now; path = c.placing.path } };
+
+    ghost invariant = { λ c. IsAt c.shape.now c.placing c.first_open };
+}
+
+/// How many rows are placed from the first one on, where the first `from` are.
+fn open_from<A: Allocator + Copy>(placing: &Placing<A>, from: usize, count: usize) -> usize
+    requires { ArePlaced placing.now.spot.placed from }
+    ensures { ArePlaced placing.now.spot.placed result }
+{
+    let mut open = from;
+    while open < count && placing.has_row(open) {
+        open += 1;
+    }
+    open
+}
+
+impl<'a, A: Allocator + Copy> Cursor<'a, A> {
+    /// A cursor at the empty list.
+    pub fn root(alloc: A, shape: &'a Shape<A>) -> Result<Cursor<'a, A>, OutOfMemory>
+        ensures { IfOk result (λ cursor. cursor ≡ record { shape = shape.entry.now; path = [] }) }
+    {
+        let placing = Placing::root(alloc, shape.plan(), shape.agenda())?;
+        let _ = shape.history();
+        Ok(Cursor {
+            shape,
+            placing,
+            first_open: 0,
+        })
+    }
+
+    /// The decisions placed so far, in their order: they are good.
+    pub fn prefix(&self) -> &[Decision]
+        ensures prefix { result.now ≡ self.now.path }
+        ensures good { IsGood (objects_of self.now.shape) (history_of self.now.shape) self.now.path }
+    {
+        self.placing.path()
+    }
+
+    /// The states of all objects after the blocks with fate C.
+    pub fn store(&self) -> &Store<A>
+        ensures { result.now.now ≡ states_after (map opening_of (objects_of self.now.shape)) (kept (history_of self.now.shape) self.now.path) }
+    {
+        self.placing.store()
+    }
+
+    /// Whether the transaction is placed.
+    pub fn has(&self, tx: u32) -> bool
+        ensures { result ≡ is_named self.now.path tx }
+    {
+        match self.shape.table().place(tx) {
+            Some(place) => self.placing.has_row(place),
+            None => false,
+        }
+    }
+
+    /// Whether every transaction of the history is placed.
+    pub fn full(&self) -> bool
+        ensures { IsTrue result ↔ IsFull (history_of self.now.shape) self.now.path }
+    {
+        self.placing.path().len() == self.shape.table().rows().len()
+    }
+
+    /// Whether the transaction of the row at the place is not placed, and all that ended before it began are. It does not
+    /// look at the transaction's block.
+    pub fn is_ready(&self, place: usize) -> bool
+        requires { place < length (table_of (history_of self.now.shape)) }
+        ensures { MatchOption (slice_get (table_of (history_of self.now.shape)) place) ⊥ (λ row. result ≡ (not (is_named self.now.path row.tx) && is_enabled (history_of self.now.shape) self.now.path row.tx)) }
+    {
+        if self.placing.has_row(place) {
+            return false;
+        }
+        self.placing
+            .are_earlier_placed(self.shape.table().rows()[place].first())
+    }
+
+    /// Places a decision behind the others if it is good there, or tells the first thing that is wrong with it. Only where
+    /// it is good the cursor changes.
+    pub fn push(&mut self, decision: Decision) -> Result<Pushed, OutOfMemory>
+        ensures told { IfOk result (λ pushed. pushed ≡ pushed_by (place_fault (objects_of self.old.shape) (history_of self.old.shape) self.old.path decision)) }
+        ensures good { IfOk result (λ pushed. (pushed ≡ Pushed.Good) ↔ IsGoodNext (objects_of self.old.shape) (history_of self.old.shape) self.old.path decision) }
+        ensures goes { IfOk result (λ pushed. pushed ≡ Pushed.Good → self.new ≡ record { shape = self.old.shape; path = self.old.path ++ decision ∷ [] }) }
+        ensures stays { IfOk result (λ pushed. pushed ≢ Pushed.Good → self.new ≡ self.old) }
+        ensures refused { OnErr result (self.new ≡ self.old) }
+    {
+        let count = self.shape.table().rows().len();
+        match self.placing.place(decision)? {
+            Ok(()) => {
+                self.first_open = open_from(&self.placing, self.first_open, count);
+                Ok(Pushed::Good)
+            }
+            Err(fault) => Ok(Pushed::of_fault(fault)),
+        }
+    }
+
+    /// Takes the last decision back; at the empty list it changes nothing and answers false. It takes no memory.
+    pub fn pop(&mut self) -> bool
+        ensures root { result ≡ false → (self.old.path ≡ []) × (self.new ≡ self.old) }
+        ensures back { result ≡ true → (self.old.path ≢ []) × (self.new ≡ record { shape = self.old.shape; path = take (length self.old.path - 1) self.old.path }) }
+    {
+        let Some(last) = self.placing.path().last().copied() else {
+            return false;
+        };
+        let place = self.shape.table().place(last.tx).unwrap_or(0);
+        let _ = self.placing.take_back();
+        self.first_open = self.first_open.min(place);
+        true
+    }
+
+    /// Whether the decision is good there. The cursor stays as it is.
+    fn is_good(&mut self, decision: Decision) -> Result<bool, OutOfMemory>
+        ensures good { IfOk result (λ good. good ≡ is_good_next (objects_of self.old.shape) (history_of self.old.shape) self.old.path decision) }
+        ensures stays { self.new ≡ self.old }
+    {
+        match self.placing.place(decision)? {
+            Ok(()) => {
+                let _ = self.placing.take_back();
+                Ok(true)
+            }
+            Err(_) => Ok(false),
+        }
+    }
+
+    /// Adds the decision if it is good there. The cursor stays as it is.
+    fn add_kid(
+        &mut self,
+        kids: &mut Vec<Decision, A>,
+        decision: Decision,
+    ) -> Result<(), OutOfMemory>
+        ensures added { OnOk result (kids.new.items ≡ kids.old.items ++ filter (is_good_next (objects_of self.old.shape) (history_of self.old.shape) self.old.path) (decision ∷ [])) }
+        ensures stays { self.new ≡ self.old }
+    {
+        if self.is_good(decision)? {
+            kids.push(decision)?;
+        }
+        Ok(())
+    }
+
+    /// Adds the decisions on the transaction of the row at the place that are good there.
+    fn add_row(
+        &mut self,
+        kids: &mut Vec<Decision, A>,
+        place: usize,
+        tx: u32,
+    ) -> Result<(), OutOfMemory>
+        requires inside { place < length (table_of (history_of self.old.shape)) }
+        requires row { tx ≡ slice_index_or (transactions (history_of self.old.shape)) place 0 }
+        ensures added { OnOk result (kids.new.items ≡ kids.old.items ++ goods (objects_of self.old.shape) (history_of self.old.shape) self.old.path (tx ∷ [])) }
+        ensures stays { self.new ≡ self.old }
+    {
+        if self.placing.has_row(place) {
+            return Ok(());
+        }
+        let commit = Decision { tx, fate: Fate::C };
+        self.add_kid(kids, commit)?;
+        let abort = Decision { tx, fate: Fate::A };
+        self.add_kid(kids, abort)?;
+        Ok(())
+    }
+
+    /// Whether all that ended before the transaction of the row at the place began are placed.
+    fn is_enabled(&self, place: usize) -> bool
+        requires { place < length (table_of (history_of self.now.shape)) }
+        ensures { result ≡ is_enabled (history_of self.now.shape) self.now.path (slice_index_or (transactions (history_of self.now.shape)) place 0) }
+    {
+        let row = &self.shape.table().rows()[place];
+        self.placing.are_earlier_placed(row.first())
+    }
+
+    /// The first row that may be not placed.
+    fn first_open(&self) -> usize
+        ensures { goods (objects_of self.now.shape) (history_of self.now.shape) self.now.path (take result (transactions (history_of self.now.shape))) ≡ [] }
+    {
+        self.first_open
+    }
+
+    /// The decisions that are good there, the least first. It costs what the blocks of the transactions cost that are
+    /// ready, and looks at no row behind the first that began too late. The cursor stays as it is.
+    pub fn kids(&mut self, alloc: A) -> Result<Vec<Decision, A>, OutOfMemory>
+        ensures kids { IfOk result (λ kids. AreKids (objects_of self.old.shape) (history_of self.old.shape) self.old.path kids.items) }
+        ensures stays { self.new ≡ self.old }
+    {
+        let rows = self.shape.table().rows();
+        let mut kids = Vec::new(alloc);
+        let mut place = self.first_open();
+        'rows: while place < rows.len() && self.is_enabled(place) {
+            self.add_row(&mut kids, place, rows[place].tx())?;
+            place += 1;
+        }
+        kids.sort()?;
+        Ok(kids)
+    }
+}

@@ -1,0 +1,196 @@
+//! What a run says, and the one line that says it.
+
+ghost use Rattle.std.specs.Prelude.{◌≡◌, ◌++◌, ℕ, List, OnOk, IfOk, codes, decimal, Option, option_map};
+ghost use Rattle.aud_report.specs.Lines.{fault_text, inner_text, words_of, line_of};
+
+use aud_event::OutOfMemory;
+use aud_facts::Kind;
+use aud_history::Rule;
+use aud_text::{PlanTextFault, TextFault, write_order};
+use aud_witness::{OrderFault, Prefix};
+use itoa::{Buffer, Integer};
+use std::alloc::{Allocator, Global};
+
+/// What a run says of its input. Each has one line.
+#[derive(Debug, Drop)]
+pub enum Said {
+    /// The order shows the history opaque.
+    Opaque(Prefix),
+    /// No order does.
+    NotOpaque,
+    /// The search ended before it knew.
+    Unfinished,
+    /// Two facts contradict each other: the kind of the conflict, with its log and its place there.
+    Conflict(Kind, u32, u32),
+    /// The log has no end mark, or fewer records than that says.
+    Waiting(u32),
+    /// No record has the stamp.
+    Gap(u32),
+    /// The history stops being well-formed: the rule that is broken, and the stamp of the event that breaks it.
+    IllFormed(Rule, u32),
+    /// The order does not show the history.
+    OrderRefused(OrderFault),
+    /// The text of the order is none.
+    OrderTextRefused(TextFault),
+    /// The input does not begin with a plan.
+    PlanRefused(PlanTextFault),
+    /// A line behind the plan is no record or end mark. Lines are counted over the whole input, from 1.
+    RecordRefused(usize, TextFault),
+}
+
+fn push_words<A: Allocator>(text: &mut Vec<u8, A>, words: &str) -> Result<(), OutOfMemory>
+    ensures { OnOk result (text.new.items ≡ text.old.items ++ words.now) }
+{
+    text.extend_from_slice(words.as_bytes())?;
+    Ok(())
+}
+
+fn push_number<A: Allocator, I: Integer>(
+    text: &mut Vec<u8, A>,
+    words: &str,
+    number: I,
+) -> Result<(), OutOfMemory>
+    ensures { OnOk result (text.new.items ≡ text.old.items ++ (words.now ++ I.text number)) }
+{
+    let mut buffer = Buffer::new();
+    push_words(text, words)?;
+    text.extend_from_slice(buffer.format(number).as_bytes())?;
+    Ok(())
+}
+
+fn push_fault<A: Allocator>(
+    text: &mut Vec<u8, A>,
+    words: &str,
+    fault: TextFault,
+) -> Result<(), OutOfMemory>
+    ensures { OnOk result (text.new.items ≡ text.old.items ++ (words.now ++ fault_text fault)) }
+{
+    push_number(text, words, fault.number())?;
+    match fault.inner_number() {
+        Some(inner) => push_number(text, " ", inner),
+        None => Ok(()),
+    }
+}
+
+fn push_two<A: Allocator, I: Integer, J: Integer>(
+    text: &mut Vec<u8, A>,
+    words: &str,
+    first: I,
+    between: &str,
+    second: J,
+) -> Result<(), OutOfMemory>
+    ensures { OnOk result (text.new.items ≡ text.old.items ++ (words.now ++ I.text first ++ between.now ++ J.text second)) }
+{
+    push_number(text, words, first)?;
+    push_number(text, between, second)?;
+    Ok(())
+}
+
+fn push_conflict<A: Allocator>(
+    text: &mut Vec<u8, A>,
+    kind: Kind,
+    log: u32,
+    place: u32,
+) -> Result<(), OutOfMemory>
+    ensures { OnOk result (text.new.items ≡ text.old.items ++ words_of (Said.Conflict kind log place)) }
+{
+    let number = kind.number();
+    push_two(text, "conflict ", number, " at log ", log)?;
+    push_number(text, " place ", place)?;
+    Ok(())
+}
+
+fn push_ill_formed<A: Allocator>(
+    text: &mut Vec<u8, A>,
+    rule: Rule,
+    stamp: u32,
+) -> Result<(), OutOfMemory>
+    ensures { OnOk result (text.new.items ≡ text.old.items ++ words_of (Said.IllFormed rule stamp)) }
+{
+    let number = rule.number();
+    push_two(text, "ill-formed rule ", number, " at stamp ", stamp)?;
+    Ok(())
+}
+
+fn push_order_fault<A: Allocator>(
+    text: &mut Vec<u8, A>,
+    fault: OrderFault,
+) -> Result<(), OutOfMemory>
+    ensures { OnOk result (text.new.items ≡ text.old.items ++ words_of (Said.OrderRefused fault)) }
+{
+    let number = fault.number();
+    let tx = fault.transaction();
+    push_two(text, "order refused ", number, " tx ", tx)?;
+    Ok(())
+}
+
+fn push_plan_fault<A: Allocator>(
+    text: &mut Vec<u8, A>,
+    refused: PlanTextFault,
+) -> Result<(), OutOfMemory>
+    ensures { OnOk result (text.new.items ≡ text.old.items ++ words_of (Said.PlanRefused refused)) }
+{
+    push_number(text, "plan line ", refused.line)?;
+    push_fault(text, " refused ", refused.fault)?;
+    Ok(())
+}
+
+fn push_record_fault<A: Allocator>(
+    text: &mut Vec<u8, A>,
+    line: usize,
+    fault: TextFault,
+) -> Result<(), OutOfMemory>
+    ensures { OnOk result (text.new.items ≡ text.old.items ++ words_of (Said.RecordRefused line fault)) }
+{
+    push_number(text, "record line ", line)?;
+    push_fault(text, " refused ", fault)?;
+    Ok(())
+}
+
+fn push_opaque<A: Allocator + Clone + Drop>(
+    alloc: A,
+    text: &mut Vec<u8, A>,
+    order: &Prefix,
+) -> Result<(), OutOfMemory>
+    ensures { OnOk result (text.new.items ≡ text.old.items ++ words_of (Said.Opaque order.now)) }
+{
+    let order = write_order(alloc, order)?;
+    push_words(text, "opaque ")?;
+    text.extend_from_slice(order.as_slice())?;
+    Ok(())
+}
+
+fn push_said<A: Allocator + Clone + Drop>(
+    alloc: A,
+    text: &mut Vec<u8, A>,
+    said: &Said,
+) -> Result<(), OutOfMemory>
+    ensures { OnOk result (text.new.items ≡ text.old.items ++ words_of said.now) }
+{
+    match said {
+        Said::Opaque(order) => push_opaque(alloc, text, order),
+        Said::NotOpaque => push_words(text, "not opaque"),
+        Said::Unfinished => push_words(text, "unfinished"),
+        Said::Conflict(kind, log, place) => push_conflict(text, *kind, *log, *place),
+        Said::Waiting(log) => push_number(text, "waiting for log ", *log),
+        Said::Gap(stamp) => push_number(text, "gap at stamp ", *stamp),
+        Said::IllFormed(rule, stamp) => push_ill_formed(text, *rule, *stamp),
+        Said::OrderRefused(fault) => push_order_fault(text, *fault),
+        Said::OrderTextRefused(fault) => push_fault(text, "order text refused ", *fault),
+        Said::PlanRefused(refused) => push_plan_fault(text, *refused),
+        Said::RecordRefused(line, fault) => push_record_fault(text, *line, *fault),
+    }
+}
+
+/// The line that says it, with its line feed. Numbers stand in decimal with no leading zeros.
+pub fn write_line<A: Allocator + Clone + Drop>(
+    alloc: A,
+    said: &Said,
+) -> Result<Vec<u8, A>, OutOfMemory>
+    ensures { IfOk result (λ text. text.items ≡ line_of said.now) }
+{
+    let mut text = Vec::new(alloc.clone()?);
+    push_said(alloc, &mut text, said)?;
+    text.push(b'\n')?;
+    Ok(text)
+}

@@ -1,0 +1,5 @@
+pub mod Refuting
+pub mod Choosing
+pub mod Levels
+pub mod Weights
+pub mod Steps

@@ -1,0 +1,35 @@
+-- When no list that begins with another shows a history.
+use Rattle.std.specs.Prelude.{◌≡◌, ℕ, List, [], ◌∷◌, ◌++◌, refl}
+use Rattle.std.proofs.Common.{sym, ◌∙◌, ap, subst, append_assoc}
+use Rattle.std.proofs.lemmas.List.{append-nil}
+use Rattle.aud_event.specs.Meanings.{Declared}
+use Rattle.aud_history.specs.Histories.{History}
+use Rattle.aud_witness.specs.declared.decision.Decision.{Decision}
+use Rattle.aud_witness.specs.Orders.{IsFull, IsGood, IsGoodNext, Shows, Refuted}
+use Rattle.aud_witness.proofs.Beginnings.{IsGood-from_Shows}
+use Rattle.aud_witness.proofs.Good.{IsGood-last, Shows-from_IsGood}
+
+-- what begins with a list that shows is good there
+pub next-shown : (objects : List Declared) (h : History) (p : List Decision) (d : Decision) (q : List Decision) → Shows objects h ((p ++ d ∷ []) ++ q) → IsGoodNext objects h p d
+next-shown objects h p d q shows =
+    IsGood-last objects h p d (IsGood-from_Shows objects h (p ++ d ∷ []) q shows)
+
+-- behind a decision that is not good nothing shows
+pub refuted-bad : (objects : List Declared) (h : History) (p : List Decision) (d : Decision) → (IsGoodNext objects h p d → ⊥) → Refuted objects h (p ++ d ∷ [])
+refuted-bad objects h p d bad q shows = bad (next-shown objects h p d q shows)
+
+-- a list that is not full is refuted where each good extension by one decision is
+pub refuted-by_kids : (objects : List Declared) (h : History) (p : List Decision) → (IsFull h p → ⊥) →
+    ((d : Decision) → IsGoodNext objects h p d → Refuted objects h (p ++ d ∷ [])) → Refuted objects h p
+refuted-by_kids objects h p unfull kids [] shows = unfull (subst (λ l. IsFull h l) (append-nil p) shows.full)
+refuted-by_kids objects h p unfull kids (d ∷ q) shows =
+    let again : Shows objects h ((p ++ d ∷ []) ++ q) = subst (λ l. Shows objects h l) (sym (append_assoc p (d ∷ []) q)) shows in
+    kids d (next-shown objects h p d q again) q again
+
+-- what begins with a refuted list is refuted
+pub refuted-longer : (objects : List Declared) (h : History) (p q : List Decision) → Refuted objects h p → Refuted objects h (p ++ q)
+refuted-longer objects h p q refuted rest shows = refuted (q ++ rest) (subst (λ l. Shows objects h l) (append_assoc p q rest) shows)
+
+-- a full good list that begins with a refuted one is none
+pub shown-here : (objects : List Declared) (h : History) (p : List Decision) → IsGood objects h p → IsFull h p → Shows objects h p
+shown-here objects h p good full = Shows-from_IsGood objects h p full good

@@ -1,0 +1,10 @@
+use Rattle.std.proofs.Common.{◌∙◌, ap}
+use Rattle.aud_order.specs.Shapes.{history_of}
+use Rattle.aud_search.specs.Choices.{choices_from}
+use Rattle.aud_search.proofs.Choosing.{choices-sorted}
+use Rattle.aud_search.proofs.choice.choices_of.Goals as goal
+
+pub returns : goal.returns
+returns g c =
+    choices-sorted (history_of c.args.shape.now) c.in_ok-choices.choices.items c.sort.new.self.items c.history.ensures.sound
+    (c.in_ok-choices.ensures ∙ ap (choices_from 0) (c.rows.ensures ∙ c.table.ensures)) c.sort.ensures.permutation

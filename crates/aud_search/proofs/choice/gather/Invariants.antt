@@ -1,0 +1,6 @@
+use Rattle.std.specs.Prelude.{◌≡◌, map, take}
+use Rattle.aud_search.specs.Choices.{key_of, choices_from}
+use Rattle.aud_search.proofs.choice.gather.Given as goal
+
+abbrev pub invariant-loop-place : goal.invariant-loop-place
+invariant-loop-place g l = map key_of l.choices.items ≡ choices_from 0 (take l.place l.rows)

@@ -1,0 +1,17 @@
+use Rattle.std.specs.Prelude.{◌≡◌, ℕ, reverse}
+use Rattle.aud_order.specs.Shapes.{objects_of, history_of}
+use Rattle.aud_search.specs.Levels.{IsSearching}
+use Rattle.aud_search.specs.Tried.{Spends}
+use Rattle.aud_search.proofs.Steps.{weight}
+use Rattle.aud_search.proofs.search.search_from.Given as goal
+
+abbrev pub invariant-search : goal.invariant-search
+invariant-search g l = record {
+  same : l.cursor.shape ≡ l.fn.cursor.shape;
+  used : ℕ;
+  spends : Spends l.fn.budget used l.left;
+  searching : IsSearching (objects_of l.fn.cursor.shape) (history_of l.fn.cursor.shape) l.fn.cursor.path l.choices used l.cursor.path l.next (reverse l.below.items);
+}
+
+abbrev pub decreases-search : goal.decreases-search
+decreases-search g l = weight l.fn.cursor.shape l.choices l.cursor.path l.next l.below.items

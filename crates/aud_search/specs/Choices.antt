@@ -1,0 +1,29 @@
+-- All choices that a completion gives, in the order in which a search tries them.
+use Rattle.std.specs.Prelude.{◌≡◌, ℕ, suc, ◌<◌, ◌++◌, true, if◌then◌else◌, List, [], ◌∷◌, Some, slice_get}
+use Rattle.aud_history.specs.Histories.{History, is_in}
+use Rattle.aud_history.specs.Table.{RowOf, table_of}
+use Rattle.aud_witness.specs.declared.decision.Fate.{Fate}
+use Rattle.aud_witness.specs.declared.decision.Fate.TheVariants.{C, A}
+use Rattle.aud_witness.specs.declared.decision.Decision.{Decision}
+use Rattle.aud_witness.specs.Orders.{is_allowed}
+use Rattle.aud_witness.specs.Spots.{status_allows}
+use Rattle.aud_search.specs.declared.choice.Choice.{Choice}
+
+-- what a choice chooses, and where its row is
+abbrev pub key_of : Choice → ℕ × Decision
+key_of c = (c.place, c.decision)
+
+-- the choice of a fate, where a completion may give it to the transaction of the row
+abbrev pub row_choices : ℕ → RowOf → Fate → List (ℕ × Decision)
+row_choices n r f = if status_allows r.status f then (n, record { tx = r.tx; fate = f }) ∷ [] else []
+
+-- the choices of the rows, by the rows' places from n on
+abbrev pub choices_from : ℕ → List RowOf → List (ℕ × Decision)
+choices_from n [] = []
+choices_from n (r ∷ rs) = (row_choices n r C ++ row_choices n r A) ++ choices_from (suc n) rs
+
+-- every transaction with every fate that it may have, once, each with the place of its row
+pub record AreChoices (h : History) (cs : List Choice) : Type 0 where
+  pub rows : (k : ℕ) (c : Choice) → slice_get cs k ≡ Some c → (r : RowOf) × ((slice_get (table_of h) c.place ≡ Some r) × (r.tx ≡ c.decision.tx))
+  pub whole : (d : Decision) → is_in h d.tx ≡ true → is_allowed h d.tx d.fate ≡ true → (k : ℕ) × ((c : Choice) × ((slice_get cs k ≡ Some c) × (c.decision ≡ d)))
+  pub once : (j k : ℕ) (c e : Choice) → j < k → slice_get cs j ≡ Some c → slice_get cs k ≡ Some e → c.decision ≡ e.decision → ⊥

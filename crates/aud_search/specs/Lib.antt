@@ -1,0 +1,4 @@
+pub mod Searches
+pub mod Choices
+pub mod Levels
+pub mod Tried

@@ -1,0 +1,55 @@
+-- What became of choices that a search tried.
+use Rattle.std.specs.Prelude.{◌≡◌, ℕ, ◌+◌, ◌<◌, ◌≤◌, Bool, true, false, List, [], ◌∷◌, ◌++◌, length, Option, Some, None, slice_get}
+use Rattle.aud_event.specs.Meanings.{Declared}
+use Rattle.aud_history.specs.Histories.{History}
+use Rattle.aud_history.specs.Table.{RowOf, table_of}
+use Rattle.aud_witness.specs.declared.decision.Decision.{Decision}
+use Rattle.aud_witness.specs.Orders.{IsGoodNext, Shows, Refuted}
+use Rattle.aud_order.specs.Shapes.{objects_of, history_of}
+use Rattle.aud_order.specs.Cursors.{CursorOf}
+use Rattle.aud_search.specs.declared.choice.Choice.{Choice}
+use Rattle.aud_search.specs.declared.outcome.Outcome.{Outcome}
+use Rattle.aud_search.specs.declared.outcome.Outcome.TheVariants as outcome
+use Rattle.aud_search.specs.Searches.{BeginsWith, SpentBy}
+
+abbrev pub IsGoodAt : CursorOf → Decision → Type 0
+IsGoodAt c d = IsGoodNext (objects_of c.shape) (history_of c.shape) c.path d
+
+-- the cursor one decision further
+abbrev pub cursor_with : CursorOf → Decision → CursorOf
+cursor_with c d = record { shape = c.shape; path = c.path ++ d ∷ [] }
+
+-- the place of a choice is that of its transaction's row
+abbrev pub IsOfRow : History → Choice → Type 0
+IsOfRow h c = (r : RowOf) × ((slice_get (table_of h) c.place ≡ Some r) × (r.tx ≡ c.decision.tx))
+
+-- one choice was tried: it is good, and the cursor went on, or it is not, and nothing changed
+abbrev pub IsTried : CursorOf → CursorOf → Decision → Bool → Type 0
+IsTried old new d true = IsGoodAt old d × (new ≡ cursor_with old d)
+IsTried old new d false = (IsGoodAt old d → ⊥) × (new ≡ old)
+
+-- choices were tried from a place on, up to the first that is good
+abbrev pub IsFound : CursorOf → CursorOf → List Choice → ℕ → Option ℕ → Type 0
+IsFound old new cs from None = (new ≡ old) × ((j : ℕ) (c : Choice) → from ≤ j → slice_get cs j ≡ Some c → IsGoodAt old c.decision → ⊥)
+IsFound old new cs from (Some k) =
+    (c : Choice) × ((from ≤ k) × (k < length cs) × (slice_get cs k ≡ Some c) × IsGoodAt old c.decision × (new ≡ cursor_with old c.decision)
+    × ((j : ℕ) (e : Choice) → from ≤ j → j < k → slice_get cs j ≡ Some e → IsGoodAt old e.decision → ⊥))
+
+-- the decisions were all placed, or no list that begins with them shows
+abbrev pub ArePushed : CursorOf → CursorOf → List Decision → Bool → Type 0
+ArePushed old new ds true = new ≡ record { shape = old.shape; path = old.path ++ ds }
+ArePushed old new ds false = Refuted (objects_of old.shape) (history_of old.shape) (old.path ++ ds)
+
+-- of a budget some is used, and the rest is left; one expansion is not of the budget
+abbrev pub Spends : Option ℕ → ℕ → Option ℕ → Type 0
+Spends None used None = Unit {0}
+Spends (Some whole) used (Some left) = used + left ≡ whole + 1
+Spends None used (Some left) = ⊥
+Spends (Some whole) used None = ⊥
+
+-- what is told of the lists that begin with one that was expanded, where so much of the budget is left
+abbrev pub TellsFrom : {X : Type 0} → List Declared → History → List Decision → Option ℕ → Outcome X → Type 0
+TellsFrom objects h p left outcome.Refuted = Refuted objects h p
+TellsFrom objects h p left (outcome.Witness q) = BeginsWith p q × Shows objects h q
+TellsFrom objects h p (Some left) outcome.Spent = SpentBy objects h p (left + 1)
+TellsFrom objects h p None outcome.Spent = ⊥

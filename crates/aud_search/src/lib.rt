@@ -1,0 +1,12 @@
+#![tactic(auto)]
+//! The search for an order that shows a history opaque.
+
+mod choice;
+mod outcome;
+mod search;
+
+pub use outcome::{Decided, Outcome};
+pub use search::{decide, explore};
+
+#[cfg(test)]
+mod tests;

@@ -1,0 +1,170 @@
+//! The search over one cursor: each good list of decisions is expanded at most once.
+
+ghost use Rattle.std.specs.Prelude.{◌≡◌, ◌↔◌, ◌<◌, ◌≤◌, Some, None, length, true, IfOk, MatchOption};
+ghost use Rattle.aud_witness.specs.Orders.{IsFull, Opaque};
+ghost use Rattle.aud_order.specs.Shapes.{objects_of, history_of};
+ghost use Rattle.aud_search.specs.Choices.{AreChoices};
+ghost use Rattle.aud_search.specs.Levels.{IsOneLess};
+ghost use Rattle.aud_search.specs.Searches.{Tells, Decides};
+ghost use Rattle.aud_search.specs.Tried.{IsOfRow, IsTried, IsFound, ArePushed, TellsFrom};
+
+use crate::choice::{Choice, choices_of};
+use crate::outcome::{Decided, Outcome};
+use aud_event::OutOfMemory;
+use aud_order::{Cursor, Pushed, Shape};
+use aud_witness::{Decision, Prefix};
+use std::alloc::Allocator;
+
+/// One expansion less, if there is one.
+fn spend(left: Option<u64>) -> Option<Option<u64>>
+    ensures { MatchOption result (left ≡ Some 0) (λ rest. IsOneLess left rest) }
+{
+    match left {
+        None => Some(None),
+        Some(0) => None,
+        Some(count) => Some(Some(count - 1)),
+    }
+}
+
+/// The list with a memory of its own.
+fn copied<A: Allocator + Copy>(alloc: A, decisions: &[Decision]) -> Result<Prefix<A>, OutOfMemory>
+    ensures { IfOk result (λ prefix. prefix ≡ decisions.now) }
+{
+    let decisions = Vec::from_slice(alloc, decisions)?;
+    Ok(Prefix::from_decisions(decisions))
+}
+
+/// Places the decisions one behind the other, up to the first that is not good.
+fn push_all<A: Allocator + Copy>(
+    cursor: &mut Cursor<A>,
+    decisions: &[Decision],
+) -> Result<bool, OutOfMemory>
+    ensures { IfOk result (ArePushed cursor.old cursor.new decisions.now) }
+{
+    for decision in decisions {
+        if !cursor.push(*decision)?.is_good() {
+            return Ok(false);
+        }
+    }
+    Ok(true)
+}
+
+/// Goes on by the choice if it is good.
+fn try_choice<A: Allocator + Copy>(
+    cursor: &mut Cursor<A>,
+    choice: &Choice,
+) -> Result<bool, OutOfMemory>
+    requires { IsOfRow (history_of cursor.old.shape) choice.now }
+    ensures { IfOk result (IsTried cursor.old cursor.new choice.now.decision) }
+{
+    if !cursor.is_ready(choice.place) {
+        return Ok(false);
+    }
+    let pushed = cursor.push(choice.decision)?;
+    Ok(pushed.is_good())
+}
+
+/// Goes on by the first choice from a place on that is good, and tells its place.
+fn try_from<A: Allocator + Copy>(
+    cursor: &mut Cursor<A>,
+    choices: &[Choice],
+    from: usize,
+) -> Result<Option<usize>, OutOfMemory>
+    requires { AreChoices (history_of cursor.old.shape) choices.now }
+    ensures { IfOk result (IsFound cursor.old cursor.new choices.now from) }
+{
+    for place in from..choices.len() {
+        if try_choice(cursor, &choices[place])? {
+            return Ok(Some(place));
+        }
+    }
+    Ok(None)
+}
+
+/// Searches the lists that begin with the cursor's, which is expanded first.
+fn search_from<A: Allocator + Copy>(
+    alloc: A,
+    cursor: &mut Cursor<A>,
+    choices: &[Choice],
+    budget: Option<u64>,
+) -> Result<Outcome<A>, OutOfMemory>
+    requires choices { AreChoices (history_of cursor.old.shape) choices.now }
+    requires unfull { IsFull (history_of cursor.old.shape) cursor.old.path → ⊥ }
+    ensures { IfOk result (TellsFrom (objects_of cursor.old.shape) (history_of cursor.old.shape) cursor.old.path budget) }
+{
+    let mut left = budget;
+    let mut below = Vec::new(alloc);
+    let mut next = 0;
+    let _ = cursor.prefix();
+    'search: loop {
+        if let Some(place) = try_from(cursor, choices, next)? {
+            if cursor.full() {
+                let witness = copied(alloc, cursor.prefix())?;
+                return Ok(Outcome::Witness(witness));
+            }
+            let Some(rest) = spend(left) else {
+                return Ok(Outcome::Spent);
+            };
+            left = rest;
+            below.push(place + 1)?;
+            next = 0;
+            continue;
+        }
+        let Some(tried) = below.pop() else {
+            return Ok(Outcome::Refuted);
+        };
+        let _ = cursor.pop();
+        next = tried;
+    }
+}
+
+/// Searches the lists that begin with the prefix, with a budget or without.
+fn search<A: Allocator + Copy>(
+    alloc: A,
+    shape: &Shape<A>,
+    prefix: &[Decision],
+    budget: Option<u64>,
+) -> Result<Outcome<A>, OutOfMemory>
+    ensures { IfOk result (Tells (objects_of shape.now) (history_of shape.now) prefix.now budget) }
+{
+    let mut cursor = Cursor::root(alloc, shape)?;
+    if !push_all(&mut cursor, prefix)? {
+        return Ok(Outcome::Refuted);
+    }
+    let _ = cursor.prefix();
+    if cursor.full() {
+        let witness = copied(alloc, prefix)?;
+        return Ok(Outcome::Witness(witness));
+    }
+    let Some(left) = spend(budget) else {
+        return Ok(Outcome::Spent);
+    };
+    let choices = choices_of(alloc, shape)?;
+    let outcome = search_from(alloc, &mut cursor, &choices, left)?;
+    Ok(outcome)
+}
+
+/// Whether some list that begins with the prefix shows the history, as far as the budget goes: exactly so many prefixes
+/// are expanded before it is told as spent. A prefix is expanded when the choices behind it are tried for the first time;
+/// one that is not good is refuted, and a full one is the witness, without an expansion.
+pub fn explore<A: Allocator + Copy>(
+    alloc: A,
+    shape: &Shape<A>,
+    prefix: &Prefix<A>,
+    budget: u64,
+) -> Result<Outcome<A>, OutOfMemory>
+    ensures { IfOk result (Tells (objects_of shape.now) (history_of shape.now) prefix.now (Some budget)) }
+{
+    search(alloc, shape, prefix.decisions(), Some(budget))
+}
+
+/// Whether the history is opaque, with a list that shows it where it is.
+pub fn decide<A: Allocator + Copy>(alloc: A, shape: &Shape<A>) -> Result<Decided<A>, OutOfMemory>
+    ensures { IfOk result (Decides (objects_of shape.now) (history_of shape.now)) }
+{
+    match search(alloc, shape, &[], None)? {
+        Outcome::Witness(witness) => Ok(Decided::Opaque(witness)),
+        Outcome::Refuted => Ok(Decided::NotOpaque),
+        Outcome::Spent => Ok(Decided::NotOpaque),
+    }
+}
