@@ -1,0 +1,13 @@
+#![tactic(auto)]
+//! What a cover of refuted lists of decisions closes, and what it leaves open.
+
+mod closing;
+mod laws;
+mod opening;
+
+pub use closing::closed;
+pub use laws::closed_is_refuted;
+pub use opening::open_list;
+
+#[cfg(test)]
+mod tests;

@@ -1,0 +1,70 @@
+//! What a cover leaves open.
+
+ghost use Rattle.std.specs.Prelude.{◌≡◌, ◌↔◌, [], ◌∷◌, ◌++◌, IfOk, OnOk};
+ghost use Rattle.aud_order.specs.Shapes.{objects_of, history_of};
+ghost use Rattle.aud_cover.specs.Closings.{IsClosed};
+ghost use Rattle.aud_cover.specs.Openings.{IsReached, AreAdded, AreOpen, AreWithin};
+
+use aud_event::OutOfMemory;
+use aud_lattice::{Cover, Mark};
+use aud_order::{Cursor, Shape};
+use aud_witness::{Decision, Prefix};
+use std::alloc::Allocator;
+
+/// The list with a memory of its own.
+fn copied<A: Allocator + Copy>(alloc: A, decisions: &[Decision]) -> Result<Prefix<A>, OutOfMemory>
+    ensures { IfOk result (λ prefix. prefix ≡ decisions.now) }
+{
+    let decisions = Vec::from_slice(alloc, decisions)?;
+    Ok(Prefix::from_decisions(decisions))
+}
+
+/// Adds the open lists that begin with the cursor's, the least first. The cursor comes back to it.
+fn open_here<A: Allocator + Copy>(
+    alloc: A,
+    cover: &Cover<Decision, A>,
+    cursor: &mut Cursor<A>,
+    list: &mut Vec<Prefix<A>, A>,
+) -> Result<(), OutOfMemory>
+    requires { IsReached (objects_of cursor.old.shape) (history_of cursor.old.shape) cover.now cursor.old.path }
+    ensures added { OnOk result (AreAdded (objects_of cursor.old.shape) (history_of cursor.old.shape) cover.now cursor.old.path list.old.items list.new.items) }
+    ensures back { OnOk result (cursor.new ≡ cursor.old) }
+{
+    let path = cursor.prefix();
+    match cover.mark(path) {
+        Mark::Covered => return Ok(()),
+        Mark::Outside => {
+            list.push(copied(alloc, path)?)?;
+            return Ok(());
+        }
+        Mark::Inner => {}
+    }
+    if cursor.full() {
+        return Ok(());
+    }
+    let kids = cursor.kids(alloc)?;
+    for kid in &kids {
+        let _ = cursor.push(*kid)?;
+        open_here(alloc, cover, cursor, list)?;
+        let _ = cursor.pop();
+    }
+    Ok(())
+}
+
+/// The good lists of decisions at which the cover stops, the least first: it has no beginning of them, they begin no
+/// member, and they are empty or their parents are good proper beginnings of members without a beginning in the cover.
+/// Where no member has more decisions than the history has transactions, there is none exactly where the empty list is
+/// closed. It looks at no list that is not a beginning of a member, or a kid of one.
+pub fn open_list<A: Allocator + Copy>(
+    alloc: A,
+    cover: &Cover<Decision, A>,
+    shape: &Shape<A>,
+) -> Result<Vec<Prefix<A>, A>, OutOfMemory>
+    ensures open { IfOk result (λ list. AreOpen (objects_of shape.now) (history_of shape.now) cover.now list.items) }
+    ensures empty { IfOk result (λ list. AreWithin (history_of shape.now) cover.now → (list.items ≡ []) ↔ IsClosed (objects_of shape.now) (history_of shape.now) cover.now []) }
+{
+    let mut list = Vec::new(alloc);
+    let mut cursor = Cursor::root(alloc, shape)?;
+    open_here(alloc, cover, &mut cursor, &mut list)?;
+    Ok(list)
+}
