@@ -1,11 +1,11 @@
 -- A sealed set that gains a fact is in conflict.
-use Rattle.std.proofs.Common.{◌≡◌, ℕ, zero, suc, ◌+◌, ◌<◌, ◌≤◌, ◌⊎◌, inl, inr, List, [], ◌∷◌, length, refl, sym, ap, ◌∙◌, arith}
-use Rattle.std.specs.Prelude.{⊤, Bool, true, false, not, ◌||◌, ◌&&◌, if◌then◌else◌, Option, Some, None, nat_lt, nat_le, nat_eq, map}
+use Rattle.std.proofs.Common.{◌≡◌, ℕ, suc, ◌+◌, ◌<◌, ◌≤◌, ◌⊎◌, inl, inr, List, [], ◌∷◌, length, refl, sym, ap, ◌∙◌, arith}
+use Rattle.std.specs.Prelude.{⊤, Bool, true, false, not, ◌||◌, ◌&&◌, if◌then◌else◌, Option, Some, None, nat_le, nat_eq, map}
 use Rattle.std.specs.List.{AllByRecursion, list_any, filter}
 use Rattle.aud_lattice.specs.Sets.{has, with_item, by_order}
 use Rattle.std.specs.declared.cmp.Ordering.{Ordering}
 use Rattle.std.specs.declared.cmp.Ordering.TheVariants.{Less, Equal, Greater}
-use Rattle.std.specs.Ordering.{is_eq, nat_cmp}
+use Rattle.std.specs.Ordering.{is_eq}
 use Rattle.std.proofs.lemmas.Bool.{cases_lt}
 use Rattle.aud_event.specs.Meanings.{PlanOf}
 use Rattle.aud_event.specs.Facts.{first_fact_fault}
@@ -18,15 +18,13 @@ use Rattle.aud_event.specs.contracts.fact.FactOrd.TheImpl as fact
 use Rattle.aud_facts.specs.declared.status.Kind.{Kind}
 use Rattle.aud_facts.specs.declared.status.Kind.TheVariants.{TwoRecords, StampTwice, TwoCounts, PastCount, StampOrder}
 use Rattle.aud_facts.specs.declared.status.FactStatus.{FactStatus}
-use Rattle.aud_facts.specs.declared.status.FactStatus.TheVariants.{Conflict, Waiting, Gap, Sealed}
 use Rattle.aud_facts.specs.Clashes.{Place, conflict, clashes, is_against, is_same, is_place, place_of, least_of, least_with}
 use Rattle.aud_facts.specs.Growth.{IsConflict, SealedIsFull}
 use Rattle.aud_facts.specs.Order.{AreOrdered}
-use Rattle.aud_facts.specs.Sets.{AreSound}
-use Rattle.aud_facts.specs.Status.{status_of, is_waiting, is_missing, is_record, is_record_of, is_mark_within, count, least_below, told, or_waiting, or_gap}
+use Rattle.aud_facts.specs.Status.{status_of, is_waiting, is_record_of, is_mark_within, count, told}
 use Rattle.aud_facts.specs.Scans.{is_past, first_place}
 use Rattle.aud_facts.proofs.Ordered.{ordered, same_self}
-use Rattle.aud_facts.proofs.Conflicts.{any_same, all_map, Strict, Beyond, StrictAt, strict, twins_is, past_is}
+use Rattle.aud_facts.proofs.Conflicts.{any_same, all_map, Strict, Beyond, strict, twins_is, past_is}
 use Rattle.aud_facts.proofs.Sealing.{not_first, IsSealed, sealed_says, none_below}
 
 -- a conflict of some kind is told
@@ -38,7 +36,7 @@ told_here : (k : Kind) (o : Option Place) (s : FactStatus) → (o ≡ None → �
 told_here k None s c = absurd (c refl)
 told_here k (Some p) s c = tt
 
-in_conflict : (k : Kind) (logs : ℕ) (facts : List Fact) → (conflict k facts ≡ None → ⊥) → IsConflict (status_of logs facts)
+pub in_conflict : (k : Kind) (logs : ℕ) (facts : List Fact) → (conflict k facts ≡ None → ⊥) → IsConflict (status_of logs facts)
 in_conflict TwoRecords logs facts c = told_here TwoRecords (conflict TwoRecords facts) _ c
 in_conflict StampTwice logs facts c = told_behind TwoRecords (conflict TwoRecords facts) _ (told_here StampTwice (conflict StampTwice facts) _ c)
 in_conflict TwoCounts logs facts c = told_behind TwoRecords (conflict TwoRecords facts) _ (told_behind StampTwice (conflict StampTwice facts) _ (told_here TwoCounts (conflict TwoCounts facts) _ c))
@@ -57,7 +55,7 @@ passes_step : (f : Fact) (fs : List Fact) (b c : Bool) → least_of (map place_o
 passes_step f fs true c e h = absurd (least_some (place_of f) (least_of (map place_of fs)) e)
 passes_step f fs false c e h = h e
 
-none_passes : (t : Fact → Bool) (xs : List Fact) → least_of (map place_of (filter t xs)) ≡ None → list_any t xs ≡ false
+pub none_passes : (t : Fact → Bool) (xs : List Fact) → least_of (map place_of (filter t xs)) ≡ None → list_any t xs ≡ false
 none_passes t [] e = refl
 none_passes t (x ∷ xs) e = passes_step x (filter t xs) (t x) (list_any t xs) e (none_passes t xs)
 
@@ -73,7 +71,7 @@ any_ordered t f x xs ys Less e h = refl
 any_ordered t f x xs ys Equal e h = cc
 any_ordered t f x xs ys Greater e h = rw h (or_mid (t f) (t x) (list_any t xs))
 
-or_parts : (a b : Bool) → (a || b) ≡ false → (a ≡ false) × (b ≡ false)
+pub or_parts : (a b : Bool) → (a || b) ≡ false → (a ≡ false) × (b ≡ false)
 or_parts true b e = cc
 or_parts false b e = (refl, e)
 

@@ -7,4 +7,5 @@ pub mod Inserted
 pub mod Sealing
 pub mod Limits
 pub mod Grown
+pub mod Quiet
 pub mod Unions

@@ -4,6 +4,7 @@ pub mod Status
 pub mod Order
 pub mod Sets
 pub mod Growth
+pub mod Quiet
 pub mod Joins
 pub mod Scans
 pub mod Worked

@@ -1,6 +1,9 @@
 //! The worked inputs on outside values, in every rotation of their lines, and each growth refused in turn.
 
-use crate::laws::{joins_associate, joins_commute, joins_repeat, sealed_is_full};
+use crate::laws::{
+    joins_associate, joins_commute, joins_repeat, parts_are_quiet, quiet_is_no_conflict,
+    sealed_is_all, sealed_is_full,
+};
 use crate::{FactStatus, Facts, Kind, all_fit};
 use aud_event::{
     Answer, Dup, EndMark, Event, Fact, ObjDecl, ObjKind, Op, OpName, OutOfMemory, Plan, Record,
@@ -495,6 +498,9 @@ fn a_sealed_set_that_grows_conflicts(rt: HostRuntime) -> Result<(), Fail> {
         FactStatus::Conflict(Kind::TwoRecords, 1, 1)
     );
     sealed_is_full();
+    quiet_is_no_conflict();
+    parts_are_quiet();
+    sealed_is_all();
     joins_commute();
     joins_associate();
     joins_repeat();

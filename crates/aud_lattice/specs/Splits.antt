@@ -1,5 +1,5 @@
 -- A sorted list in three parts.
-use Rattle.std.proofs.Common.{◌≡◌, ℕ, zero, suc, ◌+◌, ◌<◌, ◌≤◌, true, ◌||◌, List, [], ◌∷◌, ◌++◌, length, drop, Option, None, Some, refl, sym, ap, ◌∙◌, arith}
+use Rattle.std.proofs.Common.{◌≡◌, ℕ, zero, suc, ◌+◌, ◌<◌, ◌≤◌, Bool, true, false, ◌||◌, List, [], ◌∷◌, ◌++◌, length, drop, Option, None, Some, refl, sym, ap, ◌∙◌, arith}
 use mathlib.Core.Bool.{true≢false}
 use Rattle.std.specs.declared.cmp.Ordering.{Ordering}
 use Rattle.std.specs.declared.cmp.Ordering.TheVariants.{Less, Equal, Greater}
@@ -47,6 +47,10 @@ found_middle l k r n e = drop_middle l k r n e ∙ sym (ap (λ z. k ∷ z) (drop
 pub found_right : {T : Type 0} (l : List T) (k : T) (r : List T) (m n : ℕ) (o : Option T) → m ≡ length l + n + 1 → Found r n o → Found (l ++ k ∷ r) m o
 found_right l k r m n None e f = drop_right l k r m n e ∙ f
 found_right l k r m n (Some x) e f = drop_right l k r m n e ∙ f ∙ sym (ap (λ z. x ∷ z) (drop_right l k r (m + 1) (n + 1) (omega (arith, e))))
+
+or_true : (a : Bool) → (a || true) ≡ true
+or_true true = refl
+or_true false = refl
 
 module _ {T : Type 0} {R : T → T → Ordering} (o : IsTotalOrder R) where
   pub sorted_left : (l : List T) (k : T) (r : List T) → IsStrictlySortedBy R (l ++ k ∷ r) → IsStrictlySortedBy R l
@@ -102,6 +106,10 @@ module _ {T : Type 0} {R : T → T → Ordering} (o : IsTotalOrder R) where
   unfolding IsStrictlySortedBy
   has_left x [] k r e s = absent_below o x (k ∷ r) (e, Below-less o x k r e s.0)
   has_left x (y ∷ l) k r e s = ap (λ b. eq_by_cmp R x y || b) (has_left x l k r e s.1)
+
+  pub has_middle : (x : T) (l : List T) (k : T) (r : List T) → R x k ≡ Equal → has R (l ++ k ∷ r) x ≡ true
+  has_middle x [] k r e = ap (λ c. is_eq c || has R r x) e
+  has_middle x (y ∷ l) k r e = ap (λ b. eq_by_cmp R x y || b) (has_middle x l k r e) ∙ or_true (eq_by_cmp R x y)
 
   pub has_right : (x : T) (l : List T) (k : T) (r : List T) → R x k ≡ Greater → IsStrictlySortedBy R (l ++ k ∷ r) → has R (l ++ k ∷ r) x ≡ has R r x
   unfolding IsStrictlySortedBy

@@ -24,7 +24,10 @@ fn added<T: Key + Dup, A: Allocator + Clone>(
     if contains(&tree, item) {
         return Ok(tree);
     }
-    with(alloc, &tree, item.dup()?)
+    match with(alloc, &tree, item.dup()?)? {
+        Some(all) => Ok(all),
+        None => Ok(tree),
+    }
 }
 
 // One tree with the items of another.

@@ -1,6 +1,6 @@
 //! A balanced search tree whose nodes are shared: a changed tree keeps what it did not change of the old one.
 
-ghost use Rattle.std.specs.Prelude.{◌≡◌, ◌∷◌, ◌++◌, ◌<◌, ◌≤◌, ◌^◌, ◌+◌, ◌*◌, length, IfOk};
+ghost use Rattle.std.specs.Prelude.{◌≡◌, ◌∷◌, ◌++◌, ◌<◌, ◌≤◌, ◌^◌, ◌+◌, ◌*◌, length, IfOk, MatchOption, true, false};
 ghost use Rattle.std.specs.List.Sorted.{IsStrictlySortedBy};
 ghost use Rattle.std.specs.Option.{option_copied};
 ghost use Rattle.aud_lattice.specs.Sets.{has, with_item};
@@ -179,18 +179,19 @@ fn to_left<T: Dup, A: Allocator + Clone>(
     }
 }
 
-/// The tree with the item, in its place. Only the nodes on the way to that place are new.
-#[tactic(auto, using(crate::specs::Splits::sorted_left, crate::specs::Splits::sorted_right, crate::specs::Splits::with_left, crate::specs::Splits::with_right, crate::specs::Splits::with_middle, crate::specs::Splits::length_with))]
+/// The tree with an item that it has not, in its place, or none where it has the item. Only the nodes on the way to that
+/// place are new.
+#[tactic(auto, using(crate::specs::Splits::sorted_left, crate::specs::Splits::sorted_right, crate::specs::Splits::with_left, crate::specs::Splits::with_right, crate::specs::Splits::has_left, crate::specs::Splits::has_right, crate::specs::Splits::has_middle, crate::specs::Splits::length_with))]
 pub fn with<T: Key + Dup, A: Allocator + Clone>(
     alloc: &A,
     tree: &Link<T, A>,
     item: T,
-) -> Result<Link<T, A>, OutOfMemory>
+) -> Result<Option<Link<T, A>>, OutOfMemory>
     requires { IsStrictlySortedBy T.Ord.cmp (items_of tree.now) }
-    ensures { IfOk result (λ new. items_of new ≡ with_item T.Ord.cmp item (items_of tree.now)) }
+    ensures { IfOk result (λ all. MatchOption all (has T.Ord.cmp (items_of tree.now) item ≡ true) (λ new. (has T.Ord.cmp (items_of tree.now) item ≡ false) × (items_of new ≡ with_item T.Ord.cmp item (items_of tree.now)))) }
 {
     let Some(all) = tree else {
-        return node(alloc, None, item, None);
+        return Ok(Some(node(alloc, None, item, None)?));
     };
     let Tree {
         left,
@@ -200,13 +201,19 @@ pub fn with<T: Key + Dup, A: Allocator + Clone>(
     } = &**all;
     match item.cmp(middle) {
         Ordering::Less => {
-            let grown = with(alloc, left, item)?;
-            balanced(alloc, grown, middle.dup()?, shared(right)?)
+            let Some(grown) = with(alloc, left, item)? else {
+                return Ok(None);
+            };
+            let all = balanced(alloc, grown, middle.dup()?, shared(right)?)?;
+            Ok(Some(all))
         }
-        Ordering::Equal => shared(tree),
+        Ordering::Equal => Ok(None),
         Ordering::Greater => {
-            let grown = with(alloc, right, item)?;
-            balanced(alloc, shared(left)?, middle.dup()?, grown)
+            let Some(grown) = with(alloc, right, item)? else {
+                return Ok(None);
+            };
+            let all = balanced(alloc, shared(left)?, middle.dup()?, grown)?;
+            Ok(Some(all))
         }
     }
 }

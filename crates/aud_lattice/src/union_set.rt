@@ -90,10 +90,9 @@ impl<T: Key + Dup, A: Allocator + Clone> UnionSet<T, A> {
         ensures is_new { IfOk result (λ new. new ≡ not (has T.Ord.cmp self.old item)) }
         ensures err { OnErr result (self.new ≡ self.old) }
     {
-        if contains(&self.root, &item) {
+        let Some(root) = with(&self.alloc, &self.root, item)? else {
             return Ok(false);
-        }
-        let root = with(&self.alloc, &self.root, item)?;
+        };
         self.root = root;
         Ok(true)
     }

@@ -4,13 +4,13 @@ use crate::{is_opaque, order_fault, shows_plainly, witnesses};
 use aud_event::OutOfMemory;
 use aud_history::History;
 use aud_refusing::Refusing;
-use aud_witness::{Decision, Fate, Prefix, shows};
+use aud_witness::{Decision, Fate, OrderFault, Prefix, shows};
 use aud_worked::{
     both_find_it_absent, count_is_lost, idle_write_stands_later, item_is_passed_on,
     live_write_is_seen, nothing_happened, pending_commit_is_seen, pending_commit_is_unseen,
     read_before_commit, reader_behind_commit, stale_read_behind_commit, torn_read_then_abort,
 };
-use std::alloc::{Allocator, Global};
+use std::alloc::{AllocError, Allocator, Global};
 use std::process::Abort;
 use std::test::Fail;
 
@@ -166,5 +166,87 @@ fn each_growth_is_refused(rt: HostRuntime) -> Result<(), Fail> {
         }
     }
     assert!(rt; 9 < errors && errors < 4000);
+    Ok(())
+}
+
+/// What is told of the order where T2 reads past the pending commit of T1.
+fn told<A: Allocator + Copy>(
+    alloc: A,
+    decisions: &[Decision],
+) -> Result<Option<OrderFault>, OutOfMemory> {
+    let history = pending_commit_is_unseen(alloc)?;
+    let order = order(alloc, decisions)?;
+    fault_of(alloc, &history, &order)
+}
+
+/// The first fault of the order, if it has one and the history none.
+fn fault_of<A: Allocator + Copy>(
+    alloc: A,
+    history: &History<A>,
+    order: &Prefix<A>,
+) -> Result<Option<OrderFault>, OutOfMemory> {
+    match history.first_fault() {
+        Some(_) => Ok(None),
+        None => Ok(shows(alloc, history, order)?.err()),
+    }
+}
+
+/// How many events and decisions are asked about.
+fn asked<A: Allocator + Copy>(alloc: A, decisions: &[Decision]) -> Result<usize, OutOfMemory> {
+    let history = pending_commit_is_unseen(alloc)?;
+    let order = order(alloc, decisions)?;
+    Ok(
+        history
+            .events()
+            .len()
+            .saturating_add(order.decisions().len()),
+    )
+}
+
+/// How often the history and the order grow while they are made.
+fn growths_of_making(alloc: Global, decisions: &[Decision]) -> Result<u64, Fail> {
+    let ample = Refusing::new(alloc, alloc, 1_000_000)?;
+    let _asked = asked(&ample, decisions)?;
+    Ok(ample.growths())
+}
+
+/// What is told where that growth is refused, and whether it was met.
+fn told_without(
+    alloc: Global,
+    nth: u64,
+    decisions: &[Decision],
+) -> Result<(Result<Option<OrderFault>, OutOfMemory>, bool), AllocError> {
+    let refusing = Refusing::new(alloc, alloc, nth)?;
+    let answer = told(&refusing, decisions);
+    Ok((answer, refusing.was_met()))
+}
+
+/// Each growth behind those of making the history and the order is refused in turn: want of memory is told, and the fault
+/// once none is met. How many there are.
+fn refusals(
+    rt: &impl Abort,
+    alloc: Global,
+    decisions: &[Decision],
+    fault: Option<OrderFault>,
+) -> Result<u64, Fail> {
+    let making = growths_of_making(alloc, decisions)?;
+    for more in 0..1000u64 {
+        let (answer, was_met) = told_without(alloc, making.saturating_add(more), decisions)?;
+        if !was_met {
+            assert!(rt; answer == Ok(fault));
+            return Ok(more);
+        }
+        assert!(rt; answer == Err(OutOfMemory));
+    }
+    Err("each of 1,000 growths was met")?
+}
+
+#[test]
+fn each_growth_of_showing_is_refused(rt: HostRuntime) -> Result<(), Fail> {
+    let alloc = rt.alloc();
+    let shown = refusals(&rt, alloc, &[c(2), a(1)], None)?;
+    assert!(rt; shown > 5);
+    let illegal = refusals(&rt, alloc, &[c(1), c(2)], Some(OrderFault::Illegal(2)))?;
+    assert!(rt; illegal > 5);
     Ok(())
 }
