@@ -98,23 +98,31 @@ def made(logs, records):
     return "\n".join(plan + lines) + "\n", " ".join(order)
 
 
+def least(program, order, text, answer, runs):
+    """The least and the middle time of some runs, in milliseconds."""
+    with tempfile.TemporaryFile() as file:
+        file.write(text.encode())
+        times = []
+        for _ in range(runs):
+            file.seek(0)
+            began = time.perf_counter()
+            ran = subprocess.run([program, "check", "--order", order], stdin=file, capture_output=True)
+            times.append(1000 * (time.perf_counter() - began))
+            if not ran.stdout.decode().startswith(answer):
+                sys.exit(f"status {ran.returncode}: {ran.stdout[:200]} {ran.stderr[:200]}")
+    times.sort()
+    return f"least {times[0]:.0f} ms, median {times[len(times) // 2]:.0f} ms of {runs}"
+
+
 def main():
     program, runs = sys.argv[1], int(sys.argv[2]) if len(sys.argv) > 2 else 7
     for name, logs, records in [("one log, 4,096 records", 1, 4096), ("64 logs, 262,144 records", 64, 262144)]:
         text, order = made(logs, records)
-        with tempfile.TemporaryFile() as file:
-            file.write(text.encode())
-            times = []
-            for _ in range(runs):
-                file.seek(0)
-                began = time.perf_counter()
-                ran = subprocess.run([program, "check", "--order", order], stdin=file, capture_output=True)
-                times.append(time.perf_counter() - began)
-                if ran.stdout.decode() != f"opaque {order}\n":
-                    sys.exit(f"{name}: status {ran.returncode}: {ran.stdout[:200]} {ran.stderr[:200]}")
-        times.sort()
-        size = len(text) / 1e6
-        print(f"{name}, {size:.1f} MB: least {times[0] * 1000:.0f} ms, median {times[len(times) // 2] * 1000:.0f} ms of {runs}")
+        print(f"{name}, {len(text) / 1e6:.1f} MB: {least(program, order, text, f'opaque {order}', runs)}")
+    # without an end mark the run waits once all is read; the empty order is refused once the history is sealed
+    open_text = "".join(line for line in text.splitlines(True) if not line.endswith('"log":0}\n') or '"end"' not in line)
+    print(f"  read, and found to wait: {least(program, order, open_text, 'waiting for log 0', runs)}")
+    print(f"  read and sealed, no order: {least(program, 'none', text, 'order refused 6', runs)}")
 
 
 main()
