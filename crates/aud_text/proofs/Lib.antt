@@ -9,3 +9,4 @@ pub mod Sound
 pub mod Back
 pub mod Objects
 pub mod Quick
+pub mod Spelling

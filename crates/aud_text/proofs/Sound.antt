@@ -43,12 +43,12 @@ sound plan e =
     let g = passed (not (list_all (λ x. is_name x.name) plan.objects)) BadName _ f.1 in
     record { few = grind (arith, b.0); differ = held (names_differ plan.objects) d.0; named = held (list_all (λ x. is_name x.name) plan.objects) g.0 }
 
-both : (a b : Bool) → (a && b) ≡ true → (a ≡ true) × (b ≡ true)
+pub both : (a b : Bool) → (a && b) ≡ true → (a ≡ true) × (b ≡ true)
 both true b h = (refl, h)
 both false b h = absurd (cc)
 
 -- an object's name is short
-named_at : (ds : List Declared) (i : ℕ) (d : Declared) → list_all (λ x. is_name x.name) ds ≡ true → slice_get ds i ≡ Some d → is_name d.name ≡ true
+pub named_at : (ds : List Declared) (i : ℕ) (d : Declared) → list_all (λ x. is_name x.name) ds ≡ true → slice_get ds i ≡ Some d → is_name d.name ≡ true
 named_at [] i d h there = absurd (cc)
 named_at (x ∷ xs) zero d h there =
     let same : x ≡ d = cc in subst (λ y. is_name y.name ≡ true) same (both (is_name x.name) (list_all (λ y. is_name y.name) xs) h).0

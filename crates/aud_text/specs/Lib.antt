@@ -5,3 +5,4 @@ pub mod Orders
 pub mod FactText
 pub mod Written
 pub mod PlanText
+pub mod Spelled

@@ -7,6 +7,7 @@ ghost use Rattle.aud_text.specs.FactText.{fact_read, judged, required, allowed, 
 
 use crate::fault::TextFault;
 use crate::shape::{Shape, allowed_keys, op_of, required_keys, shape_in};
+use crate::spelled::fact_spelled;
 use crate::value::{
     has_only_allowed, has_required, json_in, small_if_there, small_of, text_if_there,
     whole_if_there, whole_of, word_of,
@@ -106,7 +107,7 @@ fn object_in<A: Allocator>(plan: &Plan<A>, value: &Value) -> Option<u16>
     }
 }
 
-fn op_of_argument(op: OpName, argument: Option<i64>) -> Option<Op>
+pub(crate) fn op_of_argument(op: OpName, argument: Option<i64>) -> Option<Op>
     ensures { result ≡ op_with argument op }
 {
     match op {
@@ -237,6 +238,10 @@ pub fn read_fact<A: Allocator>(
 ) -> Result<Fact, TextFault>
     ensures { (result ≡ Err TextFault.OutOfMemory) ⊎ (result ≡ fact_read plan.now line.now) }
 {
+    // Most lines are spelled as they are written here, and need no JSON value.
+    if let Some(fact) = fact_spelled(plan, line) {
+        return Ok(fact);
+    }
     let value = match json_in(alloc, line, LINE_MAX) {
         Ok(value) => value,
         Err(fault) => return Err(fault),

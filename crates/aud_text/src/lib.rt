@@ -9,6 +9,7 @@ mod object;
 mod order;
 mod plan;
 mod shape;
+mod spelled;
 mod value;
 mod word;
 mod write;

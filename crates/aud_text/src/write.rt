@@ -13,7 +13,7 @@ use aud_event::{Answer, EndMark, Event, Fact, Op, OpName, OutOfMemory, Plan, Rec
 use serde_json::{Map, Value};
 use std::alloc::{AllocError, Allocator, Global};
 
-fn name_at<A: Allocator>(plan: &Plan<A>, object: u16) -> &str
+pub(crate) fn name_at<A: Allocator>(plan: &Plan<A>, object: u16) -> &str
     ensures { result.now ≡ object_name plan.now object }
 {
     match plan.object(usize::from(object)) {
@@ -22,7 +22,7 @@ fn name_at<A: Allocator>(plan: &Plan<A>, object: u16) -> &str
     }
 }
 
-fn argument_in(op: Op) -> Option<i64>
+pub(crate) fn argument_in(op: Op) -> Option<i64>
     ensures value { result ≡ argument_of op }
     ensures fits { IfSome result (λ z. FitsSigned w64 z) }
 {

@@ -1,6 +1,7 @@
 //! Facts as they are written, against lines that stand in docs/FORMAT.md.
 
 use super::{four_kinds, one_register};
+use crate::spelled::fact_spelled;
 use crate::{read_fact, write_fact};
 use aud_event::{Answer, EndMark, Event, Fact, Op, OpName, Plan, Record};
 use std::alloc::Global;
@@ -11,9 +12,16 @@ fn stands_for(alloc: Global, plan: &Plan, fact: Fact, line: &str) -> Result<bool
     if fact.check(plan).is_err() {
         return Ok(false);
     }
-    let read = read_fact(alloc, plan, line.as_bytes())?;
     let written = write_fact(alloc, plan, &fact)?;
-    Ok(read == fact && written.as_slice() == line.as_bytes())
+    Ok(written.as_slice() == line.as_bytes() && is_read(alloc, plan, fact, line)?)
+}
+
+/// Whether the fact is read from the line, as it is spelled there and with a space behind, which needs a JSON value.
+fn is_read(alloc: Global, plan: &Plan, fact: Fact, line: &str) -> Result<bool, Fail> {
+    let spaced = format!(in alloc; "{line} ")?;
+    let is_spelled = fact_spelled(plan, line.as_bytes()) == Some(fact);
+    let is_spaced = read_fact(alloc, plan, spaced.as_bytes())? == fact;
+    Ok(is_spelled && is_spaced && read_fact(alloc, plan, line.as_bytes())? == fact)
 }
 
 /// A record of log 0 whose place is its stamp.

@@ -1,0 +1,13 @@
+use Rattle.std.proofs.Common.{◌≡◌, ℕ, List, ◌++◌, Option, Some, None, ap, ◌∙◌}
+use Rattle.std.specs.Prelude.{IfSome, MatchOption, ◌≢◌}
+use denote.Ref.{Bor}
+use Rattle.std.proofs.lemmas.Slice.Eq.{strip_prefix_is}
+use Rattle.std.proofs.lemmas.Bool.Decides.{Decides-eqb}
+use Rattle.aud_text.proofs.spelled.behind.Goals as goal
+
+found : (s p q : List ℕ) (r : Option (Bor (List ℕ))) → q ≡ p → MatchOption r ((rest : List ℕ) → s ≢ q ++ rest) (λ x. s ≡ q ++ x.now) → IfSome r (λ rest. s ≡ p ++ rest.now)
+found s p q None same m = tt
+found s p q (Some rest) same m = m ∙ ap (λ l. l ++ rest.now) same
+
+pub returns : goal.returns
+returns c = found c.args.line.now c.args.text.now c.as_bytes.result.now c.strip_prefix.result c.as_bytes.ensures.value (strip_prefix_is Decides-eqb _ _ _ c.strip_prefix.ensures.cases)
