@@ -1,6 +1,6 @@
 -- What one pass finds is the least conflict.
 use Rattle.std.proofs.Common.{◌≡◌, ℕ, ◌<◌, ◌≤◌, ◌+◌, ◌⊎◌, inl, inr, List, [], ◌∷◌, length, refl, sym, ap, ◌∙◌, arith}
-use Rattle.std.specs.Prelude.{⊤, Bool, true, false, not, ◌&&◌, ◌||◌, if◌then◌else◌, Option, Some, None, nat_lt, nat_le, nat_eq}
+use Rattle.std.specs.Prelude.{⊤, Bool, true, false, ◌&&◌, ◌||◌, if◌then◌else◌, Option, Some, None, nat_lt, nat_eq}
 use Rattle.std.specs.List.{AllByRecursion, list_any, filter}
 use Rattle.aud_event.specs.declared.fact.Record.{Record}
 use Rattle.aud_event.specs.declared.fact.EndMark.{EndMark}
@@ -8,10 +8,10 @@ use Rattle.aud_event.specs.declared.fact.Fact.{Fact}
 use Rattle.aud_event.specs.declared.fact.Fact.TheVariants.{Rec, End}
 use Rattle.aud_facts.specs.declared.status.Kind.{Kind}
 use Rattle.aud_facts.specs.declared.status.Kind.TheVariants.{TwoRecords, StampTwice, TwoCounts, PastCount, StampOrder}
-use Rattle.aud_facts.specs.Clashes.{conflict, clashes, is_against, is_place, is_same, place_of}
+use Rattle.aud_facts.specs.Clashes.{conflict, clashes, is_against, is_place}
 use Rattle.aud_facts.specs.Status.{has_stamp, is_mark_within}
 use Rattle.aud_facts.specs.Order.{AreOrdered}
-use Rattle.aud_facts.specs.Scans.{twins, marks_twice, falls, first_place, is_past, is_twice, is_at, is_in, is_fall}
+use Rattle.aud_facts.specs.Scans.{twins, marks_twice, falls, first_place, is_past, is_twice, is_fall}
 use Rattle.aud_facts.proofs.Ordered.{After, Ordered, ordered, same_self, first_is_least}
 use Rattle.aud_facts.proofs.Lists.{any-count, count-cons}
 

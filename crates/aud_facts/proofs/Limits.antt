@@ -1,5 +1,5 @@
 -- The history of a sealed set is within the limits of histories.
-use Rattle.std.proofs.Common.{◌≡◌, ℕ, zero, suc, ◌<◌, ◌≤◌, inl, inr, List, [], ◌∷◌, ◌++◌, length, replicate, refl, sym, ap, ◌∙◌, arith}
+use Rattle.std.proofs.Common.{◌≡◌, ℕ, zero, suc, ◌<◌, ◌≤◌, inl, inr, List, [], ◌∷◌, length, replicate, refl, sym, ap, ◌∙◌, arith}
 use Rattle.std.specs.Prelude.{Bool, true, false, if◌then◌else◌, Option, Some, None, All, nat_le, nat_lt, nat_eq}
 use Rattle.std.specs.List.{AllByRecursion}
 use Rattle.std.proofs.lemmas.Bool.{cases_lt}
@@ -12,7 +12,7 @@ use Rattle.aud_event.specs.declared.fact.FactFault.{FactFault}
 use Rattle.aud_event.specs.declared.fact.Record.{Record}
 use Rattle.aud_event.specs.declared.fact.Fact.{Fact}
 use Rattle.aud_event.specs.declared.fact.Fact.TheVariants.{Rec, End}
-use Rattle.aud_event.specs.Facts.{first_fact_fault, first_event_fault}
+use Rattle.aud_event.specs.Facts.{first_fact_fault}
 use Rattle.aud_event.specs.declared.plan.PlanFault.{PlanFault}
 use Rattle.aud_event.specs.Meanings.{Declared, PlanOf}
 use Rattle.aud_event.specs.Plans.{first_plan_fault}
@@ -21,7 +21,7 @@ use Rattle.aud_facts.specs.declared.status.FactStatus.TheVariants.{Sealed}
 use Rattle.aud_facts.specs.Order.{AreOrdered}
 use Rattle.aud_facts.specs.Sets.{AreSound}
 use Rattle.aud_facts.specs.Status.{status_of, hist, events_at, events_below, is_record, is_missing, count}
-use Rattle.aud_facts.specs.Scans.{IsWithin, AreWithin, placed}
+use Rattle.aud_facts.specs.Scans.{IsWithin, AreWithin}
 use Rattle.aud_facts.proofs.Lists.{missing_beyond}
 use Rattle.aud_facts.proofs.Sealing.{IsSealed, sealed_says, none_below, length-placed, placed_is}
 

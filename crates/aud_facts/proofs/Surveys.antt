@@ -1,14 +1,13 @@
 -- Where the tables of a walk show no conflict, there is none.
-use Rattle.std.proofs.Common.{◌≡◌, ℕ, zero, suc, ◌<◌, ◌≤◌, List, [], ◌∷◌, refl, sym, ap, ◌∙◌, arith, get_or}
-use Rattle.std.specs.Prelude.{Bool, true, false, not, ◌||◌, ◌&&◌, Option, Some, None, nat_lt, nat_le, nat_eq, slice_index_or}
+use Rattle.std.proofs.Common.{◌≡◌, ℕ, ◌<◌, List, [], ◌∷◌, refl, sym, ◌∙◌, arith, get_or}
+use Rattle.std.specs.Prelude.{Bool, true, false, ◌||◌, ◌&&◌, None, nat_lt, nat_le, nat_eq}
 use Rattle.std.specs.List.{list_any}
-use Rattle.aud_event.specs.declared.limits.TheConstants.{LOGS_MAX, STAMPS}
-use Rattle.aud_event.specs.declared.fact.Record.{Record}
+use Rattle.aud_event.specs.declared.limits.TheConstants.{LOGS_MAX}
 use Rattle.aud_event.specs.declared.fact.Fact.{Fact}
 use Rattle.aud_event.specs.declared.fact.Fact.TheVariants.{Rec, End}
 use Rattle.aud_facts.specs.declared.survey.Survey.{Survey}
 use Rattle.aud_facts.specs.Status.{count, has_stamp, is_mark_within}
-use Rattle.aud_facts.specs.Scans.{AreWithin, AreStamps, IsCalm, AreBounds, IsUnderrun, first_place, is_twice, is_past, is_bounded, is_record_from}
+use Rattle.aud_facts.specs.Scans.{AreWithin, AreStamps, IsCalm, AreBounds, IsUnderrun, first_place, is_twice, is_past, is_record_from}
 use Rattle.aud_facts.proofs.Lists.{up-more}
 
 or_later : (a b : Bool) → b ≡ true → (a || b) ≡ true

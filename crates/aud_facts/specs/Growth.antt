@@ -1,6 +1,5 @@
 -- A sealed set that gains a fact is in conflict.
-use Rattle.std.specs.Prelude.{◌≡◌, Bool, false, List, [], ◌∷◌, None, ⊤}
-use Rattle.std.specs.List.{list_any}
+use Rattle.std.specs.Prelude.{◌≡◌, false, List, None, ⊤}
 use Rattle.aud_event.specs.Meanings.{PlanOf}
 use Rattle.aud_event.specs.Facts.{first_fact_fault}
 use Rattle.aud_event.specs.declared.fact.Fact.{Fact}

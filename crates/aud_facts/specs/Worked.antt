@@ -1,10 +1,10 @@
 -- Worked sets of facts: what their status is, and what the history of a sealed one.
-use Rattle.std.specs.Prelude.{◌≡◌, ℕ, ℤ, pos, List, [], ◌∷◌, refl}
+use Rattle.std.specs.Prelude.{◌≡◌, ℕ, pos, List, [], ◌∷◌, refl}
 use Rattle.aud_event.specs.declared.object.Op.TheVariants as op
 use Rattle.aud_event.specs.declared.object.OpName.TheVariants as word
 use Rattle.aud_event.specs.declared.object.Answer.TheVariants.{Done, Int}
 use Rattle.aud_event.specs.declared.fact.Event.{Event}
-use Rattle.aud_event.specs.declared.fact.Event.TheVariants.{Inv, Ret, TryC, TryA, Commit, Abort}
+use Rattle.aud_event.specs.declared.fact.Event.TheVariants.{Inv, Ret, TryC, Commit}
 use Rattle.aud_event.specs.declared.fact.Fact.{Fact}
 use Rattle.aud_event.specs.declared.fact.Fact.TheVariants.{Rec, End}
 use Rattle.aud_facts.specs.declared.status.Kind.TheVariants.{TwoRecords, StampTwice, TwoCounts, PastCount, StampOrder}
