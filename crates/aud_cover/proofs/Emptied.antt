@@ -1,7 +1,7 @@
 -- Nothing is open exactly where the empty list is closed.
 use Rattle.std.specs.Prelude.{◌≡◌, ◌↔◌, ℕ, zero, suc, ◌+◌, ◌<◌, ◌≤◌, List, [], ◌∷◌, ◌++◌, length, refl}
 use Rattle.std.specs.List.{Contains}
-use Rattle.std.proofs.Common.{sym, ◌∙◌, ap, subst, inl, inr, arith, append_assoc, length-append}
+use Rattle.std.proofs.Common.{sym, ◌∙◌, subst, inl, arith, append_assoc, length-append}
 use Rattle.std.proofs.lemmas.List.{append-nil}
 use Rattle.aud_event.specs.Meanings.{Declared}
 use Rattle.aud_history.specs.Histories.{History}
@@ -15,7 +15,7 @@ use Rattle.aud_witness.specs.Orders.{IsFull, IsGood}
 use Rattle.aud_witness.proofs.Good.{IsGood-empty, IsGood-beginning}
 use Rattle.aud_order.proofs.Lists.{length-push}
 use Rattle.aud_order.proofs.Lengths.{length-full}
-use Rattle.aud_cover.specs.Closings.{IsCovered, IsInside, IsClosed, covered, bad, by_kids}
+use Rattle.aud_cover.specs.Closings.{IsInside, IsClosed, covered, bad, by_kids}
 use Rattle.aud_cover.specs.Openings.{IsReached, IsOpen, AreOpen, AreWithin, BeginsWith}
 use Rattle.aud_cover.proofs.Beginnings.{marked-covered, marked-inner, marked-outside, longest, longest-inside}
 use Rattle.aud_cover.proofs.Opened.{covered-longer, begins-itself, none_there, reached-kid}

@@ -1,25 +1,25 @@
 -- Which lists are open, and how they gather.
-use Rattle.std.specs.Prelude.{◌≡◌, ◌↔◌, ◌⊎◌, ℕ, zero, suc, ◌+◌, ◌-◌, ◌<◌, ◌≤◌, Bool, true, false, IsTrue, List, [], ◌∷◌, ◌++◌, length, refl}
+use Rattle.std.specs.Prelude.{◌≡◌, ◌⊎◌, ℕ, zero, suc, ◌+◌, ◌<◌, ◌≤◌, List, [], ◌∷◌, ◌++◌, length, refl}
 use Rattle.std.specs.List.{Contains, AllByRecursion}
 use Rattle.std.specs.List.Sorted.{IsStrictlySortedBy}
 use Rattle.std.specs.Cmp.Lexicographic.{slice_cmp}
 use Rattle.std.specs.Cmp.{tied_itself}
 use Rattle.std.specs.Ordering.{ordering_then}
 use Rattle.std.specs.declared.cmp.Ordering.TheVariants.{Less}
-use Rattle.std.proofs.Common.{sym, ◌∙◌, ap, subst, inl, inr, arith, get_or, take, append_assoc, length-append}
-use Rattle.std.proofs.lemmas.List.{append-nil, take_more, take_all}
-use Rattle.std.proofs.lemmas.List.Elements.{Contains-push_cases, Contains-append_cases, Contains-append_left, Contains-append_right, Contains-push, Contains-get_or}
+use Rattle.std.proofs.Common.{sym, ◌∙◌, ap, subst, inl, inr, arith, get_or, append_assoc, length-append}
+use Rattle.std.proofs.lemmas.List.{append-nil}
+use Rattle.std.proofs.lemmas.List.Elements.{Contains-append_cases, Contains-append_left, Contains-append_right}
 use Rattle.aud_event.specs.Meanings.{Declared}
 use Rattle.aud_history.specs.Histories.{History}
 use Rattle.aud_witness.specs.declared.decision.Decision.{Decision}
 use Rattle.aud_witness.specs.DecisionOrder.{decision_cmp, decisions_total}
 use Rattle.aud_witness.specs.Orders.{IsFull, IsGood, IsGoodNext}
-use Rattle.aud_witness.proofs.Good.{IsGood-push, IsGood-last, IsGood-beginning}
+use Rattle.aud_witness.proofs.Good.{IsGood-last, IsGood-beginning}
 use Rattle.aud_order.specs.Kids.{AreKids}
 use Rattle.aud_order.specs.Shapes.{ShapeOf, objects_of, history_of}
 use Rattle.aud_order.specs.Cursors.{CursorOf}
-use Rattle.aud_cover.specs.Closings.{IsCovered, IsInside, IsClosed, covered, bad, by_kids}
-use Rattle.aud_cover.specs.Openings.{IsInner, IsReached, IsOpen, AreOpen, BeginsWith, AreAdded}
+use Rattle.aud_cover.specs.Closings.{IsCovered, IsInside}
+use Rattle.aud_cover.specs.Openings.{IsReached, IsOpen, AreOpen, BeginsWith, AreAdded}
 use Rattle.aud_cover.proofs.Steps.{no_decision}
 use Rattle.aud_cover.proofs.Distinct.{kids-rise}
 

@@ -1,6 +1,5 @@
 -- What is closed over refuted lists is refuted.
-use Rattle.std.specs.Prelude.{◌≡◌, List, [], ◌∷◌, ◌++◌, refl}
-use Rattle.std.specs.List.{Contains}
+use Rattle.std.specs.Prelude.{List, [], ◌∷◌, ◌++◌}
 use Rattle.std.proofs.Common.{sym, ◌∙◌, ap, subst, append_assoc}
 use Rattle.std.proofs.lemmas.List.{append-nil}
 use Rattle.aud_event.specs.Meanings.{Declared}
@@ -8,7 +7,7 @@ use Rattle.aud_history.specs.Histories.{History}
 use Rattle.aud_witness.specs.declared.decision.Decision.{Decision}
 use Rattle.aud_witness.specs.Orders.{IsFull, IsGood, Shows, Refuted}
 use Rattle.aud_witness.proofs.Beginnings.{IsGood-from_Shows}
-use Rattle.aud_cover.specs.Closings.{IsCovered, IsInside, IsClosed, covered, bad, by_kids}
+use Rattle.aud_cover.specs.Closings.{covered, bad, by_kids}
 use Rattle.aud_cover.specs.Laws.{ClosedIsRefuted}
 
 -- a list that is not full is refuted where all its good extensions by one decision are

@@ -11,7 +11,7 @@ use Rattle.aud_witness.specs.declared.decision.Fate.TheVariants.{C}
 use Rattle.aud_witness.specs.declared.decision.Decision.{Decision}
 use Rattle.aud_witness.specs.Orders.{IsFull, IsGood, IsGoodNext}
 use Rattle.aud_witness.proofs.Good.{IsGood-push, IsGood-last}
-use Rattle.aud_order.specs.Shapes.{ShapeOf, objects_of, history_of}
+use Rattle.aud_order.specs.Shapes.{objects_of, history_of}
 use Rattle.aud_order.specs.Cursors.{CursorOf}
 use Rattle.aud_order.specs.Kids.{AreKids}
 use Rattle.aud_order.proofs.Lists.{length-push, take-push}

@@ -1,18 +1,16 @@
 -- The kids of a list, row by row of the table.
-use Rattle.std.specs.Prelude.{◌≡◌, ◌↔◌, ℕ, zero, suc, ◌+◌, ◌<◌, ◌≤◌, Bool, true, false, not, ◌&&◌, ◌||◌, nat_eq, nat_lt, nat_le, List, [], ◌∷◌, ◌++◌, map, filter, length, Option, Some, None, slice_index_or, refl}
-use Rattle.std.specs.List.{Contains, list_any, list_all, flat_map}
+use Rattle.std.specs.Prelude.{◌≡◌, ◌↔◌, ℕ, zero, suc, ◌<◌, ◌≤◌, Bool, true, false, not, ◌&&◌, ◌||◌, nat_eq, nat_lt, List, [], ◌∷◌, ◌++◌, map, filter, length, Option, Some, None, refl}
+use Rattle.std.specs.List.{Contains, list_any, flat_map}
 use Rattle.std.specs.List.Sorted.{IsSorted, IsPermutation}
-use Rattle.std.proofs.Common.{sym, ◌∙◌, ap, subst, cond, inl, inr, arith, get_or, take, drop, ◌⊎◌}
+use Rattle.std.proofs.Common.{sym, ◌∙◌, ap, subst, cond, inl, inr, arith, get_or, ◌⊎◌}
 use Rattle.std.proofs.lemmas.Bool.Decides.{nat_tests}
 use Rattle.std.proofs.lemmas.Grind.{flat_map-append}
-use Rattle.std.proofs.lemmas.List.{append-nil, take_more, take-append-drop}
 use Rattle.std.proofs.lemmas.List.Elements.{filter-append}
 use Rattle.std.proofs.lemmas.List.Sorted.{Contains-permutation, IsPermutation-sym}
 use Rattle.aud_event.specs.Meanings.{Declared}
-use Rattle.aud_event.proofs.Bools.{or_true, and_true, true_and, true_or, or_right, not_true, split, is_false, nat_eq-is, nat_eq-refl, nat_eq-sym}
-use Rattle.aud_history.specs.declared.status.Status.{Status}
+use Rattle.aud_event.proofs.Bools.{or_true, and_true, true_and, true_or, or_right, not_true, is_false, nat_eq-is, nat_eq-refl, nat_eq-sym}
 use Rattle.aud_history.specs.Histories.{History, is_in}
-use Rattle.aud_history.specs.Table.{RowOf, transactions, first_stamp, row_of, table_of}
+use Rattle.aud_history.specs.Table.{RowOf, transactions, first_stamp, table_of}
 use Rattle.aud_history.proofs.Tables.{any-transactions}
 use Rattle.aud_witness.specs.declared.decision.Fate.{Fate}
 use Rattle.aud_witness.specs.declared.decision.Fate.TheVariants.{C, A}

@@ -1,5 +1,5 @@
 -- Lists with one more decision at the end.
-use Rattle.std.specs.Prelude.{◌≡◌, ℕ, ◌+◌, ◌-◌, List, [], ◌∷◌, ◌++◌, length, refl}
+use Rattle.std.specs.Prelude.{◌≡◌, ◌+◌, ◌-◌, List, [], ◌∷◌, ◌++◌, length, refl}
 use Rattle.std.proofs.Common.{◌∙◌, ap, arith, take, length-append}
 use Rattle.aud_witness.specs.declared.decision.Decision.{Decision}
 

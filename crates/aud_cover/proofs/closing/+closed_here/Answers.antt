@@ -1,7 +1,7 @@
-use Rattle.std.specs.Prelude.{◌≡◌, ◌↔◌, IsTrue, List, true, false, ◌∷◌, [], ◌++◌}
-use Rattle.std.proofs.Common.{rules, sym, ◌∙◌, ap, subst, get_or}
+use Rattle.std.specs.Prelude.{List}
+use Rattle.std.proofs.Common.{rules, sym, subst, get_or}
 use Rattle.aud_witness.specs.declared.decision.Decision.{Decision}
-use Rattle.aud_witness.specs.Orders.{IsFull, IsGood}
+use Rattle.aud_witness.specs.Orders.{IsFull}
 use Rattle.aud_order.specs.Shapes.{objects_of, history_of}
 use Rattle.aud_order.specs.Kids.{AreKids}
 use Rattle.aud_cover.specs.Closings.{IsCovered, IsInside}

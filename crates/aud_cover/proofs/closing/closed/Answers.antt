@@ -1,9 +1,9 @@
-use Rattle.std.specs.Prelude.{◌≡◌, ◌↔◌, IsTrue, IfOk, true, false, []}
-use Rattle.std.proofs.Common.{sym, ◌∙◌, ap, subst}
+use Rattle.std.specs.Prelude.{◌≡◌, ◌↔◌, IsTrue, IfOk, true, false}
+use Rattle.std.proofs.Common.{sym, ◌∙◌, subst}
 use Rattle.aud_witness.specs.Orders.{IsGood}
 use Rattle.aud_order.specs.Shapes.{objects_of, history_of}
 use Rattle.aud_order.specs.Cursors.{CursorOf}
-use Rattle.aud_cover.specs.Closings.{IsCovered, IsClosed}
+use Rattle.aud_cover.specs.Closings.{IsCovered}
 use Rattle.aud_cover.proofs.Beginnings.{marked-covered}
 use Rattle.aud_cover.proofs.Steps.{at-covered, at-bad, cursor_at, IsClosedAt}
 use Rattle.aud_cover.proofs.closing.closed.Goals as goal

@@ -1,6 +1,6 @@
 use Rattle.std.specs.Prelude.{◌≡◌, false, true}
 use Rattle.std.proofs.Common.{sym, ◌∙◌}
-use Rattle.aud_cover.proofs.Steps.{pushed-bad, pushed-more}
+use Rattle.aud_cover.proofs.Steps.{pushed-bad}
 use Rattle.aud_cover.proofs.closing.push_all.Goals as goal
 
 pub returns-then-not-is_good-clause-good : goal.returns-then-not-is_good-clause-good

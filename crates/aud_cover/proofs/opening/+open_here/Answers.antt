@@ -1,4 +1,4 @@
-use Rattle.std.specs.Prelude.{◌≡◌, ◌∷◌, [], ◌++◌, List, refl}
+use Rattle.std.specs.Prelude.{◌≡◌, ◌∷◌, [], ◌++◌, List}
 use Rattle.std.proofs.Common.{rules, sym, ◌∙◌, ap, subst, get_or}
 use Rattle.aud_witness.specs.declared.decision.Decision.{Decision}
 use Rattle.aud_order.specs.Shapes.{objects_of, history_of}

@@ -1,4 +1,3 @@
-use Rattle.std.specs.Prelude.{◌≡◌, true, false, slice_index_or}
 use Rattle.std.proofs.Common.{sym, ◌∙◌}
 use Rattle.aud_order.proofs.Opens.{placed-more}
 use Rattle.aud_order.proofs.cursor.open_from.Goals as goal

@@ -1,7 +1,6 @@
-use Rattle.std.specs.Prelude.{◌≡◌, ◌↔◌, nat_eq, length, IsTrue}
-use Rattle.std.proofs.Common.{sym, ◌∙◌, ap, subst}
-use Rattle.aud_history.specs.Table.{table_of}
-use Rattle.aud_witness.specs.Orders.{IsFull, IsGood}
+use Rattle.std.specs.Prelude.{◌↔◌, nat_eq, length, IsTrue}
+use Rattle.std.proofs.Common.{sym, ◌∙◌, subst}
+use Rattle.aud_witness.specs.Orders.{IsFull}
 use Rattle.aud_order.specs.Shapes.{objects_of, history_of}
 use Rattle.aud_order.specs.Cursors.{CursorOf}
 use Rattle.aud_order.proofs.Lengths.{full-by_length}

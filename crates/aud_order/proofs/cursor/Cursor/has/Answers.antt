@@ -1,6 +1,6 @@
 use Rattle.std.specs.Prelude.{◌≡◌, nat_eq, map, Some, None}
 use Rattle.std.specs.List.{position}
-use Rattle.std.proofs.Common.{sym, ◌∙◌, ap, subst}
+use Rattle.std.proofs.Common.{sym, ◌∙◌, ap}
 use Rattle.aud_history.specs.Table.{RowOf, table_of}
 use Rattle.aud_witness.specs.Orders.{is_named}
 use Rattle.aud_order.specs.Shapes.{history_of}

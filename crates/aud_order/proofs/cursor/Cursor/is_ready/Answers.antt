@@ -1,6 +1,6 @@
 use Rattle.std.specs.Prelude.{◌≡◌, ◌<◌, ◌&&◌, not, length, MatchOption, slice_get, slice_index_or, false}
 use Rattle.std.proofs.Common.{sym, ◌∙◌, ap, subst}
-use Rattle.aud_history.specs.Table.{RowOf, table_of}
+use Rattle.aud_history.specs.Table.{table_of}
 use Rattle.aud_witness.specs.Orders.{is_named}
 use Rattle.aud_witness.specs.OrderFaults.{is_enabled}
 use Rattle.aud_order.specs.Shapes.{history_of}

@@ -1,7 +1,6 @@
-use Rattle.std.specs.Prelude.{◌≡◌, ◌≤◌, false, List, length, take, slice_index_or}
-use Rattle.std.proofs.Common.{sym, ◌∙◌, ap, subst}
+use Rattle.std.specs.Prelude.{◌≡◌, ◌≤◌, false, length, slice_index_or}
+use Rattle.std.proofs.Common.{sym, ◌∙◌, subst}
 use Rattle.aud_history.specs.Table.{transactions, table_of}
-use Rattle.aud_witness.specs.declared.decision.Decision.{Decision}
 use Rattle.aud_witness.specs.OrderFaults.{is_enabled, kids}
 use Rattle.aud_order.specs.Shapes.{objects_of, history_of}
 use Rattle.aud_order.specs.Cursors.{CursorOf}

@@ -1,6 +1,5 @@
 use Rattle.std.specs.Prelude.{◌≡◌, ◌-◌, length, map, min, nat_eq, Some, slice_get}
 use Rattle.std.specs.List.{position}
-use Rattle.std.specs.Option.{unwrap_or, option_copied}
 use Rattle.std.proofs.Common.{sym, ◌∙◌, ap, subst}
 use Rattle.aud_history.specs.Table.{RowOf}
 use Rattle.aud_order.specs.Cursors.{IsAt}

@@ -1,6 +1,5 @@
-use Rattle.std.specs.Prelude.{◌≡◌, None, Some, refl}
+use Rattle.std.specs.Prelude.{◌≡◌, None, Some}
 use Rattle.std.proofs.Common.{sym, ◌∙◌, ap, subst}
-use Rattle.aud_witness.specs.declared.fault.OrderFault.{OrderFault}
 use Rattle.aud_witness.specs.OrderFaults.{place_fault}
 use Rattle.aud_order.specs.Shapes.{objects_of, history_of}
 use Rattle.aud_order.specs.Cursors.{CursorOf, pushed_by}
