@@ -1,6 +1,6 @@
 //! Sets of lists of which none begins another.
 
-ghost use Rattle.std.specs.Prelude.{◌≡◌, ◌<◌, ◌≤◌, IfOk, OnOk, OnErr, IsTrue, IsOk, ◌↔◌, List, [], length, true, false, Bool, slice_index_or, Contains, ◌∷◌, ◌++◌};
+ghost use Rattle.std.specs.Prelude.{◌≡◌, ◌<◌, ◌≤◌, IfOk, OnOk, OnErr, IsTrue, IsOk, ◌↔◌, List, [], length, true, false, Bool, slice_index_or, Contains, ◌∷◌, ◌++◌, All};
 ghost use Rattle.std.specs.Cmp.Lexicographic.{slice_cmp};
 ghost use Rattle.std.specs.List.Sorted.{IsStrictlySortedBy};
 ghost use Rattle.aud_lattice.specs.Covers.{cover_cmp, begins, covers, with_list, cover_union, normal_form, IsCover, IsPlace, HasBeginning, BeginsOne};
@@ -78,6 +78,25 @@ impl<D: Key + Dup, A: Allocator + Clone> Cover<D, A> {
         let at = place_of(&self.lists, list);
         mark_at(&self.lists, at, list)
     }
+
+    /// Whether a beginning of each of the other's lists is there. It takes no memory, and a mark for each of these lists.
+    pub fn covers_all(&self, other: &Cover<D, A>) -> bool
+        ensures { IsTrue result ↔ All (λ list. covers D.Ord.cmp self.now list ≡ true) other.now }
+    {
+        covers_each(self, &other.lists)
+    }
+}
+
+fn covers_one<D: Key + Dup, A: Allocator + Clone>(cover: &Cover<D, A>, list: &Row<D, A>) -> bool
+    ensures { IsTrue result ↔ (covers D.Ord.cmp cover.now list.now ≡ true) }
+{
+    cover.mark(list.as_slice()) == Mark::Covered
+}
+
+fn covers_each<D: Key + Dup, A: Allocator + Clone>(cover: &Cover<D, A>, lists: &[Row<D, A>]) -> bool
+    ensures { IsTrue result ↔ All (λ list. covers D.Ord.cmp cover.now list ≡ true) lists.now }
+{
+    lists.iter().all(|list| covers_one(cover, list))
 }
 
 // Where the place is known.

@@ -110,6 +110,8 @@ fn covers_join(rt: HostRuntime) -> Result<(), Fail> {
     let older = cover.dup()?;
     cover.join(&other)?;
     assert!(rt; !cover.same(&older));
+    assert!(rt; cover.covers_all(&older));
+    assert!(rt; !older.covers_all(&cover));
     let lists = cover.lists()?;
     assert_eq!(rt; lists.len(), 2);
     assert_eq!(rt; lists[0].as_slice(), [1].as_slice());

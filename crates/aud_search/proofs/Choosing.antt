@@ -1,22 +1,20 @@
 -- The choices of a history, row by row, and in another order.
-use Rattle.std.specs.Prelude.{◌≡◌, ℕ, zero, suc, ◌+◌, ◌<◌, ◌≤◌, Bool, true, false, not, ◌&&◌, ◌||◌, if◌then◌else◌, nat_eq, List, [], ◌∷◌, ◌++◌, map, length, Option, Some, None, slice_get, ◌⊎◌, refl}
+use Rattle.std.specs.Prelude.{◌≡◌, ℕ, zero, suc, ◌+◌, ◌<◌, ◌≤◌, Bool, true, false, not, ◌&&◌, ◌||◌, if◌then◌else◌, nat_eq, List, [], ◌∷◌, ◌++◌, map, length, Some, slice_get, refl}
 use Rattle.std.specs.List.{Contains, list_any, sum_by}
 use Rattle.std.specs.List.Sorted.{IsPermutation}
 use Rattle.std.proofs.Common.{sym, ◌∙◌, ap, subst, cond, inl, inr, arith, get_or, take}
-use Rattle.std.proofs.Math.ListN.{length-map}
 use Rattle.std.proofs.lemmas.List.{take_more, append-nil, length-take-le}
 use Rattle.std.proofs.lemmas.List.Elements.{Contains-append_left, Contains-append_right, Contains-append_cases}
 use Rattle.std.proofs.lemmas.List.Sums.{sum_by-append}
 use Rattle.std.proofs.lemmas.List.Sorted.{IsPermutation-sym, IsPermutation-map, Contains-permutation, sum_by-IsPermutation}
-use Rattle.aud_event.proofs.Bools.{or_false, and_true, true_or, or_right, not_true, split, nat_eq-refl, nat_eq-is, nat_eq-sym}
-use Rattle.aud_history.specs.Histories.{History, is_in}
+use Rattle.aud_event.proofs.Bools.{or_false, and_true, not_true, split, nat_eq-refl, nat_eq-is}
+use Rattle.aud_history.specs.Histories.{History}
 use Rattle.aud_history.specs.WellFormed.{IsWellFormed}
 use Rattle.aud_history.specs.Table.{RowOf, transactions, row_of, table_of}
 use Rattle.aud_history.proofs.Tables.{any-transactions, are_different, different-transactions}
 use Rattle.aud_witness.specs.declared.decision.Fate.{Fate}
 use Rattle.aud_witness.specs.declared.decision.Fate.TheVariants.{C, A}
 use Rattle.aud_witness.specs.declared.decision.Decision.{Decision}
-use Rattle.aud_witness.specs.Orders.{is_allowed}
 use Rattle.aud_witness.specs.Spots.{status_allows}
 use Rattle.aud_witness.proofs.Bridge.{tx-rows, row-at, status-allowed}
 use Rattle.aud_search.specs.declared.choice.Choice.{Choice}

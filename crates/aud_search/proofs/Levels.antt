@@ -1,22 +1,21 @@
 -- The steps of a search.
-use Rattle.std.specs.Prelude.{◌≡◌, ℕ, zero, suc, ◌+◌, ◌-◌, ◌<◌, ◌≤◌, Bool, true, false, nat_lt, nat_eq, List, [], ◌∷◌, ◌++◌, length, Option, Some, None, slice_get, ◌⊎◌, refl}
+use Rattle.std.specs.Prelude.{◌≡◌, ℕ, zero, suc, ◌+◌, ◌-◌, ◌<◌, ◌≤◌, nat_lt, List, [], ◌∷◌, ◌++◌, length, Option, Some, slice_get, ◌⊎◌, refl}
 use Rattle.std.specs.List.{Contains}
 use Rattle.std.proofs.Common.{sym, ◌∙◌, ap, subst, inl, inr, arith, take, append_assoc, length-append}
 use Rattle.std.proofs.lemmas.Bool.Decides.{nat_tests}
 use Rattle.std.proofs.lemmas.List.{append-nil}
 use Rattle.aud_event.specs.Meanings.{Declared}
 use Rattle.aud_event.proofs.Bools.{split}
-use Rattle.aud_history.specs.Histories.{History, is_in}
-use Rattle.aud_history.specs.Table.{transactions}
+use Rattle.aud_history.specs.Histories.{History}
 use Rattle.aud_witness.specs.declared.decision.Decision.{Decision}
 use Rattle.aud_witness.specs.Orders.{IsFull, IsGood, IsGoodNext, Shows, Refuted}
-use Rattle.aud_witness.proofs.Good.{IsGood-push, Shows-from_IsGood}
+use Rattle.aud_witness.proofs.Good.{Shows-from_IsGood}
 use Rattle.aud_order.proofs.Lists.{length-push, push-parts, take-push}
 use Rattle.aud_order.proofs.Lengths.{length-full, full-from_length}
 use Rattle.aud_search.specs.declared.choice.Choice.{Choice}
 use Rattle.aud_search.specs.Choices.{AreChoices}
-use Rattle.aud_search.specs.Searches.{IsOpen, AreDifferent, AreExpanded, IsLeft, SpentBy, BeginsWith}
-use Rattle.aud_search.specs.Levels.{AreTried, AreFresh, AreBelow, IsSearching}
+use Rattle.aud_search.specs.Searches.{IsOpen, SpentBy, BeginsWith}
+use Rattle.aud_search.specs.Levels.{AreTried, AreBelow, IsSearching}
 use Rattle.aud_search.proofs.Refuting.{refuted-bad, refuted-by_kids}
 
 -- # Lists

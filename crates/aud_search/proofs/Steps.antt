@@ -4,7 +4,7 @@ use Rattle.std.proofs.Common.{sym, ◌∙◌, ap, subst, inl, inr, arith, get_or
 use Rattle.std.proofs.lemmas.Bool.Decides.{nat_tests}
 use Rattle.std.proofs.lemmas.List.{append-nil, take_more, take_all, take-append-drop, reverse-append}
 use Rattle.aud_event.specs.Meanings.{Declared}
-use Rattle.aud_event.proofs.Bools.{and_true, not_true, split}
+use Rattle.aud_event.proofs.Bools.{and_true, split}
 use Rattle.aud_history.specs.Histories.{History, is_in}
 use Rattle.aud_history.specs.Table.{RowOf, transactions, table_of}
 use Rattle.aud_witness.specs.declared.decision.Fate.TheVariants.{C}
@@ -16,7 +16,7 @@ use Rattle.aud_witness.proofs.Good.{IsGood-push, Shows-from_IsGood}
 use Rattle.aud_order.specs.Shapes.{ShapeOf, objects_of, history_of}
 use Rattle.aud_order.specs.Cursors.{CursorOf}
 use Rattle.aud_order.proofs.KidLemmas.{good-from_next}
-use Rattle.aud_order.proofs.Lists.{length-push, take-push}
+use Rattle.aud_order.proofs.Lists.{length-push}
 use Rattle.aud_order.proofs.Lengths.{length-good}
 use Rattle.aud_search.specs.declared.choice.Choice.{Choice}
 use Rattle.aud_search.specs.declared.outcome.Outcome.{Outcome}
@@ -26,7 +26,7 @@ use Rattle.aud_search.specs.Searches.{SpentBy, BeginsWith, Tells}
 use Rattle.aud_search.specs.Levels.{AreTried, IsSearching, IsOneLess}
 use Rattle.aud_search.specs.Tried.{IsGoodAt, cursor_with, IsOfRow, IsTried, IsFound, ArePushed, Spends, TellsFrom}
 use Rattle.aud_search.proofs.Refuting.{refuted-bad, refuted-longer}
-use Rattle.aud_search.proofs.Levels.{search-start, tried-more, search-deeper, search-spent, search-unspent, refuted-here, search-back, search-refuted, search-begins}
+use Rattle.aud_search.proofs.Levels.{tried-more, search-deeper, search-spent, search-unspent, refuted-here, search-back, search-refuted, search-begins}
 use Rattle.aud_search.proofs.Weights.{weigh, lighter-deeper, lighter-back}
 
 -- # A prefix

@@ -1,5 +1,3 @@
-use Rattle.std.specs.Prelude.{◌≡◌}
-use Rattle.std.proofs.Common.{sym, ◌∙◌, subst}
 use Rattle.aud_witness.specs.Orders.{IsFull}
 use Rattle.aud_order.specs.Shapes.{history_of}
 use Rattle.aud_search.proofs.Steps.{root-pushed, root-refuted, whole-witness, whole-spent, whole-told}

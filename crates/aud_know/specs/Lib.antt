@@ -1,0 +1,9 @@
+pub mod Norms
+pub mod Known
+pub mod Members
+pub mod Truth
+pub mod Findings
+pub mod Items
+pub mod KnowFaultNumbers
+pub mod Verdicts
+pub mod Laws
