@@ -1,5 +1,5 @@
 -- What is said of a well-formed history is what is said of any.
-use Rattle.std.proofs.Common.{◌≡◌, ℕ, List, [], ◌++◌, Option, Some, None, Result, Ok, Err, IfOk, subst}
+use Rattle.std.proofs.Common.{ℕ, List, [], Some, None, Result, Ok, Err, IfOk}
 use Rattle.aud_event.specs.Meanings.{PlanOf, Declared}
 use Rattle.aud_history.specs.Histories.{History}
 use Rattle.aud_history.specs.WellFormed.{IsWellFormed}
@@ -8,7 +8,7 @@ use Rattle.aud_report.specs.declared.said.Said.{Said}
 use Rattle.aud_report.specs.declared.said.Said.TheVariants as said
 use Rattle.aud_cli.specs.declared.question.Question.{Question}
 use Rattle.aud_cli.specs.declared.question.Question.TheVariants as question
-use Rattle.aud_cli.specs.Line.{CheckSays, DecideSays, HistorySays, QuestionSays}
+use Rattle.aud_cli.specs.Line.{HistorySays, QuestionSays}
 
 -- no question is answered by ill-formedness
 never : (q : Question) (plan : PlanOf) (h : History) (rule : _) (stamp : ℕ) → QuestionSays q plan h (said.IllFormed rule stamp) → ⊥

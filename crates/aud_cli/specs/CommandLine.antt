@@ -1,5 +1,5 @@
 -- The command line, as `clap` reads it.
-use Rattle.std.specs.Prelude.{[], Option, Some, true, codes}
+use Rattle.std.specs.Prelude.{Some, true, codes}
 use Rattle.clap.specs.Words.{App, Rule, Text, new_app, new_rule, with_rule, with_subcommand}
 use Rattle.clap.specs.declared.builder.ArgAction.TheVariants.{Set}
 

@@ -1,6 +1,5 @@
-use Rattle.std.proofs.Common.{None, MatchOption, sym, subst}
+use Rattle.std.proofs.Common.{subst}
 use Rattle.aud_history.specs.WellFormed.{IsWellFormed}
-use Rattle.aud_history.specs.FirstFault.{IsFirstFault}
 use Rattle.aud_cli.specs.Line.{HistorySays, QuestionSays}
 use Rattle.aud_cli.proofs.HistoryLemmas.{says-well_formed, if_ok}
 use Rattle.aud_cli.proofs.run.judge_history.Goals as goal

@@ -1,0 +1,6 @@
+pub mod Clouds
+pub mod Moves
+pub mod Worlds
+pub mod Faults
+pub mod Took
+pub mod Headline
