@@ -9,10 +9,10 @@ use Rattle.std.specs.Cmp.Lexicographic.{slice_cmp, lists_total}
 use Rattle.std.specs.FinSet.{slice_cmp-IsAntisymmetric}
 use Rattle.std.specs.List.{list_any, Contains}
 use Rattle.std.specs.List.Sorted.{IsStrictlySortedBy}
-use Rattle.std.proofs.lemmas.Bool.{or_cases}
 use Rattle.aud_event.specs.Exact.{IsExact}
 use Rattle.aud_lattice.specs.Sets.{has}
 use Rattle.aud_lattice.specs.Sorted.{has-union, sorted_union, same_sorted}
+use Rattle.aud_lattice.specs.Strict.{some_passes, one_passes}
 use Rattle.aud_lattice.specs.Covers.{covers, IsCover}
 use Rattle.aud_lattice.specs.Covering.{cover_cover_union, covers-cover_union, same_cover}
 use Rattle.aud_lattice.specs.Least.{reaches}
@@ -27,7 +27,7 @@ or_assoc : (a b c : Bool) → ((a || b) || c) ≡ (a || (b || c))
 or_assoc true b c = refl
 or_assoc false b c = refl
 
-or_true : (a : Bool) → (a || true) ≡ true
+pub or_true : (a : Bool) → (a || true) ≡ true
 or_true true = refl
 or_true false = refl
 
@@ -51,23 +51,8 @@ pub first_or_later : {X : Type 0} (x y : X) (xs : List X) → Contains (x ∷ xs
 first_or_later x y xs (zero, lt, e) = inl e
 first_or_later x y xs (suc i, lt, e) = inr (i, omega (arith, lt), e)
 
--- what passes is there
-any_there : {X : Type 0} (t : X → Bool) (xs : List X) → list_any t xs ≡ true → (x : X) × Contains xs x × (t x ≡ true)
-any_there t [] e = absurd (true≢false (sym e))
-any_there t (x ∷ xs) e = elim (or_cases (t x) (list_any t xs) e) [
-  | inl first ↦ (x, here x xs, first)
-  | inr rest ↦ let found = any_there t xs rest in (found.0, later x found.0 xs found.1, found.2)
-]
-
-there_any : {X : Type 0} (t : X → Bool) (xs : List X) (x : X) → Contains xs x → t x ≡ true → list_any t xs ≡ true
-there_any t [] x h e = absurd (let lt = h.1 in omega arith)
-there_any t (y ∷ xs) x h e = elim (first_or_later y x xs h) [
-  | inl first ↦ ap (λ b. b || list_any t xs) (ap t first ∙ e)
-  | inr rest ↦ ap (λ b. t y || b) (there_any t xs x rest e) ∙ or_true (t y)
-]
-
 any_within : {X : Type 0} (t : X → Bool) (xs ys : List X) → ((x : X) → Contains xs x → Contains ys x) → list_any t xs ≡ true → list_any t ys ≡ true
-any_within t xs ys within e = let found = any_there t xs e in there_any t ys found.0 (within found.0 found.1) found.2
+any_within t xs ys within e = let found = some_passes t xs e in one_passes t ys found.0 (within found.0 found.1) found.2
 
 any_same : {X : Type 0} (t : X → Bool) (xs ys : List X) → ((x : X) → Contains xs x → Contains ys x) → ((x : X) → Contains ys x → Contains xs x) → list_any t xs ≡ list_any t ys
 any_same t xs ys f g = same_bool (list_any t xs) (list_any t ys) (any_within t xs ys f) (any_within t ys xs g)

@@ -14,6 +14,7 @@ use Rattle.aud_lattice.specs.Covers.{cover_union}
 use Rattle.aud_lattice.specs.Minimal.{kept}
 use Rattle.aud_lattice.specs.Least.{least_of}
 use Rattle.aud_know.specs.Norms.{Norm, merge, IsNormal}
+use Rattle.aud_know.proofs.Norming.{or_true}
 
 -- each item of xs is in ys
 abbrev pub IsWithin : {T : Type 0} → (T → T → Ordering) → List T → List T → Type 0
@@ -32,10 +33,6 @@ WholeStays {F} cmp Quiet Whole =
 pub record IsTrueFor {F D : Type 0} (Quiet Whole : List F → Type 0) (Refutes Shows : List F → List D → Type 0) (n : Norm F D) : Type 0 where
   pub refuted : Quiet n.facts → (p : List D) → Contains n.cover p → Whole n.facts × Refutes n.facts p
   pub shown : Quiet n.facts → (p : List D) → n.witness ≡ Some p → Whole n.facts × Shows n.facts p
-
-or_true : (a : Bool) → (a || true) ≡ true
-or_true true = refl
-or_true false = refl
 
 of_two : {T : Type 0} (r : Ordering) (x y z : T) → by_order r (Some x) (Some x) (Some y) ≡ Some z → (Some x ≡ Some z) ⊎ (Some y ≡ Some z)
 of_two Less x y z e = inl e
