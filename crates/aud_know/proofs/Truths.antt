@@ -1,5 +1,5 @@
 -- What is joined of true parts is true.
-use Rattle.std.specs.Prelude.{◌≡◌, Bool, true, false, ◌||◌, List, Option, Some, None, ◌⊎◌, refl}
+use Rattle.std.specs.Prelude.{◌≡◌, true, ◌||◌, List, Option, Some, None, ◌⊎◌}
 use Rattle.std.specs.List.{Contains}
 use Rattle.std.proofs.Common.{sym, ap, subst, ◌∙◌, inl, inr}
 use Rattle.std.specs.declared.cmp.Ordering.{Ordering}
