@@ -9,3 +9,4 @@ pub mod Meanings
 pub mod Logs
 pub mod Shown
 pub mod Kinds
+pub mod Digests

@@ -2,9 +2,11 @@
 
 ghost use Rattle.std.specs.Prelude.{◌≡◌, ◌↔◌, IsTrue, [], ◌∷◌, ◌++◌, IfOk, OnErr, OnOk, MatchOption};
 ghost use Rattle.aud_object.specs.declared.change.Change.TheVariants as Change;
+ghost use Rattle.aud_object.specs.Digests.{digest_values};
 ghost use Rattle.aud_object.specs.Keeps.{items_in, back_items};
 
 use crate::change::Change;
+use crate::digest::stir;
 use aud_event::{Dup, OutOfMemory};
 use std::alloc::{Allocator, Global};
 use std::marker::Model;
@@ -34,6 +36,17 @@ fn is_same_list(a: &[i64], b: &[i64]) -> bool
     a == b
 }
 
+/// A digest with the values.
+fn digest_list(start: u64, values: &[i64]) -> u64
+    ensures { result ≡ digest_values start values.now }
+{
+    let mut digest = start;
+    for value in values {
+        digest = stir(digest, value.cast_unsigned());
+    }
+    digest
+}
+
 impl<A: Allocator + Drop> Items<A> {
     /// No items. It takes no memory.
     pub(crate) fn new(alloc: A) -> Items<A>
@@ -50,6 +63,18 @@ impl<A: Allocator + Drop> Items<A> {
         ensures { IsTrue result ↔ (items_in self.now ≡ items_in other.now) }
     {
         is_same_list(self.left(), other.left())
+    }
+
+    /// How many items are kept.
+    pub(crate) fn size(&self) -> usize {
+        self.all.len()
+    }
+
+    /// A digest with the items, in linear time.
+    pub(crate) fn digest(&self, start: u64) -> u64
+        ensures { result ≡ digest_values start (items_in self.now) }
+    {
+        digest_list(start, self.left())
     }
 
     /// The items, the front first.

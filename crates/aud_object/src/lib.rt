@@ -8,6 +8,7 @@
 mod block;
 mod change;
 mod counter_kind;
+mod digest;
 mod execution;
 mod items;
 pub mod laws;
@@ -32,6 +33,3 @@ pub use set_kind::SetOf;
 pub use shown::Shown;
 pub use spec::ObjectSpec;
 pub use store::Store;
-
-#[cfg(test)]
-mod tests;

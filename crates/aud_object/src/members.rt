@@ -3,9 +3,11 @@
 ghost use Rattle.std.specs.Prelude.{◌≡◌, ◌<◌, ◌↔◌, IsTrue, List, [], ◌∷◌, length, map, Some, None, true, false, not, IfOk, OnErr, OnOk, MatchOption, is_none};
 ghost use Rattle.std.specs.List.{filter};
 ghost use Rattle.aud_object.specs.Objects.{has_member, with_member, without_member};
+ghost use Rattle.aud_object.specs.Digests.{digest_values};
 ghost use Rattle.aud_object.specs.Keeps.{members, flag_of, with_flag, with_value, without_value, back_members, Ascend};
 
 use crate::change::Change;
+use crate::digest::stir;
 use aud_event::{Dup, OutOfMemory};
 use std::alloc::{Allocator, Global};
 use std::collections::BTreeMap;
@@ -68,6 +70,17 @@ fn have_same_members(mut a: Iter<'_, i64, bool>, mut b: Iter<'_, i64, bool>) -> 
     }
 }
 
+/// A digest with the members.
+fn digest_members(start: u64, mut left: Iter<'_, i64, bool>) -> u64
+    ensures { result ≡ digest_values start (members left.entry) }
+{
+    let mut digest = start;
+    while let Some(value) = next_member(&mut left) {
+        digest = stir(digest, value.cast_unsigned());
+    }
+    digest
+}
+
 /// The values whose flag is on, least first.
 fn kept_members<A: Allocator + Clone>(
     alloc: A,
@@ -94,6 +107,18 @@ impl<A: Allocator + Drop> Members<A> {
         ensures { IsTrue result ↔ (members self.now ≡ members other.now) }
     {
         have_same_members(self.values.iter(), other.values.iter())
+    }
+
+    /// How many values are kept.
+    pub(crate) fn size(&self) -> usize {
+        self.values.len()
+    }
+
+    /// A digest with the members, in linear time.
+    pub(crate) fn digest(&self, start: u64) -> u64
+        ensures { result ≡ digest_values start (members self.now) }
+    {
+        digest_members(start, self.values.iter())
     }
 
     fn flag(&self, value: i64) -> Option<bool>

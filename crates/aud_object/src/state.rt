@@ -4,9 +4,11 @@ ghost use Rattle.std.specs.Prelude.{◌≡◌, ◌↔◌, IsTrue, IfOk, OnErr, O
 ghost use Rattle.aud_object.specs.Objects.{answer_of, after_op, opening_of};
 ghost use Rattle.aud_object.specs.Keeps.{back_value};
 ghost use Rattle.aud_object.specs.States.{meaning, back};
+ghost use Rattle.aud_object.specs.Digests.{digest_of};
 
 use crate::change::Change;
 use crate::counter_kind::apply_counter;
+use crate::digest::stir;
 use crate::items::Items;
 use crate::members::Members;
 use crate::queue_kind::apply_items;
@@ -60,6 +62,27 @@ impl<A: Allocator + Drop> State<A> {
             (State::SetOf(s), State::SetOf(t)) => s.same(t),
             (State::Queue(p), State::Queue(q)) => p.same(q),
             _ => false,
+        }
+    }
+
+    /// A number that is the same for states that mean the same, in time linear in their size.
+    pub(crate) fn digest(&self) -> u64
+        ensures { result ≡ digest_of (meaning self.now) }
+    {
+        match self {
+            State::Register(v) => stir(1, v.cast_unsigned()),
+            State::Counter(v) => stir(2, v.cast_unsigned()),
+            State::SetOf(set) => set.digest(3),
+            State::Queue(items) => items.digest(4),
+        }
+    }
+
+    /// How many numbers are kept beside the state's own.
+    pub(crate) fn size(&self) -> usize {
+        match self {
+            State::Register(_) | State::Counter(_) => 0,
+            State::SetOf(set) => set.size(),
+            State::Queue(items) => items.size(),
         }
     }
 

@@ -1,14 +1,16 @@
 //! The states of all objects of a plan, with a log by which a block is taken back with no memory.
 
-ghost use Rattle.std.specs.Prelude.{◌≡◌, ◌≢◌, ◌↔◌, IsTrue, [], ◌∷◌, length, true, false, map, IfOk, OnErr, OnOk, MatchOption, option_map, is_some};
+ghost use Rattle.std.specs.Prelude.{◌≡◌, ◌≢◌, ◌↔◌, ◌≤◌, IsTrue, [], ◌∷◌, length, true, false, map, IfOk, OnErr, OnOk, MatchOption, option_map, is_some};
 ghost use Rattle.aud_object.specs.Objects.{opening_of};
 ghost use Rattle.aud_object.specs.States.{meaning};
 ghost use Rattle.aud_object.specs.Shown.{shown};
 ghost use Rattle.aud_object.specs.Logs.{back_at};
+ghost use Rattle.aud_object.specs.Digests.{digest_states};
 ghost use Rattle.aud_object.specs.Replayed.{same_answer, after_at, answer_at, answers, executed, replayed};
 
 use crate::block::Block;
 use crate::change::Change;
+use crate::digest::stir;
 use crate::execution::Execution;
 use crate::log::Entry;
 use crate::shown::{Shown, show_all};
@@ -122,12 +124,47 @@ fn have_same_meanings<A: Allocator + Drop>(a: &[State<A>], b: &[State<A>]) -> bo
     }
 }
 
+fn size_of_all<A: Allocator + Drop>(states: &[State<A>]) -> usize
+    ensures { length states.now ≤ result }
+{
+    let mut size = states.len();
+    for state in states {
+        size = size.saturating_add(state.size());
+    }
+    size
+}
+
+fn digest_all<A: Allocator + Drop>(states: &[State<A>]) -> u64
+    ensures { result ≡ digest_states 0 (map meaning states.now) }
+{
+    let mut digest = 0;
+    for state in states {
+        digest = stir(digest, state.digest());
+    }
+    digest
+}
+
 impl<A: Allocator + Drop> Store<A> {
     /// Whether all states mean the same now. It takes no memory, and time linear in the sizes of the states.
     pub fn same(&self, other: &Store<A>) -> bool
         ensures { IsTrue result ↔ (self.now.now ≡ other.now.now) }
     {
         have_same_meanings(&self.states, &other.states)
+    }
+
+    /// A number that is the same for stores whose states mean the same now. It takes no memory, and time linear in the sizes
+    /// of the states.
+    pub fn digest(&self) -> u64
+        ensures { result ≡ digest_states 0 self.now.now }
+    {
+        digest_all(&self.states)
+    }
+
+    /// How many numbers the states keep, or more, and one for each object: what a copy costs.
+    pub fn size(&self) -> usize
+        ensures { length self.now.now ≤ result }
+    {
+        size_of_all(&self.states)
     }
 
     /// How many objects there are.
@@ -158,6 +195,16 @@ impl<A: Allocator + Clone> Store<A> {
         ensures { IfOk result (λ list. map shown list.items ≡ self.now.now) }
     {
         show_all(alloc, &self.states)
+    }
+
+    /// The states as they are now, with no block to take back.
+    pub fn present(&self) -> Result<Store<A>, OutOfMemory>
+        ensures { IfOk result (λ copy. copy ≡ record { now = self.now.now; past = [] }) }
+    {
+        let states = dup_all(&self.states)?;
+        let alloc = self.states.allocator().clone()?;
+        let log = Vec::new(alloc);
+        Ok(Store { states, log })
     }
 
     /// Notes where a block begins.

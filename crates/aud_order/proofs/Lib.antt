@@ -4,3 +4,6 @@ pub mod Lengths
 pub mod KidLemmas
 pub mod Standing
 pub mod Gathering
+pub mod SilentRows
+pub mod Stepping
+pub mod Moves

@@ -1,3 +1,5 @@
 pub mod Shapes
 pub mod Cursors
 pub mod Kids
+pub mod Silent
+pub mod Moves

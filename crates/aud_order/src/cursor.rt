@@ -13,6 +13,7 @@ ghost use Rattle.aud_order.specs.Kids.{AreKids, goods};
 use crate::pushed::Pushed;
 use crate::shape::Shape;
 use aud_event::OutOfMemory;
+use aud_marks::Marks;
 use aud_object::Store;
 use aud_witness::{Decision, Fate, Placing};
 use std::alloc::{Allocator, Global};
@@ -77,6 +78,13 @@ impl<'a, A: Allocator + Copy> Cursor<'a, A> {
         ensures { result.now.now ≡ states_after (map opening_of (objects_of self.now.shape)) (kept (history_of self.now.shape) self.now.path) }
     {
         self.placing.store()
+    }
+
+    /// For each row of the table whether its transaction is placed.
+    pub fn placed(&self) -> &Marks<A>
+        ensures { result.now ≡ map (is_named self.now.path) (transactions (history_of self.now.shape)) }
+    {
+        self.placing.placed()
     }
 
     /// Whether the transaction is placed.
@@ -194,7 +202,7 @@ impl<'a, A: Allocator + Copy> Cursor<'a, A> {
     }
 
     /// Whether all that ended before the transaction of the row at the place began are placed.
-    fn is_enabled(&self, place: usize) -> bool
+    pub fn is_enabled(&self, place: usize) -> bool
         requires { place < length (table_of (history_of self.now.shape)) }
         ensures { result ≡ is_enabled (history_of self.now.shape) self.now.path (slice_index_or (transactions (history_of self.now.shape)) place 0) }
     {

@@ -2,8 +2,10 @@
 //! The choices of a history at each list of decisions, and a cursor over the lists that are good.
 
 mod cursor;
+pub mod laws;
 mod pushed;
 mod shape;
+mod silent;
 
 pub use cursor::Cursor;
 pub use pushed::Pushed;

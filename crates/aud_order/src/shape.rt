@@ -5,11 +5,13 @@ ghost use Rattle.aud_history.specs.WellFormed.{IsWellFormed};
 ghost use Rattle.aud_history.specs.FirstFault.{IsWithinLimits};
 ghost use Rattle.aud_history.specs.Table.{table_of};
 ghost use Rattle.aud_order.specs.Shapes.{plan_of, history_of};
+ghost use Rattle.aud_order.specs.Silent.{silent_fate};
 
+use crate::silent::silent_of;
 use aud_event::{OutOfMemory, Plan};
 use aud_facts::Sealed;
 use aud_history::{History, TxTable};
-use aud_witness::Agenda;
+use aud_witness::{Agenda, Fate};
 use std::alloc::{Allocator, Global};
 use std::marker::Model;
 use std::sync::Arc;
@@ -75,6 +77,19 @@ impl<A: Allocator + Copy> Shape<A> {
         ensures { result.now ≡ table_of (history_of self.now) }
     {
         self.agenda.table()
+    }
+
+    /// The silent fate of the transaction, if it is one that no other can see: A where every completion aborts it, C where it
+    /// may commit and all its operations are observing. It takes no memory.
+    pub fn silent(&self, tx: u32) -> Option<Fate>
+        ensures { result ≡ silent_fate (history_of self.now) tx }
+    {
+        let _ = self.history();
+        let table = self.table();
+        match table.place(tx) {
+            Some(place) => silent_of(&table.rows()[place]),
+            None => None,
+        }
     }
 
     pub(crate) fn agenda(&self) -> &Agenda<A>

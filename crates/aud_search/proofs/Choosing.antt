@@ -1,10 +1,10 @@
 -- The choices of a history, row by row, and in another order.
-use Rattle.std.specs.Prelude.{◌≡◌, ℕ, zero, suc, ◌+◌, ◌<◌, ◌≤◌, Bool, true, false, not, ◌&&◌, ◌||◌, if◌then◌else◌, nat_eq, List, [], ◌∷◌, ◌++◌, map, length, Some, slice_get, refl}
+use Rattle.std.specs.Prelude.{◌≡◌, ℕ, zero, suc, ◌+◌, ◌<◌, ◌≤◌, Bool, true, false, not, ◌&&◌, ◌||◌, if◌then◌else◌, nat_eq, List, [], ◌∷◌, ◌++◌, map, length, Option, Some, slice_get, refl}
 use Rattle.std.specs.List.{Contains, list_any, sum_by}
 use Rattle.std.specs.List.Sorted.{IsPermutation}
 use Rattle.std.proofs.Common.{sym, ◌∙◌, ap, subst, cond, inl, inr, arith, get_or, take}
 use Rattle.std.proofs.lemmas.List.{take_more, append-nil, length-take-le}
-use Rattle.std.proofs.lemmas.List.Elements.{Contains-append_left, Contains-append_right, Contains-append_cases}
+use Rattle.std.proofs.lemmas.List.Elements.{Contains-append_left, Contains-append_right, Contains-append_cases, Contains-push_cases}
 use Rattle.std.proofs.lemmas.List.Sums.{sum_by-append}
 use Rattle.std.proofs.lemmas.List.Sorted.{IsPermutation-sym, IsPermutation-map, Contains-permutation, sum_by-IsPermutation}
 use Rattle.aud_event.proofs.Bools.{or_false, and_true, not_true, split, nat_eq-refl, nat_eq-is}
@@ -18,7 +18,9 @@ use Rattle.aud_witness.specs.declared.decision.Decision.{Decision}
 use Rattle.aud_witness.specs.Spots.{status_allows}
 use Rattle.aud_witness.proofs.Bridge.{tx-rows, row-at, status-allowed}
 use Rattle.aud_search.specs.declared.choice.Choice.{Choice}
-use Rattle.aud_search.specs.Choices.{AreChoices, key_of, row_choices, choices_from}
+use Rattle.aud_order.specs.Silent.{silent_fate}
+use Rattle.aud_search.specs.declared.choice.Effect.TheVariants.{Silent}
+use Rattle.aud_search.specs.Choices.{AreChoices, AreMarked, AreMarkedFrom, key_of, row_choices, choices_from}
 
 abbrev Key : Type 0
 Key = ℕ × Decision
@@ -244,8 +246,38 @@ place-there (x ∷ ts) t there =
           (suc i, (omega arith, is))
     ]
 
-pub choices-sorted : (h : History) (gathered sorted : List Choice) → IsWellFormed h → map key_of gathered ≡ choices_from 0 (table_of h) → IsPermutation gathered sorted → AreChoices h sorted
-choices-sorted h gathered sorted fine is permuted = record {
+there-at : (cs : List Choice) (k : ℕ) (c : Choice) → slice_get cs k ≡ Some c → Contains cs c
+there-at [] k c at = absurd (cc)
+there-at (x ∷ cs) zero c at = let same : x ≡ c = cc in (0, omega arith, same)
+there-at (x ∷ cs) (suc k) c at = let (i, inside, is) = there-at cs k c at in (suc i, omega arith, is)
+
+-- # What is marked as silent
+
+pub marked-none : (h : History) (cs : List Choice) → cs ≡ [] → AreMarked h cs
+marked-none h cs none c there mark = let (i, inside, is) = subst (λ l. Contains l c) none there in absurd (omega arith)
+
+pub marked-same : (old new : List Choice) (t : ℕ) (silent : Option Fate) → new ≡ old → AreMarkedFrom old new t silent
+marked-same old new t silent same c there = inl (subst (λ l. Contains l c) same there)
+
+pub marked-push : (old new : List Choice) (t : ℕ) (silent : Option Fate) (x : Choice) → new ≡ old ++ x ∷ [] → (x.effect ≡ Silent → silent ≡ Some x.decision.fate) → x.decision.tx ≡ t → AreMarkedFrom old new t silent
+marked-push old new t silent x grown mark of c there =
+    elim (Contains-push_cases old x c (subst (λ l. Contains l c) grown there)) [
+      | inl before ↦ inl before
+      | inr is ↦ inr (λ is_silent. (mark (ap (λ (y : Choice). y.effect) is ∙ is_silent) ∙ ap (λ (y : Choice). Some y.decision.fate) is, sym (ap (λ (y : Choice). y.decision.tx) is) ∙ of))
+    ]
+
+pub marked-more : (h : History) (old mid new : List Choice) (t : ℕ) (silent : Option Fate) → AreMarked h old → AreMarkedFrom old mid t silent → AreMarkedFrom mid new t silent → silent ≡ silent_fate h t → AreMarked h new
+marked-more h old mid new t silent marked first second is c there mark =
+    elim (second c there) [
+      | inl before ↦ elim (first c before) [ inl earlier ↦ marked c earlier mark | inr told ↦ by (told mark) ]
+      | inr told ↦ by (told mark)
+    ]
+  where
+    by : (silent ≡ Some c.decision.fate) × (c.decision.tx ≡ t) → silent_fate h c.decision.tx ≡ Some c.decision.fate
+    by (some, of) = ap (silent_fate h) of ∙ sym is ∙ some
+
+pub choices-sorted : (h : History) (gathered sorted : List Choice) → IsWellFormed h → AreMarked h gathered → map key_of gathered ≡ choices_from 0 (table_of h) → IsPermutation gathered sorted → AreChoices h sorted
+choices-sorted h gathered sorted fine marked is permuted = record {
   rows = λ k c at.
       let member : Contains (choices_from 0 (table_of h)) (key_of c) = Contains-permutation (map key_of sorted) (choices_from 0 (table_of h)) (key_of c) (IsPermutation-sym (choices_from 0 (table_of h)) (map key_of sorted) keys) (key-there sorted k c at) in
       let (j, (r, (place, got, tx))) = of-row 0 (table_of h) (key_of c) member in
@@ -262,6 +294,7 @@ choices-sorted h gathered sorted fine is permuted = record {
       let few : sum_by (hits e.decision) (choices_from 0 (table_of h)) ≤ 1 = total-few e.decision 0 (table_of h) (subst (λ l. are_different l ≡ true) (sym (tx-rows h (transactions h))) (different-transactions h)) in
       let total : sum_by (hits e.decision) (map key_of sorted) ≡ sum_by (hits e.decision) (choices_from 0 (table_of h)) = sum_by-IsPermutation (hits e.decision) (choices_from 0 (table_of h)) (map key_of sorted) keys in
       omega arith;
+  silent = λ k c at mark. marked c (Contains-permutation sorted gathered c (IsPermutation-sym gathered sorted permuted) (there-at sorted k c at)) mark;
 }
   where
     keys : IsPermutation (choices_from 0 (table_of h)) (map key_of sorted)

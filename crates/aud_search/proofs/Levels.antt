@@ -4,19 +4,23 @@ use Rattle.std.specs.List.{Contains}
 use Rattle.std.proofs.Common.{sym, ◌∙◌, ap, subst, inl, inr, arith, take, append_assoc, length-append}
 use Rattle.std.proofs.lemmas.Bool.Decides.{nat_tests}
 use Rattle.std.proofs.lemmas.List.{append-nil}
-use Rattle.aud_event.specs.Meanings.{Declared}
+use Rattle.aud_event.specs.Meanings.{Declared, PlanOf}
 use Rattle.aud_event.proofs.Bools.{split}
 use Rattle.aud_history.specs.Histories.{History}
+use Rattle.aud_history.specs.WellFormed.{IsWellFormed}
+use Rattle.aud_history.specs.FirstFault.{IsWithinLimits}
 use Rattle.aud_witness.specs.declared.decision.Decision.{Decision}
 use Rattle.aud_witness.specs.Orders.{IsFull, IsGood, IsGoodNext, Shows, Refuted}
 use Rattle.aud_witness.proofs.Good.{Shows-from_IsGood}
+use Rattle.aud_order.proofs.Moves.{refuted-by_silent}
 use Rattle.aud_order.proofs.Lists.{length-push, push-parts, take-push}
 use Rattle.aud_order.proofs.Lengths.{length-full, full-from_length}
 use Rattle.aud_search.specs.declared.choice.Choice.{Choice}
 use Rattle.aud_search.specs.Choices.{AreChoices}
 use Rattle.aud_search.specs.Searches.{IsOpen, SpentBy, BeginsWith}
 use Rattle.aud_search.specs.Levels.{AreTried, AreBelow, IsSearching}
-use Rattle.aud_search.proofs.Refuting.{refuted-bad, refuted-by_kids}
+use Rattle.aud_search.specs.Tried.{IsBehind}
+use Rattle.aud_search.proofs.Refuting.{refuted-bad, refuted-longer, refuted-by_kids}
 
 -- # Lists
 
@@ -117,11 +121,39 @@ not_full : (objects : List Declared) (h : History) (path : List Decision) (c d :
 not_full objects h path c d good unfull other full =
     unfull (full-from_length objects h (path ++ c ∷ []) good (length-push path c ∙ sym (length-push path d) ∙ length-full objects h (path ++ d ∷ []) other full))
 
+-- and so are those behind it, where it is of a silent transaction
+pub tried-behind : (plan : PlanOf) (h : History) (cs : List Choice) (path : List Decision) (k g : ℕ) (c : Choice) → IsWellFormed h → IsWithinLimits plan h → AreChoices h cs → IsBehind cs k g →
+    slice_get cs k ≡ Some c → AreTried plan.objects h cs path k → IsGoodNext plan.objects h path c.decision → Refuted plan.objects h (path ++ c.decision ∷ []) → AreTried plan.objects h cs path g
+tried-behind plan h cs path k g c fine within choices behind at tried good refuted =
+    elim (behind.silent c at) [
+      | inl next ↦ subst (λ n. AreTried plan.objects h cs path n) (sym next) (tried-next plan.objects h cs path k c at tried refuted)
+      | inr silent ↦
+          let all : Refuted plan.objects h path = refuted-by_silent plan h path c.decision fine within (choices.silent k c at silent) good refuted in
+          λ j e below there. refuted-longer plan.objects h path (e.decision ∷ []) all
+    ]
+
+-- a choice is passed over whose list is known to be refuted
+pub search-on : (objects : List Declared) (h : History) (p : List Decision) (cs : List Choice) (used : ℕ) (path : List Decision) (next : ℕ) (gs : List ℕ) (g : ℕ) →
+    IsSearching objects h p cs used path next gs → next ≤ g → AreTried objects h cs path g → IsSearching objects h p cs used path g gs
+search-on objects h p cs used path next gs g s past tried = record {
+  es = s.es;
+  count = s.count;
+  different = s.different;
+  opens = s.opens;
+  extend = s.extend;
+  parents = s.parents;
+  unfull = s.unfull;
+  here = s.here;
+  tried = tried;
+  fresh = λ k c behind at. s.fresh k c (omega arith) at;
+  behind = s.behind;
+}
+
 -- a good choice is followed, and its list expanded
-pub search-deeper : (objects : List Declared) (h : History) (p : List Decision) (cs : List Choice) (used : ℕ) (path : List Decision) (next : ℕ) (gs : List ℕ) (k : ℕ) (c : Choice) →
-    AreChoices h cs → IsSearching objects h p cs used path next gs → next ≤ k → slice_get cs k ≡ Some c → AreTried objects h cs path k →
-    IsGood objects h (path ++ c.decision ∷ []) → (IsFull h (path ++ c.decision ∷ []) → ⊥) → IsSearching objects h p cs (used + 1) (path ++ c.decision ∷ []) 0 ((k + 1) ∷ gs)
-search-deeper objects h p cs used path next gs k c choices s past at tried good unfull = record {
+pub search-deeper : (objects : List Declared) (h : History) (p : List Decision) (cs : List Choice) (used : ℕ) (path : List Decision) (next : ℕ) (gs : List ℕ) (k g : ℕ) (c : Choice) →
+    AreChoices h cs → IsSearching objects h p cs used path next gs → next ≤ k → k < g → slice_get cs k ≡ Some c → (Refuted objects h (path ++ c.decision ∷ []) → AreTried objects h cs path g) →
+    IsGood objects h (path ++ c.decision ∷ []) → (IsFull h (path ++ c.decision ∷ []) → ⊥) → IsSearching objects h p cs (used + 1) (path ++ c.decision ∷ []) 0 (g ∷ gs)
+search-deeper objects h p cs used path next gs k g c choices s past behind at tried good unfull = record {
   es = new ∷ s.es;
   count = omega (arith, s.count);
   different = (s.fresh k c past at, s.different);
@@ -155,7 +187,7 @@ search-deeper objects h p cs used path next gs k c choices s past at tried good 
       c.decision,
       (
         refl,
-        (λ refuted. tried-next objects h cs path k c at tried refuted),
+        tried,
         (λ j e beyond there member. elim (contains_cases new s.es (path ++ e.decision ∷ []) member) [
           | inl same ↦ choices.once k j c e (omega arith) at there (push-parts path path c.decision e.decision same).1
           | inr old ↦ s.fresh j e (omega arith) there old

@@ -2,4 +2,5 @@ pub mod Refuting
 pub mod Choosing
 pub mod Levels
 pub mod Weights
+pub mod MemoLemmas
 pub mod Steps

@@ -6,28 +6,33 @@ use Rattle.std.proofs.lemmas.List.{append-nil, take_more, take_all, take-append-
 use Rattle.aud_event.specs.Meanings.{Declared}
 use Rattle.aud_event.proofs.Bools.{and_true, split}
 use Rattle.aud_history.specs.Histories.{History, is_in}
+use Rattle.aud_history.specs.WellFormed.{IsWellFormed}
+use Rattle.aud_history.specs.FirstFault.{IsWithinLimits}
 use Rattle.aud_history.specs.Table.{RowOf, transactions, table_of}
 use Rattle.aud_witness.specs.declared.decision.Fate.TheVariants.{C}
 use Rattle.aud_witness.specs.declared.decision.Decision.{Decision}
 use Rattle.aud_witness.specs.Orders.{is_allowed, is_named, kept, block, IsFull, IsGood, IsGoodNext, Shows, Refuted}
 use Rattle.aud_witness.specs.Enumeration.{is_legal_from}
 use Rattle.aud_witness.specs.OrderFaults.{is_enabled}
-use Rattle.aud_witness.proofs.Good.{IsGood-push, Shows-from_IsGood}
-use Rattle.aud_order.specs.Shapes.{ShapeOf, objects_of, history_of}
+use Rattle.aud_witness.proofs.Good.{IsGood-last, IsGood-push, Shows-from_IsGood}
+use Rattle.aud_order.specs.Shapes.{ShapeOf, plan_of, objects_of, history_of}
 use Rattle.aud_order.specs.Cursors.{CursorOf}
+use Rattle.aud_order.specs.Silent.{silent_fate}
 use Rattle.aud_order.proofs.KidLemmas.{good-from_next}
-use Rattle.aud_order.proofs.Lists.{length-push}
+use Rattle.aud_order.proofs.Lists.{length-push, take-push}
 use Rattle.aud_order.proofs.Lengths.{length-good}
+use Rattle.aud_search.specs.declared.choice.Effect.TheVariants.{Silent}
 use Rattle.aud_search.specs.declared.choice.Choice.{Choice}
 use Rattle.aud_search.specs.declared.outcome.Outcome.{Outcome}
 use Rattle.aud_search.specs.declared.outcome.Outcome.TheVariants as outcome
 use Rattle.aud_search.specs.Choices.{AreChoices}
 use Rattle.aud_search.specs.Searches.{SpentBy, BeginsWith, Tells}
 use Rattle.aud_search.specs.Levels.{AreTried, IsSearching, IsOneLess}
-use Rattle.aud_search.specs.Tried.{IsGoodAt, cursor_with, IsOfRow, IsTried, IsFound, ArePushed, Spends, TellsFrom}
+use Rattle.aud_search.specs.Memos.{MemoOf, states_behind, Names, NameWay, IsStep}
+use Rattle.aud_search.specs.Tried.{IsGoodAt, cursor_with, IsOfRow, IsTried, IsFound, IsBehind, ArePushed, Spends, TellsFrom}
 use Rattle.aud_search.proofs.Refuting.{refuted-bad, refuted-longer}
-use Rattle.aud_search.proofs.Levels.{tried-more, search-deeper, search-spent, search-unspent, refuted-here, search-back, search-refuted, search-begins}
-use Rattle.aud_search.proofs.Weights.{weigh, lighter-deeper, lighter-back}
+use Rattle.aud_search.proofs.Levels.{tried-more, tried-behind, search-on, search-deeper, search-spent, search-unspent, refuted-here, search-back, search-refuted, search-begins}
+use Rattle.aud_search.proofs.Weights.{weigh, lighter-deeper, lighter-on, lighter-back}
 
 -- # A prefix
 
@@ -83,7 +88,7 @@ not-ready cur c b (r, (at, tx)) told not_so good =
     cc
 
 abbrev pub no_choice : Choice
-no_choice = record { is_seen = false; last = 0; place = 0; decision = no_decision }
+no_choice = record { effect = Silent; last = 0; place = 0; decision = no_decision }
 
 pub choice-at : (cs : List Choice) (k : ℕ) → k < length cs → slice_get cs k ≡ Some (slice_index_or cs k no_choice)
 choice-at [] k inside = absurd (omega arith)
@@ -226,27 +231,87 @@ loop-spent start cur new cs used next k gs s f unfull =
 reverse-push : (xs : List ℕ) (x : ℕ) → reverse (xs ++ x ∷ []) ≡ x ∷ reverse xs
 reverse-push xs x = reverse-append xs (x ∷ [])
 
-pub loop-deeper : (start cur new : CursorOf) (cs : List Choice) (used next k : ℕ) (below more : List ℕ) → AreChoices (history_of start.shape) cs →
+-- what the search needs of its history, and of its choices
+pub record Grounds (shape : ShapeOf) (cs : List Choice) : Type 0 where
+  pub fine : IsWellFormed (history_of shape)
+  pub within : IsWithinLimits (plan_of shape) (history_of shape)
+  pub choices : AreChoices (history_of shape) cs
+
+followed-tried : (start cur new : CursorOf) (cs : List Choice) (next k g : ℕ) → Grounds start.shape cs → (f : Follows start cur new cs next k) → IsBehind cs k g →
+    Refuted (objects_of start.shape) (history_of start.shape) (cur.path ++ f.choice.decision ∷ []) → AreTried (objects_of start.shape) (history_of start.shape) cs cur.path g
+followed-tried start cur new cs next k g on f behind refuted =
+    tried-behind (plan_of start.shape) (history_of start.shape) cs cur.path k g f.choice on.fine on.within on.choices behind f.at f.tried
+    (IsGood-last (objects_of start.shape) (history_of start.shape) cur.path f.choice.decision f.good) refuted
+
+pub loop-deeper : (start cur new : CursorOf) (cs : List Choice) (used next k g : ℕ) (below more : List ℕ) → Grounds start.shape cs →
     IsSearching (objects_of start.shape) (history_of start.shape) start.path cs used cur.path next (reverse below) →
-    Follows start cur new cs next k → (IsFull (history_of new.shape) new.path → ⊥) → more ≡ below ++ (k + 1) ∷ [] →
+    Follows start cur new cs next k → (IsFull (history_of new.shape) new.path → ⊥) → IsBehind cs k g → more ≡ below ++ g ∷ [] →
     IsSearching (objects_of start.shape) (history_of start.shape) start.path cs (used + 1) new.path 0 (reverse more)
-loop-deeper start cur new cs used next k below more choices s f unfull grown =
-    subst (λ l. IsSearching (objects_of start.shape) (history_of start.shape) start.path cs (used + 1) new.path 0 l) (sym (ap reverse grown ∙ reverse-push below (k + 1)))
-    (subst (λ l. IsSearching (objects_of start.shape) (history_of start.shape) start.path cs (used + 1) l 0 ((k + 1) ∷ reverse below)) (sym f.path)
-    (search-deeper (objects_of start.shape) (history_of start.shape) start.path cs used cur.path next (reverse below) k f.choice choices s f.past f.at f.tried f.good (λ full. unfull (full-here start cur new cs next k f full))))
+loop-deeper start cur new cs used next k g below more on s f unfull behind grown =
+    subst (λ l. IsSearching (objects_of start.shape) (history_of start.shape) start.path cs (used + 1) new.path 0 l) (sym (ap reverse grown ∙ reverse-push below g))
+    (subst (λ l. IsSearching (objects_of start.shape) (history_of start.shape) start.path cs (used + 1) l 0 (g ∷ reverse below)) (sym f.path)
+    (search-deeper (objects_of start.shape) (history_of start.shape) start.path cs used cur.path next (reverse below) k g f.choice on.choices s f.past behind.past f.at (followed-tried start cur new cs next k g on f behind) f.good (λ full. unfull (full-here start cur new cs next k f full))))
+
+-- a followed list that is known to be refuted
+followed-refuted : (start cur new : CursorOf) (cs : List Choice) (next k : ℕ) → (f : Follows start cur new cs next k) → Refuted (objects_of new.shape) (history_of new.shape) new.path →
+    Refuted (objects_of start.shape) (history_of start.shape) (cur.path ++ f.choice.decision ∷ [])
+followed-refuted start cur new cs next k f refuted =
+    subst (λ l. Refuted (objects_of start.shape) (history_of start.shape) l) f.path (subst (λ (s : ShapeOf). Refuted (objects_of s) (history_of s) new.path) f.shape refuted)
+
+-- the cursor goes on and back
+pub went-back : (start cur new popped : CursorOf) (cs : List Choice) (next k : ℕ) → Follows start cur new cs next k → popped ≡ record { shape = new.shape; path = take (length new.path - 1) new.path } →
+    (popped.shape ≡ start.shape) × (popped.path ≡ cur.path)
+went-back start cur new popped cs next k f is = (
+  ap (λ (v : CursorOf). v.shape) is ∙ f.shape,
+  ap (λ (v : CursorOf). v.path) is ∙ ap (λ l. take (length l - 1) l) f.path ∙ take-push cur.path f.choice.decision,
+)
+
+-- a choice is passed over, as its list is known to be refuted
+pub loop-known : (start cur new popped : CursorOf) (cs : List Choice) (used next k g : ℕ) (below : List ℕ) → Grounds start.shape cs →
+    IsSearching (objects_of start.shape) (history_of start.shape) start.path cs used cur.path next (reverse below) →
+    Follows start cur new cs next k → IsBehind cs k g → Refuted (objects_of new.shape) (history_of new.shape) new.path →
+    popped ≡ record { shape = new.shape; path = take (length new.path - 1) new.path } →
+    IsSearching (objects_of start.shape) (history_of start.shape) start.path cs used popped.path g (reverse below)
+loop-known start cur new popped cs used next k g below on s f behind refuted is =
+    let past = f.past in let further = behind.past in
+    subst (λ l. IsSearching (objects_of start.shape) (history_of start.shape) start.path cs used l g (reverse below)) (sym (went-back start cur new popped cs next k f is).1)
+    (search-on (objects_of start.shape) (history_of start.shape) start.path cs used cur.path next (reverse below) g s (omega arith)
+    (followed-tried start cur new cs next k g on f behind (followed-refuted start cur new cs next k f refuted)))
+
+-- the followed choice is a step on from a list behind which the states have the number
+pub step-at : (start cur new : CursorOf) (cs : List Choice) (next k : ℕ) (memo : MemoOf) (n : Option ℕ) (ns : List (Option ℕ)) → Grounds start.shape cs → Follows start cur new cs next k → memo.shape ≡ start.shape →
+    NameWay start.shape memo.states (n ∷ ns) cur.path → IsStep memo n (slice_index_or cs k no_choice) new
+step-at start cur new cs next k memo n ns on f same way =
+    let there : slice_get cs k ≡ Some picked = choice-at cs k f.inside in
+    let own : f.choice ≡ picked = (let a = f.at in cc) in record {
+      shape = same ∙ sym f.shape;
+      path = cur.path;
+      on = f.path ∙ ap (λ (c : Choice). cur.path ++ c.decision ∷ []) own;
+      names = subst (λ (s : ShapeOf). Names memo.states n (states_behind s cur.path)) (sym f.shape) way.0;
+      silent = λ quiet. subst (λ (s : ShapeOf). silent_fate (history_of s) picked.decision.tx ≡ Some picked.decision.fate) (sym f.shape) (on.choices.silent k picked there quiet);
+    }
+  where
+    picked : Choice
+    picked = slice_index_or cs k no_choice
 
 abbrev pub weight : ShapeOf → List Choice → List Decision → ℕ → List ℕ → ℕ
 weight shape cs path next below = weigh (length cs) (length (transactions (history_of shape))) (length path) next (reverse below)
 
-pub loop-deeper-lighter : (start cur new : CursorOf) (cs : List Choice) (next k : ℕ) (below more : List ℕ) →
-    Follows start cur new cs next k → more ≡ below ++ (k + 1) ∷ [] → weight start.shape cs new.path 0 more < weight start.shape cs cur.path next below
-loop-deeper-lighter start cur new cs next k below more f grown =
+pub loop-deeper-lighter : (start cur new : CursorOf) (cs : List Choice) (next k g : ℕ) (below more : List ℕ) →
+    Follows start cur new cs next k → k < g → more ≡ below ++ g ∷ [] → weight start.shape cs new.path 0 more < weight start.shape cs cur.path next below
+loop-deeper-lighter start cur new cs next k g below more f behind grown =
     let long : length new.path ≡ length cur.path + 1 = ap length f.path ∙ length-push cur.path f.choice.decision in
     let short : length (cur.path ++ f.choice.decision ∷ []) ≤ length (transactions (history_of start.shape)) = length-good (objects_of start.shape) (history_of start.shape) (cur.path ++ f.choice.decision ∷ []) f.good in
     let one : length (cur.path ++ f.choice.decision ∷ []) ≡ length cur.path + 1 = length-push cur.path f.choice.decision in
-    subst (λ l. weigh (length cs) (length (transactions (history_of start.shape))) (length new.path) 0 l < weight start.shape cs cur.path next below) (sym (ap reverse grown ∙ reverse-push below (k + 1)))
-    (subst (λ n. weigh (length cs) (length (transactions (history_of start.shape))) n 0 ((k + 1) ∷ reverse below) < weight start.shape cs cur.path next below) (sym long)
-    (lighter-deeper (length cs) (length (transactions (history_of start.shape))) (length cur.path) next k (reverse below) (omega arith) f.past f.inside))
+    subst (λ l. weigh (length cs) (length (transactions (history_of start.shape))) (length new.path) 0 l < weight start.shape cs cur.path next below) (sym (ap reverse grown ∙ reverse-push below g))
+    (subst (λ n. weigh (length cs) (length (transactions (history_of start.shape))) n 0 (g ∷ reverse below) < weight start.shape cs cur.path next below) (sym long)
+    (lighter-deeper (length cs) (length (transactions (history_of start.shape))) (length cur.path) next k g (reverse below) (omega arith) f.past f.inside behind))
+
+pub loop-known-lighter : (start cur new popped : CursorOf) (cs : List Choice) (next k g : ℕ) (below : List ℕ) →
+    Follows start cur new cs next k → k < g → popped ≡ record { shape = new.shape; path = take (length new.path - 1) new.path } → weight start.shape cs popped.path g below < weight start.shape cs cur.path next below
+loop-known-lighter start cur new popped cs next k g below f behind is =
+    subst (λ l. weight start.shape cs l g below < weight start.shape cs cur.path next below) (sym (went-back start cur new popped cs next k f is).1)
+    (lighter-on (length cs) (length (transactions (history_of start.shape))) (length cur.path) next k g (reverse below) f.past f.inside behind)
 
 pub loop-refuted : (start cur new : CursorOf) (cs : List Choice) (used next : ℕ) (gs : List ℕ) → cur.shape ≡ start.shape → AreChoices (history_of start.shape) cs →
     IsSearching (objects_of start.shape) (history_of start.shape) start.path cs used cur.path next gs → IsFound cur new cs next None → Refuted (objects_of start.shape) (history_of start.shape) cur.path
@@ -274,7 +339,7 @@ back-same old new false root back =
 pub loop-back : (start cur mid new : CursorOf) (cs : List Choice) (used next g : ℕ) (below less : List ℕ) → cur.shape ≡ start.shape → AreChoices (history_of start.shape) cs →
     IsSearching (objects_of start.shape) (history_of start.shape) start.path cs used cur.path next (reverse below) → IsFound cur mid cs next None → below ≡ less ++ g ∷ [] →
     new ≡ record { shape = mid.shape; path = take (length mid.path - 1) mid.path } →
-    (new.shape ≡ start.shape) × IsSearching (objects_of start.shape) (history_of start.shape) start.path cs used new.path g (reverse less)
+    (new.shape ≡ start.shape) × IsSearching (objects_of start.shape) (history_of start.shape) start.path cs used new.path g (reverse less) × (new.path ≡ take (length cur.path - 1) cur.path)
 loop-back start cur mid new cs used next g below less same choices s found shorter is =
     let refuted = loop-refuted start cur mid cs used next (reverse below) same choices s found in
     let stayed : mid ≡ cur = found.0 in
@@ -283,6 +348,7 @@ loop-back start cur mid new cs used next g below less same choices s found short
       subst (λ l. IsSearching (objects_of start.shape) (history_of start.shape) start.path cs used l g (reverse less)) (sym path)
           (search-back (objects_of start.shape) (history_of start.shape) start.path cs used cur.path next g (reverse less)
           (subst (λ l. IsSearching (objects_of start.shape) (history_of start.shape) start.path cs used cur.path next l) (ap reverse shorter ∙ reverse-push less g) s) refuted),
+      path,
     )
 
 length-shorter : (path : List Decision) → length (take (length path - 1) path) ≡ length path - 1

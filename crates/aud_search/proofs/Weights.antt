@@ -47,19 +47,28 @@ lighter b more less height fewer =
     omega arith
 
 -- a choice was followed
-pub lighter-deeper : (b n depth next k : ℕ) (gs : List ℕ) → depth < n → next ≤ k → k < b →
-    weigh b n (depth + 1) 0 ((k + 1) ∷ gs) < weigh b n depth next gs
-lighter-deeper b n depth next k gs below past inside =
+pub lighter-deeper : (b n depth next k g : ℕ) (gs : List ℕ) → depth < n → next ≤ k → k < b → k < g →
+    weigh b n (depth + 1) 0 (g ∷ gs) < weigh b n depth next gs
+lighter-deeper b n depth next k g gs below past inside behind =
     let up : n - depth ≡ suc (n - (depth + 1)) = omega arith in
     let back : (depth + 1) - 1 ≡ depth = omega arith in
     let zero_off : b - 0 ≡ b = omega arith in
-    let less : level b b (n - (depth + 1)) + level b (b - (k + 1)) (suc (n - (depth + 1))) < level b (b - next) (suc (n - (depth + 1))) =
-    lighter b (b - next) (b - (k + 1)) (n - (depth + 1)) (omega arith) in
-    let whole : level b b (n - (depth + 1)) + level b (b - (k + 1)) (n - depth) < level b (b - next) (n - depth) =
-    subst (λ m. level b b (n - (depth + 1)) + level b (b - (k + 1)) m < level b (b - next) m) (sym up) less in
-    let seen : weigh b n (depth + 1) 0 ((k + 1) ∷ gs) ≡ level b b (n - (depth + 1)) + (level b (b - (k + 1)) (n - depth) + under b n depth gs) =
-    ap (λ m. level b m (n - (depth + 1)) + (level b (b - (k + 1)) (n - ((depth + 1) - 1)) + under b n ((depth + 1) - 1) gs)) zero_off
-    ∙ ap (λ m. level b b (n - (depth + 1)) + (level b (b - (k + 1)) (n - m) + under b n m gs)) back in
+    let less : level b b (n - (depth + 1)) + level b (b - g) (suc (n - (depth + 1))) < level b (b - next) (suc (n - (depth + 1))) =
+    lighter b (b - next) (b - g) (n - (depth + 1)) (omega arith) in
+    let whole : level b b (n - (depth + 1)) + level b (b - g) (n - depth) < level b (b - next) (n - depth) =
+    subst (λ m. level b b (n - (depth + 1)) + level b (b - g) m < level b (b - next) m) (sym up) less in
+    let seen : weigh b n (depth + 1) 0 (g ∷ gs) ≡ level b b (n - (depth + 1)) + (level b (b - g) (n - depth) + under b n depth gs) =
+    ap (λ m. level b m (n - (depth + 1)) + (level b (b - g) (n - ((depth + 1) - 1)) + under b n ((depth + 1) - 1) gs)) zero_off
+    ∙ ap (λ m. level b b (n - (depth + 1)) + (level b (b - g) (n - m) + under b n m gs)) back in
+    omega arith
+
+-- a choice was passed over
+pub lighter-on : (b n depth next k g : ℕ) (gs : List ℕ) → next ≤ k → k < b → k < g → weigh b n depth g gs < weigh b n depth next gs
+lighter-on b n depth next k g gs past inside behind =
+    let P : ℕ = power b (n - depth) in
+    let some : 1 ≤ P = power-some b (n - depth) in
+    let low : ((b - g) + 1) * P + P ≡ (((b - g) + 1) + 1) * P = sym (one-more ((b - g) + 1) P) in
+    let high : (((b - g) + 1) + 1) * P ≤ ((b - next) + 1) * P = mul-le-mul_right P (omega arith) in
     omega arith
 
 -- a list was left

@@ -1,5 +1,6 @@
 -- All choices that a completion gives, in the order in which a search tries them.
-use Rattle.std.specs.Prelude.{◌≡◌, ℕ, suc, ◌<◌, ◌++◌, true, if◌then◌else◌, List, [], ◌∷◌, Some, slice_get}
+use Rattle.std.specs.Prelude.{◌≡◌, ℕ, suc, ◌<◌, ◌++◌, true, if◌then◌else◌, List, [], ◌∷◌, Option, Some, slice_get, ◌⊎◌}
+use Rattle.std.specs.List.{Contains}
 use Rattle.aud_history.specs.Histories.{History, is_in}
 use Rattle.aud_history.specs.Table.{RowOf, table_of}
 use Rattle.aud_witness.specs.declared.decision.Fate.{Fate}
@@ -7,6 +8,8 @@ use Rattle.aud_witness.specs.declared.decision.Fate.TheVariants.{C, A}
 use Rattle.aud_witness.specs.declared.decision.Decision.{Decision}
 use Rattle.aud_witness.specs.Orders.{is_allowed}
 use Rattle.aud_witness.specs.Spots.{status_allows}
+use Rattle.aud_order.specs.Silent.{silent_fate}
+use Rattle.aud_search.specs.declared.choice.Effect.TheVariants.{Silent}
 use Rattle.aud_search.specs.declared.choice.Choice.{Choice}
 
 -- what a choice chooses, and where its row is
@@ -22,8 +25,17 @@ abbrev pub choices_from : ℕ → List RowOf → List (ℕ × Decision)
 choices_from n [] = []
 choices_from n (r ∷ rs) = (row_choices n r C ++ row_choices n r A) ++ choices_from (suc n) rs
 
+-- what is marked as silent is the decision of a silent transaction with its silent fate
+abbrev pub AreMarked : History → List Choice → Type 0
+AreMarked h cs = (c : Choice) → Contains cs c → c.effect ≡ Silent → silent_fate h c.decision.tx ≡ Some c.decision.fate
+
+-- what came to some choices is of T, and marked as silent only with the silent fate of T
+abbrev pub AreMarkedFrom : List Choice → List Choice → ℕ → Option Fate → Type 0
+AreMarkedFrom old new t silent = (c : Choice) → Contains new c → Contains old c ⊎ (c.effect ≡ Silent → (silent ≡ Some c.decision.fate) × (c.decision.tx ≡ t))
+
 -- every transaction with every fate that it may have, once, each with the place of its row
 pub record AreChoices (h : History) (cs : List Choice) : Type 0 where
   pub rows : (k : ℕ) (c : Choice) → slice_get cs k ≡ Some c → (r : RowOf) × ((slice_get (table_of h) c.place ≡ Some r) × (r.tx ≡ c.decision.tx))
   pub whole : (d : Decision) → is_in h d.tx ≡ true → is_allowed h d.tx d.fate ≡ true → (k : ℕ) × ((c : Choice) × ((slice_get cs k ≡ Some c) × (c.decision ≡ d)))
   pub once : (j k : ℕ) (c e : Choice) → j < k → slice_get cs j ≡ Some c → slice_get cs k ≡ Some e → c.decision ≡ e.decision → ⊥
+  pub silent : (k : ℕ) (c : Choice) → slice_get cs k ≡ Some c → c.effect ≡ Silent → silent_fate h c.decision.tx ≡ Some c.decision.fate

@@ -2,3 +2,4 @@ pub mod Searches
 pub mod Choices
 pub mod Levels
 pub mod Tried
+pub mod Memos

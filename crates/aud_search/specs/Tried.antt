@@ -1,5 +1,5 @@
 -- What became of choices that a search tried.
-use Rattle.std.specs.Prelude.{◌≡◌, ℕ, ◌+◌, ◌<◌, ◌≤◌, Bool, true, false, List, [], ◌∷◌, ◌++◌, length, Option, Some, None, slice_get}
+use Rattle.std.specs.Prelude.{◌≡◌, ℕ, ◌+◌, ◌<◌, ◌≤◌, Bool, true, false, List, [], ◌∷◌, ◌++◌, length, Option, Some, None, slice_get, ◌⊎◌}
 use Rattle.aud_event.specs.Meanings.{Declared}
 use Rattle.aud_history.specs.Histories.{History}
 use Rattle.aud_history.specs.Table.{RowOf, table_of}
@@ -7,6 +7,7 @@ use Rattle.aud_witness.specs.declared.decision.Decision.{Decision}
 use Rattle.aud_witness.specs.Orders.{IsGoodNext, Shows, Refuted}
 use Rattle.aud_order.specs.Shapes.{objects_of, history_of}
 use Rattle.aud_order.specs.Cursors.{CursorOf}
+use Rattle.aud_search.specs.declared.choice.Effect.TheVariants.{Silent}
 use Rattle.aud_search.specs.declared.choice.Choice.{Choice}
 use Rattle.aud_search.specs.declared.outcome.Outcome.{Outcome}
 use Rattle.aud_search.specs.declared.outcome.Outcome.TheVariants as outcome
@@ -34,6 +35,12 @@ IsFound old new cs from None = (new ≡ old) × ((j : ℕ) (c : Choice) → from
 IsFound old new cs from (Some k) =
     (c : Choice) × ((from ≤ k) × (k < length cs) × (slice_get cs k ≡ Some c) × IsGoodAt old c.decision × (new ≡ cursor_with old c.decision)
     × ((j : ℕ) (e : Choice) → from ≤ j → j < k → slice_get cs j ≡ Some e → IsGoodAt old e.decision → ⊥))
+
+-- the place of the next choice once the one at k is refuted: behind one of a silent transaction it may be any
+pub record IsBehind (cs : List Choice) (k g : ℕ) : Type 0 where
+  pub past : k < g
+  pub inside : g ≤ length cs
+  pub silent : (c : Choice) → slice_get cs k ≡ Some c → (g ≡ k + 1) ⊎ (c.effect ≡ Silent)
 
 -- the decisions were all placed, or no list that begins with them shows
 abbrev pub ArePushed : CursorOf → CursorOf → List Decision → Bool → Type 0

@@ -1,60 +1,73 @@
 //! All choices of a history, in the order in which a search tries them.
 
-ghost use Rattle.std.specs.Prelude.{◌≡◌, ◌++◌, map, IfOk, OnOk};
+ghost use Rattle.std.specs.Prelude.{◌≡◌, ◌++◌, map, Some, IfOk, OnOk};
 ghost use Rattle.aud_history.specs.Table.{table_of};
 ghost use Rattle.aud_order.specs.Shapes.{history_of};
-ghost use Rattle.aud_search.specs.Choices.{AreChoices, key_of, row_choices, choices_from};
+ghost use Rattle.aud_search.specs.Choices.{AreChoices, AreMarked, AreMarkedFrom, key_of, row_choices, choices_from};
 
-use aud_event::{Op, OutOfMemory};
+use aud_event::OutOfMemory;
 use aud_history::TxRow;
-use aud_object::Block;
 use aud_order::Shape;
 use aud_witness::{Decision, Fate, allows};
 use std::alloc::Allocator;
 
+/// What others see of a transaction with a fate.
+#[derive(Clone, Copy, Debug, PartialEq, Eq, PartialOrd, Ord)]
+pub(crate) enum Effect {
+    /// Nothing, whatever its fate: it may be placed at once wherever it is good.
+    Silent,
+    /// Nothing, as it aborts.
+    Unseen,
+    /// What it did.
+    Seen,
+}
+
 /// A decision that a completion may make, with the place of its transaction's row.
 ///
-/// Choices are ordered as a search tries them: first those that no other transaction sees, then by when the transaction
-/// did its last event, as most memories let their transactions take effect about when they end.
+/// Choices are ordered as a search tries them: first those of silent transactions, then those that abort, then by when the
+/// transaction did its last event, as most memories let their transactions take effect about when they end.
 #[derive(Clone, Copy, Debug, PartialEq, Eq, PartialOrd, Ord)]
 pub(crate) struct Choice {
-    pub is_seen: bool,
+    pub effect: Effect,
     pub last: u32,
     pub place: usize,
     pub decision: Decision,
 }
 
-/// Whether the operation leaves every object as it is.
-fn observes(op: Op) -> bool {
-    match op {
-        Op::Read | Op::Get | Op::Contains(_) => true,
-        Op::Write(_) | Op::Inc | Op::Dec | Op::Add(_) | Op::Remove(_) | Op::Enq(_) | Op::Deq =>
-            false,
-    }
-}
-
-/// Whether others can see what the transaction did, where it has the fate.
-fn is_seen<A: Allocator>(block: &Block<A>, fate: Fate) -> bool {
+/// What others see of a transaction with the fate.
+fn effect_of(silent: Option<Fate>, fate: Fate) -> Effect
+    ensures { result ≡ Effect.Silent → silent ≡ Some fate }
+{
     match fate {
-        Fate::C => !block.executions().iter().all(|x| observes(x.op)),
-        Fate::A => false,
+        Fate::C => match silent {
+            Some(Fate::C) => Effect::Silent,
+            Some(Fate::A) => Effect::Seen,
+            None => Effect::Seen,
+        },
+        Fate::A => match silent {
+            Some(Fate::C) => Effect::Unseen,
+            Some(Fate::A) => Effect::Silent,
+            None => Effect::Unseen,
+        },
     }
 }
 
-/// Adds the choice of the fate, if a completion may give it to the row's transaction.
+/// Adds the choice of the fate, if a completion may give it to the row's transaction, whose silent fate is known.
 fn add_choice<A: Allocator>(
     choices: &mut Vec<Choice, A>,
     place: usize,
     row: &TxRow<A>,
+    silent: Option<Fate>,
     fate: Fate,
 ) -> Result<(), OutOfMemory>
-    ensures { OnOk result (map key_of choices.new.items ≡ map key_of choices.old.items ++ row_choices place row.now fate) }
+    ensures marked { OnOk result (AreMarkedFrom choices.old.items choices.new.items row.now.tx silent) }
+    ensures added { OnOk result (map key_of choices.new.items ≡ map key_of choices.old.items ++ row_choices place row.now fate) }
 {
     if allows(row.status(), fate) {
-        let is_seen = is_seen(row.block(), fate);
+        let effect = effect_of(silent, fate);
         let decision = Decision { tx: row.tx(), fate };
         choices.push(Choice {
-            is_seen,
+            effect,
             last: row.last(),
             place,
             decision,
@@ -63,14 +76,20 @@ fn add_choice<A: Allocator>(
     Ok(())
 }
 
-/// The choices of the rows, by the rows' places.
-fn gather<A: Allocator>(alloc: A, rows: &[TxRow<A>]) -> Result<Vec<Choice, A>, OutOfMemory>
-    ensures { IfOk result (λ choices. map key_of choices.items ≡ choices_from 0 rows.now) }
+/// The choices of all rows, by the rows' places.
+fn gather<A: Allocator + Copy>(
+    alloc: A,
+    shape: &Shape<A>,
+    rows: &[TxRow<A>],
+) -> Result<Vec<Choice, A>, OutOfMemory>
+    ensures all { IfOk result (λ choices. map key_of choices.items ≡ choices_from 0 rows.now) }
+    ensures marked { IfOk result (λ choices. AreMarked (history_of shape.now) choices.items) }
 {
     let mut choices = Vec::new(alloc);
     for (place, row) in rows.iter().enumerate() {
-        add_choice(&mut choices, place, row, Fate::C)?;
-        add_choice(&mut choices, place, row, Fate::A)?;
+        let silent = shape.silent(row.tx());
+        add_choice(&mut choices, place, row, silent, Fate::C)?;
+        add_choice(&mut choices, place, row, silent, Fate::A)?;
     }
     Ok(choices)
 }
@@ -83,7 +102,7 @@ pub(crate) fn choices_of<A: Allocator + Copy>(
     ensures { IfOk result (λ choices. AreChoices (history_of shape.now) choices.items) }
 {
     let _ = shape.history();
-    let mut choices = gather(alloc, shape.table().rows())?;
+    let mut choices = gather(alloc, shape, shape.table().rows())?;
     choices.sort()?;
     Ok(choices)
 }

@@ -1,14 +1,19 @@
-//! The search over one cursor: each good list of decisions is expanded at most once.
+//! The search over one cursor: each good list of decisions is expanded at most once, and so is each spot, which is the
+//! transactions placed and the states of all objects. Where a silent transaction is good, only its choice is followed.
 
 ghost use Rattle.std.specs.Prelude.{◌≡◌, ◌↔◌, ◌<◌, ◌≤◌, Some, None, length, true, IfOk, MatchOption};
 ghost use Rattle.aud_witness.specs.Orders.{IsFull, Opaque};
-ghost use Rattle.aud_order.specs.Shapes.{objects_of, history_of};
+ghost use Rattle.aud_history.specs.WellFormed.{IsWellFormed};
+ghost use Rattle.aud_history.specs.FirstFault.{IsWithinLimits};
+ghost use Rattle.aud_order.specs.Shapes.{plan_of, objects_of, history_of};
 ghost use Rattle.aud_search.specs.Choices.{AreChoices};
 ghost use Rattle.aud_search.specs.Levels.{IsOneLess};
+ghost use Rattle.aud_search.specs.Memos.{IsLastOf};
 ghost use Rattle.aud_search.specs.Searches.{Tells, Decides};
-ghost use Rattle.aud_search.specs.Tried.{IsOfRow, IsTried, IsFound, ArePushed, TellsFrom};
+ghost use Rattle.aud_search.specs.Tried.{IsOfRow, IsTried, IsFound, IsBehind, ArePushed, TellsFrom};
 
-use crate::choice::{Choice, choices_of};
+use crate::choice::{Choice, Effect, choices_of};
+use crate::memo::Memo;
 use crate::outcome::{Decided, Outcome};
 use aud_event::OutOfMemory;
 use aud_order::{Cursor, Pushed, Shape};
@@ -81,18 +86,47 @@ fn try_from<A: Allocator + Copy>(
     Ok(None)
 }
 
+/// The place of the next choice once this one is refuted. Behind one of a silent transaction none is left to try.
+fn place_behind(choices: &[Choice], place: usize) -> usize
+    requires { place < length choices.now }
+    ensures { IsBehind choices.now place result }
+{
+    match choices[place].effect {
+        Effect::Silent => choices.len(),
+        Effect::Unseen => place + 1,
+        Effect::Seen => place + 1,
+    }
+}
+
+/// The last number, which is then no longer there; none where none is left.
+fn last_of<A: Allocator>(numbers: &mut Vec<Option<usize>, A>) -> Option<usize>
+    ensures { IsLastOf numbers.old.items result numbers.new.items }
+{
+    match numbers.pop() {
+        Some(number) => number,
+        None => None,
+    }
+}
+
 /// Searches the lists that begin with the cursor's, which is expanded first.
-fn search_from<A: Allocator + Copy>(
+fn search_from<'a, A: Allocator + Copy>(
     alloc: A,
-    cursor: &mut Cursor<A>,
+    shape: &'a Shape<A>,
+    cursor: &mut Cursor<'a, A>,
     choices: &[Choice],
     budget: Option<u64>,
 ) -> Result<Outcome<A>, OutOfMemory>
+    requires shape { cursor.old.shape ≡ shape.now }
     requires choices { AreChoices (history_of cursor.old.shape) choices.now }
     requires unfull { IsFull (history_of cursor.old.shape) cursor.old.path → ⊥ }
+    requires fine { IsWellFormed (history_of cursor.old.shape) }
+    requires within { IsWithinLimits (plan_of cursor.old.shape) (history_of cursor.old.shape) }
     ensures { IfOk result (TellsFrom (objects_of cursor.old.shape) (history_of cursor.old.shape) cursor.old.path budget) }
 {
     let mut left = budget;
+    let mut memo = Memo::new(alloc, shape);
+    let mut states = None;
+    let mut numbers = Vec::new(alloc);
     let mut below = Vec::new(alloc);
     let mut next = 0;
     let _ = cursor.prefix();
@@ -102,18 +136,29 @@ fn search_from<A: Allocator + Copy>(
                 let witness = copied(alloc, cursor.prefix())?;
                 return Ok(Outcome::Witness(witness));
             }
+            let behind = place_behind(choices, place);
+            let further = memo.follow(states, &choices[place], cursor);
+            if memo.knows(further, cursor) {
+                let _known = cursor.pop();
+                next = behind;
+                continue;
+            }
             let Some(rest) = spend(left) else {
                 return Ok(Outcome::Spent);
             };
             left = rest;
-            below.push(place + 1)?;
+            below.push(behind)?;
+            numbers.push(states)?;
+            states = further;
             next = 0;
             continue;
         }
         let Some(tried) = below.pop() else {
             return Ok(Outcome::Refuted);
         };
-        let _ = cursor.pop();
+        memo.learn(states, cursor);
+        let _refuted = cursor.pop();
+        states = last_of(&mut numbers);
         next = tried;
     }
 }
@@ -140,7 +185,7 @@ fn search<A: Allocator + Copy>(
         return Ok(Outcome::Spent);
     };
     let choices = choices_of(alloc, shape)?;
-    let outcome = search_from(alloc, &mut cursor, &choices, left)?;
+    let outcome = search_from(alloc, shape, &mut cursor, &choices, left)?;
     Ok(outcome)
 }
 

@@ -17,6 +17,3 @@ pub use fault::OrderFault;
 pub use placing::Placing;
 pub use showing::shows;
 pub use step::Step;
-
-#[cfg(test)]
-mod tests;

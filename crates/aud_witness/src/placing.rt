@@ -16,6 +16,7 @@ use crate::fault::OrderFault;
 use crate::step::Step;
 use aud_event::{OutOfMemory, Plan};
 use aud_history::TxRow;
+use aud_marks::Marks;
 use aud_object::{Block, Store};
 use std::alloc::{Allocator, Global};
 use std::marker::Model;
@@ -27,7 +28,7 @@ use std::marker::Model;
 #[derive(Drop)]
 pub struct Placing<'a, A: Allocator + Copy = Global> {
     agenda: &'a Agenda<A>,
-    placed: Vec<bool, A>,
+    placed: Marks<A>,
     earliest: usize,
     store: Store<A>,
     path: Vec<Decision, A>,
@@ -40,36 +41,19 @@ impl<'a, A: Allocator + Copy> Model for Placing<'a, A> {
 
     ghost Value = { PlacingOf };
 
-    ghost view = { λ p. record { agenda = p.agenda.now; spot = record { placed = p.placed.items; states = p.store.now }; path = p.path.items; past = spots_before p.placed.items p.store.now p.store.past (reverse p.steps.items) } };
+    ghost view = { λ p. record { agenda = p.agenda.now; spot = record { placed = p.placed; states = p.store.now }; path = p.path.items; past = spots_before p.placed p.store.now p.store.past (reverse p.steps.items) } };
 
-    ghost invariant = { λ p. (length p.placed.items ≡ length p.agenda.now.rows) × (length p.path.items ≡ length p.steps.items) × CanGoBack p.agenda.now.ends p.placed.items p.store.past p.earliest (reverse p.steps.items) };
-}
-
-/// As many as there are rows, none of them placed.
-fn none_placed<A: Allocator + Copy>(alloc: A, count: usize) -> Result<Vec<bool, A>, OutOfMemory>
-    ensures { IfOk result (λ placed. placed.items ≡ replicate count false) }
-{
-    Ok(vec![in alloc; false; count]?)
-}
-
-/// Whether the row at the place is placed; one that is not there is not.
-fn is_placed(placed: &[bool], row: usize) -> bool
-    ensures { result ≡ slice_index_or placed.now row false }
-{
-    match placed.get(row) {
-        Some(is_placed) => *is_placed,
-        None => false,
-    }
+    ghost invariant = { λ p. (length p.placed ≡ length p.agenda.now.rows) × (length p.path.items ≡ length p.steps.items) × CanGoBack p.agenda.now.ends p.placed p.store.past p.earliest (reverse p.steps.items) };
 }
 
 /// How many of the ends are placed from the first one on, where the first `from` are.
-fn earliest_from(ends: &[End], placed: &[bool], from: usize) -> usize
+fn earliest_from<A: Allocator + Drop>(ends: &[End], placed: &Marks<A>, from: usize) -> usize
     requires within { from ≤ length ends.now }
     requires before { (k : ℕ) (d : End) → k < from → slice_index_or placed.now (slice_index_or ends.now k d).row false ≡ true }
     ensures { IsEarliest ends.now placed.now result }
 {
     let mut earliest = from;
-    while earliest < ends.len() && is_placed(placed, ends[earliest].row) {
+    while earliest < ends.len() && placed.has(ends[earliest].row) {
         earliest += 1;
     }
     earliest
@@ -131,7 +115,7 @@ impl<'a, A: Allocator + Copy> Placing<'a, A> {
     ) -> Result<Placing<'a, A>, OutOfMemory>
         ensures { IfOk result (λ placing. placing ≡ record { agenda = agenda.entry.now; spot = first_spot agenda.entry.now.rows plan.now.objects; path = []; past = [] }) }
     {
-        let placed = none_placed(alloc, agenda.table().rows().len())?;
+        let placed = Marks::none(alloc, agenda.table().rows().len())?;
         let store = Store::opening(alloc, plan)?;
         Ok(Placing {
             agenda,
@@ -157,11 +141,18 @@ impl<'a, A: Allocator + Copy> Placing<'a, A> {
         &self.store
     }
 
+    /// For each row whether it is placed.
+    pub fn placed(&self) -> &Marks<A>
+        ensures { result.now ≡ self.now.spot.placed }
+    {
+        &self.placed
+    }
+
     /// Whether the row at the place is placed; one that is not there is not.
     pub fn has_row(&self, row: usize) -> bool
         ensures { result ≡ slice_index_or self.now.spot.placed row false }
     {
-        is_placed(&self.placed, row)
+        self.placed.has(row)
     }
 
     /// The least transaction that is not placed.
@@ -234,7 +225,7 @@ impl<'a, A: Allocator + Copy> Placing<'a, A> {
         };
         push_within(&mut self.steps, step);
         push_within(&mut self.path, decision);
-        self.placed[place] = true;
+        self.placed.put(place);
         self.earliest = earliest_from(self.agenda.ends(), &self.placed, self.earliest);
         Ok(Ok(()))
     }
@@ -266,7 +257,7 @@ impl<'a, A: Allocator + Copy> Placing<'a, A> {
             return false;
         };
         self.path.pop();
-        self.placed[step.row] = false;
+        self.placed.clear(step.row);
         self.earliest = step.earliest;
         if step.is_kept {
             self.store.undo();

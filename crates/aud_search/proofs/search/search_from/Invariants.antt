@@ -1,6 +1,7 @@
-use Rattle.std.specs.Prelude.{◌≡◌, ℕ, reverse}
+use Rattle.std.specs.Prelude.{◌≡◌, ℕ, ◌∷◌, reverse}
 use Rattle.aud_order.specs.Shapes.{objects_of, history_of}
 use Rattle.aud_search.specs.Levels.{IsSearching}
+use Rattle.aud_search.specs.Memos.{NameWay}
 use Rattle.aud_search.specs.Tried.{Spends}
 use Rattle.aud_search.proofs.Steps.{weight}
 use Rattle.aud_search.proofs.search.search_from.Given as goal
@@ -10,6 +11,8 @@ invariant-search g l = record {
   same : l.cursor.shape ≡ l.fn.cursor.shape;
   used : ℕ;
   spends : Spends l.fn.budget used l.left;
+  memo : l.memo.shape ≡ l.fn.cursor.shape;
+  way : NameWay l.fn.cursor.shape l.memo.states (l.states ∷ reverse l.numbers.items) l.cursor.path;
   searching : IsSearching (objects_of l.fn.cursor.shape) (history_of l.fn.cursor.shape) l.fn.cursor.path l.choices used l.cursor.path l.next (reverse l.below.items);
 }
 

@@ -1,0 +1,6 @@
+//! Marks at places, a bit each.
+#![tactic(auto)]
+
+mod marks;
+
+pub use marks::Marks;

@@ -1,0 +1,26 @@
+-- A number for the states of objects, the same for states that mean the same.
+use Rattle.std.specs.Prelude.{ℕ, ℤ, ◌*◌, ◌/◌, ◌%◌, ◌^◌, List, [], ◌∷◌}
+use Rattle.std.specs.Int.Bits.{bit_xor}
+use Rattle.std.specs.Int.{w64, cast_unsigned}
+use Rattle.aud_object.specs.Objects.{ObjState, register, counter, set_of, queue}
+
+-- one more word of a digest
+unfoldable pub stirred : ℕ → ℕ → ℕ
+stirred digest word = bit_xor ((bit_xor digest word * 11400714819323198485) % 2 ^ 64) (((bit_xor digest word * 11400714819323198485) % 2 ^ 64) / 2 ^ 29)
+
+-- more values of a digest
+abbrev pub digest_values : ℕ → List ℤ → ℕ
+digest_values digest [] = digest
+digest_values digest (v ∷ vs) = digest_values (stirred digest (cast_unsigned w64 v)) vs
+
+-- of one object
+abbrev pub digest_of : ObjState → ℕ
+digest_of (register v) = stirred 1 (cast_unsigned w64 v)
+digest_of (counter v) = stirred 2 (cast_unsigned w64 v)
+digest_of (set_of s) = digest_values 3 s
+digest_of (queue q) = digest_values 4 q
+
+-- more objects of a digest
+abbrev pub digest_states : ℕ → List ObjState → ℕ
+digest_states digest [] = digest
+digest_states digest (s ∷ ss) = digest_states (stirred digest (digest_of s)) ss

@@ -1,0 +1,12 @@
+//! Digests of states, by which stores are found again.
+
+ghost use Rattle.std.specs.Prelude.{◌≡◌};
+ghost use Rattle.aud_object.specs.Digests.{stirred};
+
+/// One more word of a digest.
+pub(crate) fn stir(digest: u64, word: u64) -> u64
+    ensures { result ≡ stirred digest word }
+{
+    let product = (digest ^ word).wrapping_mul(11_400_714_819_323_198_485);
+    product ^ (product >> 29)
+}

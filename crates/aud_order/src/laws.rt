@@ -1,0 +1,13 @@
+//! Laws of the definitions. Each function does nothing: its contract is the law.
+
+ghost use Rattle.aud_order.specs.Moves.{SilentMovesForward, SpotsDecide};
+
+/// A silent transaction may be placed at once where it is good.
+pub fn silent_moves_forward()
+    ensures { SilentMovesForward }
+{}
+
+/// Which transactions are placed, and the states of all objects, decide what may follow a good list.
+pub fn spots_decide()
+    ensures { SpotsDecide }
+{}

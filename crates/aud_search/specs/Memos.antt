@@ -1,0 +1,107 @@
+-- What a search remembers: states, where blocks lead from them, and spots of lists that it refuted.
+use Rattle.std.specs.Prelude.{◌≡◌, ℕ, ◌<◌, Bool, true, false, List, [], ◌∷◌, ◌++◌, map, length, Option, Some, None, slice_get, slice_index_or, take, ◌-◌, ◌⊎◌}
+use Rattle.std.specs.List.{Contains}
+use Rattle.aud_event.specs.Meanings.{Declared}
+use Rattle.aud_object.specs.Objects.{ObjState, opening_of}
+use Rattle.aud_object.specs.Executions.{states_after}
+use Rattle.aud_object.specs.Meanings.{StoreOf}
+use Rattle.aud_object.specs.Replayed.{replayed}
+use Rattle.aud_history.specs.Histories.{History}
+use Rattle.aud_history.specs.Table.{transactions, row_of}
+use Rattle.aud_witness.specs.declared.decision.Fate.TheVariants.{C, A}
+use Rattle.aud_witness.specs.declared.decision.Decision.{Decision}
+use Rattle.aud_witness.specs.Orders.{is_named, kept, IsGood, Refuted}
+use Rattle.aud_order.specs.Shapes.{ShapeOf, objects_of, history_of}
+use Rattle.aud_order.specs.Cursors.{CursorOf}
+use Rattle.aud_order.specs.Silent.{silent_fate}
+use Rattle.aud_search.specs.declared.choice.Effect.TheVariants.{Silent}
+use Rattle.aud_search.specs.declared.choice.Choice.{Choice}
+use Rattle.aud_search.specs.declared.memo.Lead.{Lead}
+
+-- how contracts see a memo: the shape of the search, and the states that it numbered
+pub record MemoOf : Type 0 where
+  pub shape : ShapeOf
+  pub states : List (List ObjState)
+
+-- the states of all objects after what is kept of a list
+abbrev pub states_behind : ShapeOf → List Decision → List ObjState
+states_behind shape p = states_after (map opening_of (objects_of shape)) (kept (history_of shape) p)
+
+-- a number, where there is one, is that of the states
+abbrev pub Names : List (List ObjState) → Option ℕ → List ObjState → Type 0
+Names all None states = Unit {0}
+Names all (Some n) states = slice_get all n ≡ Some states
+
+-- the numbers of the states behind a list and behind each beginning of it, the longest first, as far as they go
+abbrev pub NameWay : ShapeOf → List (List ObjState) → List (Option ℕ) → List Decision → Type 0
+NameWay shape all [] p = Unit {0}
+NameWay shape all (n ∷ ns) p = Names all n (states_behind shape p) × NameWay shape all ns (take (length p - 1) p)
+
+-- which rows were placed behind a refuted list, and the number of the states there
+pub record EntryOf : Type 0 where
+  pub placed : List Bool
+  pub states : ℕ
+
+-- an entry is of a good list that is refuted
+pub record IsDead (shape : ShapeOf) (all : List (List ObjState)) (e : EntryOf) : Type 0 where
+  pub path : List Decision
+  pub good : IsGood (objects_of shape) (history_of shape) path
+  pub refuted : Refuted (objects_of shape) (history_of shape) path
+  pub placed : e.placed ≡ map (is_named path) (transactions (history_of shape))
+  pub states : slice_get all e.states ≡ Some (states_behind shape path)
+
+-- the block of the transaction leads from some states to others
+pub record IsLead (shape : ShapeOf) (all : List (List ObjState)) (l : Lead) : Type 0 where
+  pub before : List ObjState
+  pub after : List ObjState
+  pub from : slice_get all l.from ≡ Some before
+  pub to : slice_get all l.to ≡ Some after
+  pub runs : replayed before (row_of (history_of shape) l.tx).block ≡ Some after
+
+-- what is remembered is true
+pub record IsTrueMemo (shape : ShapeOf) (all : List (List ObjState)) (entries : List EntryOf) (leads : List Lead) : Type 0 where
+  pub dead : (e : EntryOf) → Contains entries e → IsDead shape all e
+  pub true_leads : (l : Lead) → Contains leads l → IsLead shape all l
+
+-- no states lost their number
+pub record IsGrown (old new : MemoOf) : Type 0 where
+  pub shape : new.shape ≡ old.shape
+  pub more : List (List ObjState)
+  pub states : new.states ≡ old.states ++ more
+
+-- the cursor is one choice further than a list behind which the states have the number
+pub record IsStep (memo : MemoOf) (from : Option ℕ) (c : Choice) (at : CursorOf) : Type 0 where
+  pub shape : memo.shape ≡ at.shape
+  pub path : List Decision
+  pub on : at.path ≡ path ++ c.decision ∷ []
+  pub names : Names memo.states from (states_behind at.shape path)
+  pub silent : c.effect ≡ Silent → silent_fate (history_of at.shape) c.decision.tx ≡ Some c.decision.fate
+
+-- a choice to abort leaves the states, and one marked as silent; what is left is one to commit
+abbrev pub LeavesStates : Choice → Bool → Type 0
+LeavesStates c true = (c.decision.fate ≡ A) ⊎ (c.effect ≡ Silent)
+LeavesStates c false = c.decision.fate ≡ C
+
+-- the states of a store
+abbrev pub now_of : StoreOf → List ObjState
+now_of s = s.now
+
+abbrev pub no_store : StoreOf
+no_store = record { now = []; past = [] }
+
+-- a store with the states is at the place, where there is one
+abbrev pub IsStoreAt : List StoreOf → Option ℕ → List ObjState → Type 0
+IsStoreAt stores None states = Unit {0}
+IsStoreAt stores (Some k) states = (k < length stores) × ((slice_index_or stores k no_store).now ≡ states)
+
+-- some more stores behind the others
+abbrev pub IsMoreOf : List StoreOf → List StoreOf → Type 0
+IsMoreOf old new = (more : List StoreOf) × (new ≡ old ++ more)
+
+-- nothing came but perhaps one
+abbrev pub AreWith : {X : Type 0} → List X → List X → X → Type 0
+AreWith {X} old new x = (y : X) → Contains new y → Contains old y ⊎ (y ≡ x)
+
+-- the last number was taken, where one was left
+abbrev pub IsLastOf : List (Option ℕ) → Option ℕ → List (Option ℕ) → Type 0
+IsLastOf old n new = (old ≡ new ++ n ∷ []) ⊎ ((n ≡ None) × (new ≡ []))

@@ -1,0 +1,135 @@
+//! Places found by hashes.
+//!
+//! What is found under a hash need not be what was put there: whoever looks compares. So nothing is promised of an index
+//! but that each call ends, and only how fast a search is depends on it.
+
+use aud_event::OutOfMemory;
+use std::alloc::{Allocator, Global};
+
+/// A hash and a place, counted from 1; the place 0 says that the slot is free.
+#[derive(Clone, Copy, Debug)]
+struct Slot {
+    hash: u64,
+    place: usize,
+}
+
+/// What stands in a slot.
+#[derive(Clone, Copy, Debug, PartialEq, Eq)]
+pub(crate) enum Look {
+    /// Nothing, nor in the slots behind it.
+    Free,
+    /// Something under another hash.
+    Other,
+    /// A place under this hash.
+    At(usize),
+}
+
+/// Places by hashes, in slots of which at most half are taken.
+#[derive(Drop)]
+pub(crate) struct Index<A: Allocator + Copy = Global> {
+    alloc: A,
+    slots: Vec<Slot, A>,
+    taken: usize,
+}
+
+/// The fewest slots.
+const FEWEST: usize = 64;
+
+/// A hash of two numbers.
+pub(crate) fn hash_of(a: u64, b: u64) -> u64 {
+    let mixed = (a ^ b.wrapping_mul(0x9E37_79B9_7F4A_7C15)).wrapping_mul(0xD6E8_FEB8_6659_FD93);
+    mixed ^ (mixed >> 32)
+}
+
+/// A hash of a number and some words.
+pub(crate) fn hash_words(start: u64, words: &[u64]) -> u64 {
+    let mut hash = hash_of(0x2545_F491_4F6C_DD1D, start);
+    for word in words {
+        hash = hash_of(hash, *word);
+    }
+    hash
+}
+
+/// The slot of the hash, so many steps behind its first.
+fn slot_of(hash: u64, step: usize, count: usize) -> usize {
+    (hash as usize).wrapping_add(step) & count.saturating_sub(1)
+}
+
+/// Puts the place into the first free slot of the hash.
+fn put_into(slots: &mut [Slot], hash: u64, place: usize) {
+    let count = slots.len();
+    for step in 0..count {
+        if let Some(slot) = slots.get_mut(slot_of(hash, step, count)) {
+            if slot.place == 0 {
+                *slot = Slot { hash, place };
+                return;
+            }
+        }
+    }
+}
+
+impl<A: Allocator + Copy> Index<A> {
+    /// An index of nothing. It takes no memory.
+    pub(crate) fn new(alloc: A) -> Index<A> {
+        Index {
+            alloc,
+            slots: Vec::new(alloc),
+            taken: 0,
+        }
+    }
+
+    /// What stands so many steps behind the first slot of the hash.
+    pub(crate) fn look(&self, hash: u64, step: usize) -> Look {
+        match self.slots.get(slot_of(hash, step, self.slots.len())) {
+            None => Look::Free,
+            Some(slot) => {
+                if slot.place == 0 {
+                    Look::Free
+                } else if slot.hash == hash {
+                    Look::At(slot.place.wrapping_sub(1))
+                } else {
+                    Look::Other
+                }
+            }
+        }
+    }
+
+    /// Twice as many slots.
+    fn grow(&mut self) -> Result<(), OutOfMemory> {
+        let count = self.slots.len().saturating_mul(2).max(FEWEST);
+        let free = Slot { hash: 0, place: 0 };
+        let mut slots = vec![in self.alloc; free; count]?;
+        for slot in &self.slots {
+            if slot.place != 0 {
+                put_into(&mut slots, slot.hash, slot.place);
+            }
+        }
+        self.slots = slots;
+        Ok(())
+    }
+
+    /// Puts the place under the hash.
+    pub(crate) fn put(&mut self, hash: u64, place: usize) -> Result<(), OutOfMemory> {
+        if self.taken >= self.slots.len() / 2 {
+            self.grow()?;
+        }
+        put_into(&mut self.slots, hash, place.wrapping_add(1));
+        self.taken = self.taken.wrapping_add(1);
+        Ok(())
+    }
+
+    /// Puts a place that stands in the first slot of the hash under the hash, if one stands there.
+    pub(crate) fn take_over(&mut self, hash: u64) -> Option<usize> {
+        let count = self.slots.len();
+        match self.slots.get_mut(slot_of(hash, 0, count)) {
+            None => None,
+            Some(slot) => {
+                if slot.place == 0 {
+                    return None;
+                }
+                slot.hash = hash;
+                Some(slot.place.wrapping_sub(1))
+            }
+        }
+    }
+}
