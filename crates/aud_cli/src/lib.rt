@@ -14,6 +14,3 @@ pub use input::{Input, InputFault, read_input};
 pub use job::{Command, Job, Usage};
 pub use run::run_lines;
 pub use words::job_of;
-
-#[cfg(test)]
-mod tests;

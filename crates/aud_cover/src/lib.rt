@@ -8,6 +8,3 @@ mod opening;
 pub use closing::closed;
 pub use laws::closed_is_refuted;
 pub use opening::open_list;
-
-#[cfg(test)]
-mod tests;

@@ -19,6 +19,3 @@ pub use key::Key;
 pub use memory::{Dup, OutOfMemory};
 pub use object::{Answer, ObjKind, Op, OpName};
 pub use plan::{ObjDecl, Plan, PlanFault};
-
-#[cfg(test)]
-mod tests;

@@ -10,8 +10,6 @@ mod sealed;
 mod status;
 mod survey;
 mod table;
-#[cfg(test)]
-mod tests;
 
 pub use fact_set::{Facts, all_fit};
 pub use sealed::Sealed;

@@ -13,6 +13,3 @@ pub use rule::Rule;
 pub use state::TxState;
 pub use status::Status;
 pub use table::{TxRow, TxTable};
-
-#[cfg(test)]
-mod tests;

@@ -17,6 +17,3 @@ pub use finding::Finding;
 pub use item::Item;
 pub use knowledge::Knowledge;
 pub use verdict::Verdict;
-
-#[cfg(test)]
-mod tests;

@@ -19,8 +19,6 @@ mod merge;
 mod pair;
 mod ranked;
 mod row;
-#[cfg(test)]
-mod tests;
 mod tree;
 mod union_set;
 

@@ -10,6 +10,3 @@ pub use device::{ReadFault, Sink, SinkFault, Source, SourceFault, read_all, writ
 pub use faulty::{ChokingSink, DrippingSource};
 pub use memory::{MemorySink, MemorySource};
 pub use said::{Said, write_line};
-
-#[cfg(test)]
-mod tests;

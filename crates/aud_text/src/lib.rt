@@ -21,6 +21,3 @@ pub use order::{ORDER_MAX, orders_read_back, orders_read_exactly, read_order, wr
 pub use plan::read_plan;
 pub use value::{has_only_allowed, has_required, json_in};
 pub use write::write_fact;
-
-#[cfg(test)]
-mod tests;

@@ -1,208 +1,189 @@
-//! The worked histories, each with the plan of one log and the objects that it uses.
-
-ghost use Rattle.std.specs.Prelude.{◌≡◌, [], IfOk};
-ghost use Rattle.aud_history.specs.Worked as worked;
-
-use crate::plans::{
-    counter_at_0, empty_queue, empty_set, no_objects, x_and_y_at_0, x_at_0, x_at_5,
-};
-use crate::runs::{commits, does, executed, is_refused_commit, one_is_written};
-use aud_event::{Answer, Event, Op, OpName, OutOfMemory};
-use aud_history::History;
-use std::alloc::Allocator;
+//! The worked histories: sealed inputs of one log, each named for what it shows.
 
 /// No event of no transaction, on no object.
-pub fn nothing_happened<A: Allocator + Clone>(alloc: A) -> Result<History<A>, OutOfMemory>
-    ensures plan { IfOk result (λ h. h.plan ≡ record { logs = 1; objects = [] }) }
-    ensures events { IfOk result (λ h. h.events ≡ []) }
-{
-    let plan = no_objects(alloc.clone()?)?;
-    Ok(History::new(plan, Vec::new(alloc)))
-}
+pub const NOTHING_HAPPENED: &str = r#"{"format":1,"logs":1,"objects":0}
+{"end":0,"log":0}
+"#;
 
-/// Transaction 2 reads what transaction 1 committed, and commits.
-pub fn reader_behind_commit<A: Allocator + Clone>(alloc: A) -> Result<History<A>, OutOfMemory>
-    ensures plan { IfOk result (λ h. h.plan ≡ record { logs = 1; objects = worked.x_at_0 }) }
-    ensures events { IfOk result (λ h. h.events ≡ worked.reader_behind_commit) }
-{
-    let plan = x_at_0(alloc.clone()?)?;
-    let mut run = Vec::new(alloc);
-    one_is_written(&mut run)?;
-    commits(&mut run, 1)?;
-    executed(&mut run, 2, 0, Op::Read, Answer::Int(1))?;
-    commits(&mut run, 2)?;
-    Ok(History::new(plan, run))
-}
+/// Transaction 1 writes 1 to x and commits; transaction 2 then reads it and commits.
+pub const READER_BEHIND_COMMIT: &str = r#"{"format":1,"logs":1,"objects":1}
+{"kind":"register","name":"x","open":0}
+{"arg":1,"at":0,"ev":"inv","log":0,"ob":"x","op":"write","stamp":0,"tx":1}
+{"ans":"done","at":1,"ev":"ret","log":0,"ob":"x","op":"write","stamp":1,"tx":1}
+{"at":2,"ev":"tryc","log":0,"stamp":2,"tx":1}
+{"at":3,"ev":"commit","log":0,"stamp":3,"tx":1}
+{"at":4,"ev":"inv","log":0,"ob":"x","op":"read","stamp":4,"tx":2}
+{"ans":1,"at":5,"ev":"ret","log":0,"ob":"x","op":"read","stamp":5,"tx":2}
+{"at":6,"ev":"tryc","log":0,"stamp":6,"tx":2}
+{"at":7,"ev":"commit","log":0,"stamp":7,"tx":2}
+{"end":8,"log":0}
+"#;
 
 /// Transaction 2 sees x from before transaction 1 and y from behind it. That it aborts does not excuse it.
-pub fn torn_read_then_abort<A: Allocator + Clone>(alloc: A) -> Result<History<A>, OutOfMemory>
-    ensures plan { IfOk result (λ h. h.plan ≡ record { logs = 1; objects = worked.x_and_y_at_0 }) }
-    ensures events { IfOk result (λ h. h.events ≡ worked.torn_read_then_abort) }
-{
-    let plan = x_and_y_at_0(alloc.clone()?)?;
-    let mut run = Vec::new(alloc);
-    executed(&mut run, 2, 0, Op::Read, Answer::Int(0))?;
-    one_is_written(&mut run)?;
-    executed(&mut run, 1, 1, Op::Write(1), Answer::Done)?;
-    commits(&mut run, 1)?;
-    executed(&mut run, 2, 1, Op::Read, Answer::Int(1))?;
-    is_refused_commit(&mut run, 2)?;
-    Ok(History::new(plan, run))
-}
+pub const TORN_READ_THEN_ABORT: &str = r#"{"format":1,"logs":1,"objects":2}
+{"kind":"register","name":"x","open":0}
+{"kind":"register","name":"y","open":0}
+{"at":0,"ev":"inv","log":0,"ob":"x","op":"read","stamp":0,"tx":2}
+{"ans":0,"at":1,"ev":"ret","log":0,"ob":"x","op":"read","stamp":1,"tx":2}
+{"arg":1,"at":2,"ev":"inv","log":0,"ob":"x","op":"write","stamp":2,"tx":1}
+{"ans":"done","at":3,"ev":"ret","log":0,"ob":"x","op":"write","stamp":3,"tx":1}
+{"arg":1,"at":4,"ev":"inv","log":0,"ob":"y","op":"write","stamp":4,"tx":1}
+{"ans":"done","at":5,"ev":"ret","log":0,"ob":"y","op":"write","stamp":5,"tx":1}
+{"at":6,"ev":"tryc","log":0,"stamp":6,"tx":1}
+{"at":7,"ev":"commit","log":0,"stamp":7,"tx":1}
+{"at":8,"ev":"inv","log":0,"ob":"y","op":"read","stamp":8,"tx":2}
+{"ans":1,"at":9,"ev":"ret","log":0,"ob":"y","op":"read","stamp":9,"tx":2}
+{"at":10,"ev":"tryc","log":0,"stamp":10,"tx":2}
+{"at":11,"ev":"abort","log":0,"stamp":11,"tx":2}
+{"end":12,"log":0}
+"#;
 
 /// Transaction 2 sees what commit-pending transaction 1 wrote, so transaction 1 commits.
-pub fn pending_commit_is_seen<A: Allocator + Clone>(alloc: A) -> Result<History<A>, OutOfMemory>
-    ensures plan { IfOk result (λ h. h.plan ≡ record { logs = 1; objects = worked.x_at_0 }) }
-    ensures events { IfOk result (λ h. h.events ≡ worked.pending_commit_is_seen) }
-{
-    let plan = x_at_0(alloc.clone()?)?;
-    let mut run = Vec::new(alloc);
-    one_is_written(&mut run)?;
-    does(&mut run, 1, Event::TryC)?;
-    executed(&mut run, 2, 0, Op::Read, Answer::Int(1))?;
-    commits(&mut run, 2)?;
-    Ok(History::new(plan, run))
-}
+pub const PENDING_COMMIT_IS_SEEN: &str = r#"{"format":1,"logs":1,"objects":1}
+{"kind":"register","name":"x","open":0}
+{"arg":1,"at":0,"ev":"inv","log":0,"ob":"x","op":"write","stamp":0,"tx":1}
+{"ans":"done","at":1,"ev":"ret","log":0,"ob":"x","op":"write","stamp":1,"tx":1}
+{"at":2,"ev":"tryc","log":0,"stamp":2,"tx":1}
+{"at":3,"ev":"inv","log":0,"ob":"x","op":"read","stamp":3,"tx":2}
+{"ans":1,"at":4,"ev":"ret","log":0,"ob":"x","op":"read","stamp":4,"tx":2}
+{"at":5,"ev":"tryc","log":0,"stamp":5,"tx":2}
+{"at":6,"ev":"commit","log":0,"stamp":6,"tx":2}
+{"end":7,"log":0}
+"#;
 
 /// Transaction 2 does not see what commit-pending transaction 1 wrote.
-pub fn pending_commit_is_unseen<A: Allocator + Clone>(alloc: A) -> Result<History<A>, OutOfMemory>
-    ensures plan { IfOk result (λ h. h.plan ≡ record { logs = 1; objects = worked.x_at_0 }) }
-    ensures events { IfOk result (λ h. h.events ≡ worked.pending_commit_is_unseen) }
-{
-    let plan = x_at_0(alloc.clone()?)?;
-    let mut run = Vec::new(alloc);
-    one_is_written(&mut run)?;
-    does(&mut run, 1, Event::TryC)?;
-    executed(&mut run, 2, 0, Op::Read, Answer::Int(0))?;
-    commits(&mut run, 2)?;
-    Ok(History::new(plan, run))
-}
+pub const PENDING_COMMIT_IS_UNSEEN: &str = r#"{"format":1,"logs":1,"objects":1}
+{"kind":"register","name":"x","open":0}
+{"arg":1,"at":0,"ev":"inv","log":0,"ob":"x","op":"write","stamp":0,"tx":1}
+{"ans":"done","at":1,"ev":"ret","log":0,"ob":"x","op":"write","stamp":1,"tx":1}
+{"at":2,"ev":"tryc","log":0,"stamp":2,"tx":1}
+{"at":3,"ev":"inv","log":0,"ob":"x","op":"read","stamp":3,"tx":2}
+{"ans":0,"at":4,"ev":"ret","log":0,"ob":"x","op":"read","stamp":4,"tx":2}
+{"at":5,"ev":"tryc","log":0,"stamp":5,"tx":2}
+{"at":6,"ev":"commit","log":0,"stamp":6,"tx":2}
+{"end":7,"log":0}
+"#;
 
 /// Transaction 2 begins behind the commit of transaction 1 and misses what it wrote.
-pub fn stale_read_behind_commit<A: Allocator + Clone>(alloc: A) -> Result<History<A>, OutOfMemory>
-    ensures plan { IfOk result (λ h. h.plan ≡ record { logs = 1; objects = worked.x_at_0 }) }
-    ensures events { IfOk result (λ h. h.events ≡ worked.stale_read_behind_commit) }
-{
-    let plan = x_at_0(alloc.clone()?)?;
-    let mut run = Vec::new(alloc);
-    one_is_written(&mut run)?;
-    commits(&mut run, 1)?;
-    executed(&mut run, 2, 0, Op::Read, Answer::Int(0))?;
-    commits(&mut run, 2)?;
-    Ok(History::new(plan, run))
-}
+pub const STALE_READ_BEHIND_COMMIT: &str = r#"{"format":1,"logs":1,"objects":1}
+{"kind":"register","name":"x","open":0}
+{"arg":1,"at":0,"ev":"inv","log":0,"ob":"x","op":"write","stamp":0,"tx":1}
+{"ans":"done","at":1,"ev":"ret","log":0,"ob":"x","op":"write","stamp":1,"tx":1}
+{"at":2,"ev":"tryc","log":0,"stamp":2,"tx":1}
+{"at":3,"ev":"commit","log":0,"stamp":3,"tx":1}
+{"at":4,"ev":"inv","log":0,"ob":"x","op":"read","stamp":4,"tx":2}
+{"ans":0,"at":5,"ev":"ret","log":0,"ob":"x","op":"read","stamp":5,"tx":2}
+{"at":6,"ev":"tryc","log":0,"stamp":6,"tx":2}
+{"at":7,"ev":"commit","log":0,"stamp":7,"tx":2}
+{"end":8,"log":0}
+"#;
 
 /// Transaction 2 sees what transaction 1 wrote, which never asked to commit.
-pub fn live_write_is_seen<A: Allocator + Clone>(alloc: A) -> Result<History<A>, OutOfMemory>
-    ensures plan { IfOk result (λ h. h.plan ≡ record { logs = 1; objects = worked.x_at_0 }) }
-    ensures events { IfOk result (λ h. h.events ≡ worked.live_write_is_seen) }
-{
-    let plan = x_at_0(alloc.clone()?)?;
-    let mut run = Vec::new(alloc);
-    one_is_written(&mut run)?;
-    executed(&mut run, 2, 0, Op::Read, Answer::Int(1))?;
-    commits(&mut run, 2)?;
-    Ok(History::new(plan, run))
-}
+pub const LIVE_WRITE_IS_SEEN: &str = r#"{"format":1,"logs":1,"objects":1}
+{"kind":"register","name":"x","open":0}
+{"arg":1,"at":0,"ev":"inv","log":0,"ob":"x","op":"write","stamp":0,"tx":1}
+{"ans":"done","at":1,"ev":"ret","log":0,"ob":"x","op":"write","stamp":1,"tx":1}
+{"at":2,"ev":"inv","log":0,"ob":"x","op":"read","stamp":2,"tx":2}
+{"ans":1,"at":3,"ev":"ret","log":0,"ob":"x","op":"read","stamp":3,"tx":2}
+{"at":4,"ev":"tryc","log":0,"stamp":4,"tx":2}
+{"at":5,"ev":"commit","log":0,"stamp":5,"tx":2}
+{"end":6,"log":0}
+"#;
 
 /// Transaction 2 reads before transaction 1 commits, which it then does. A beginning of this history is not opaque, the
 /// whole is.
-pub fn read_before_commit<A: Allocator + Clone>(alloc: A) -> Result<History<A>, OutOfMemory>
-    ensures plan { IfOk result (λ h. h.plan ≡ record { logs = 1; objects = worked.x_at_0 }) }
-    ensures events { IfOk result (λ h. h.events ≡ worked.read_before_commit) }
-{
-    let plan = x_at_0(alloc.clone()?)?;
-    let mut run = Vec::new(alloc);
-    one_is_written(&mut run)?;
-    executed(&mut run, 2, 0, Op::Read, Answer::Int(1))?;
-    commits(&mut run, 1)?;
-    commits(&mut run, 2)?;
-    Ok(History::new(plan, run))
-}
+pub const READ_BEFORE_COMMIT: &str = r#"{"format":1,"logs":1,"objects":1}
+{"kind":"register","name":"x","open":0}
+{"arg":1,"at":0,"ev":"inv","log":0,"ob":"x","op":"write","stamp":0,"tx":1}
+{"ans":"done","at":1,"ev":"ret","log":0,"ob":"x","op":"write","stamp":1,"tx":1}
+{"at":2,"ev":"inv","log":0,"ob":"x","op":"read","stamp":2,"tx":2}
+{"ans":1,"at":3,"ev":"ret","log":0,"ob":"x","op":"read","stamp":3,"tx":2}
+{"at":4,"ev":"tryc","log":0,"stamp":4,"tx":1}
+{"at":5,"ev":"commit","log":0,"stamp":5,"tx":1}
+{"at":6,"ev":"tryc","log":0,"stamp":6,"tx":2}
+{"at":7,"ev":"commit","log":0,"stamp":7,"tx":2}
+{"end":8,"log":0}
+"#;
 
 /// Transaction 2 takes from the queue what transaction 1 put there, and transaction 3 finds the queue empty.
-pub fn item_is_passed_on<A: Allocator + Clone>(alloc: A) -> Result<History<A>, OutOfMemory>
-    ensures plan { IfOk result (λ h. h.plan ≡ record { logs = 1; objects = worked.empty_queue }) }
-    ensures events { IfOk result (λ h. h.events ≡ worked.item_is_passed_on) }
-{
-    let plan = empty_queue(alloc.clone()?)?;
-    let mut run = Vec::new(alloc);
-    does(&mut run, 2, Event::Inv(0, Op::Deq))?;
-    executed(&mut run, 1, 0, Op::Enq(5), Answer::Done)?;
-    commits(&mut run, 1)?;
-    executed(&mut run, 3, 0, Op::Deq, Answer::Empty)?;
-    commits(&mut run, 3)?;
-    does(&mut run, 2, Event::Ret(0, OpName::Deq, Answer::Int(5)))?;
-    commits(&mut run, 2)?;
-    Ok(History::new(plan, run))
-}
+pub const ITEM_IS_PASSED_ON: &str = r#"{"format":1,"logs":1,"objects":1}
+{"kind":"queue","name":"q"}
+{"at":0,"ev":"inv","log":0,"ob":"q","op":"deq","stamp":0,"tx":2}
+{"arg":5,"at":1,"ev":"inv","log":0,"ob":"q","op":"enq","stamp":1,"tx":1}
+{"ans":"done","at":2,"ev":"ret","log":0,"ob":"q","op":"enq","stamp":2,"tx":1}
+{"at":3,"ev":"tryc","log":0,"stamp":3,"tx":1}
+{"at":4,"ev":"commit","log":0,"stamp":4,"tx":1}
+{"at":5,"ev":"inv","log":0,"ob":"q","op":"deq","stamp":5,"tx":3}
+{"ans":"empty","at":6,"ev":"ret","log":0,"ob":"q","op":"deq","stamp":6,"tx":3}
+{"at":7,"ev":"tryc","log":0,"stamp":7,"tx":3}
+{"at":8,"ev":"commit","log":0,"stamp":8,"tx":3}
+{"ans":5,"at":9,"ev":"ret","log":0,"ob":"q","op":"deq","stamp":9,"tx":2}
+{"at":10,"ev":"tryc","log":0,"stamp":10,"tx":2}
+{"at":11,"ev":"commit","log":0,"stamp":11,"tx":2}
+{"end":12,"log":0}
+"#;
 
 /// Transaction 1 writes the opening value, but has to stand behind transaction 2 all the same.
-pub fn idle_write_stands_later<A: Allocator + Clone>(alloc: A) -> Result<History<A>, OutOfMemory>
-    ensures plan { IfOk result (λ h. h.plan ≡ record { logs = 1; objects = worked.x_at_5 }) }
-    ensures events { IfOk result (λ h. h.events ≡ worked.idle_write_stands_later) }
-{
-    let plan = x_at_5(alloc.clone()?)?;
-    let mut run = Vec::new(alloc);
-    does(&mut run, 1, Event::Inv(0, Op::Write(5)))?;
-    executed(&mut run, 2, 0, Op::Write(7), Answer::Done)?;
-    commits(&mut run, 2)?;
-    executed(&mut run, 3, 0, Op::Read, Answer::Int(5))?;
-    commits(&mut run, 3)?;
-    does(&mut run, 1, Event::Ret(0, OpName::Write, Answer::Done))?;
-    commits(&mut run, 1)?;
-    Ok(History::new(plan, run))
-}
+pub const IDLE_WRITE_STANDS_LATER: &str = r#"{"format":1,"logs":1,"objects":1}
+{"kind":"register","name":"x","open":5}
+{"arg":5,"at":0,"ev":"inv","log":0,"ob":"x","op":"write","stamp":0,"tx":1}
+{"arg":7,"at":1,"ev":"inv","log":0,"ob":"x","op":"write","stamp":1,"tx":2}
+{"ans":"done","at":2,"ev":"ret","log":0,"ob":"x","op":"write","stamp":2,"tx":2}
+{"at":3,"ev":"tryc","log":0,"stamp":3,"tx":2}
+{"at":4,"ev":"commit","log":0,"stamp":4,"tx":2}
+{"at":5,"ev":"inv","log":0,"ob":"x","op":"read","stamp":5,"tx":3}
+{"ans":5,"at":6,"ev":"ret","log":0,"ob":"x","op":"read","stamp":6,"tx":3}
+{"at":7,"ev":"tryc","log":0,"stamp":7,"tx":3}
+{"at":8,"ev":"commit","log":0,"stamp":8,"tx":3}
+{"ans":"done","at":9,"ev":"ret","log":0,"ob":"x","op":"write","stamp":9,"tx":1}
+{"at":10,"ev":"tryc","log":0,"stamp":10,"tx":1}
+{"at":11,"ev":"commit","log":0,"stamp":11,"tx":1}
+{"end":12,"log":0}
+"#;
 
 /// Transaction 2 sees the count of commit-pending transaction 1, and transaction 3 behind it does not.
-pub fn count_is_lost<A: Allocator + Clone>(alloc: A) -> Result<History<A>, OutOfMemory>
-    ensures plan { IfOk result (λ h. h.plan ≡ record { logs = 1; objects = worked.counter_at_0 }) }
-    ensures events { IfOk result (λ h. h.events ≡ worked.count_is_lost) }
-{
-    let plan = counter_at_0(alloc.clone()?)?;
-    let mut run = Vec::new(alloc);
-    executed(&mut run, 1, 0, Op::Inc, Answer::Done)?;
-    does(&mut run, 1, Event::TryC)?;
-    executed(&mut run, 2, 0, Op::Get, Answer::Int(1))?;
-    commits(&mut run, 2)?;
-    executed(&mut run, 3, 0, Op::Get, Answer::Int(0))?;
-    commits(&mut run, 3)?;
-    Ok(History::new(plan, run))
-}
+pub const COUNT_IS_LOST: &str = r#"{"format":1,"logs":1,"objects":1}
+{"kind":"counter","name":"c","open":0}
+{"at":0,"ev":"inv","log":0,"ob":"c","op":"inc","stamp":0,"tx":1}
+{"ans":"done","at":1,"ev":"ret","log":0,"ob":"c","op":"inc","stamp":1,"tx":1}
+{"at":2,"ev":"tryc","log":0,"stamp":2,"tx":1}
+{"at":3,"ev":"inv","log":0,"ob":"c","op":"get","stamp":3,"tx":2}
+{"ans":1,"at":4,"ev":"ret","log":0,"ob":"c","op":"get","stamp":4,"tx":2}
+{"at":5,"ev":"tryc","log":0,"stamp":5,"tx":2}
+{"at":6,"ev":"commit","log":0,"stamp":6,"tx":2}
+{"at":7,"ev":"inv","log":0,"ob":"c","op":"get","stamp":7,"tx":3}
+{"ans":0,"at":8,"ev":"ret","log":0,"ob":"c","op":"get","stamp":8,"tx":3}
+{"at":9,"ev":"tryc","log":0,"stamp":9,"tx":3}
+{"at":10,"ev":"commit","log":0,"stamp":10,"tx":3}
+{"end":11,"log":0}
+"#;
 
 /// Transactions 1 and 2 both find 3 absent; transaction 2 aborts.
-pub fn both_find_it_absent<A: Allocator + Clone>(alloc: A) -> Result<History<A>, OutOfMemory>
-    ensures plan { IfOk result (λ h. h.plan ≡ record { logs = 1; objects = worked.empty_set }) }
-    ensures events { IfOk result (λ h. h.events ≡ worked.both_find_it_absent) }
-{
-    let plan = empty_set(alloc.clone()?)?;
-    let mut run = Vec::new(alloc);
-    executed(&mut run, 1, 0, Op::Add(3), Answer::Flag(true))?;
-    executed(&mut run, 2, 0, Op::Add(3), Answer::Flag(true))?;
-    commits(&mut run, 1)?;
-    is_refused_commit(&mut run, 2)?;
-    Ok(History::new(plan, run))
-}
+pub const BOTH_FIND_IT_ABSENT: &str = r#"{"format":1,"logs":1,"objects":1}
+{"kind":"set","name":"s"}
+{"arg":3,"at":0,"ev":"inv","log":0,"ob":"s","op":"add","stamp":0,"tx":1}
+{"ans":true,"at":1,"ev":"ret","log":0,"ob":"s","op":"add","stamp":1,"tx":1}
+{"arg":3,"at":2,"ev":"inv","log":0,"ob":"s","op":"add","stamp":2,"tx":2}
+{"ans":true,"at":3,"ev":"ret","log":0,"ob":"s","op":"add","stamp":3,"tx":2}
+{"at":4,"ev":"tryc","log":0,"stamp":4,"tx":1}
+{"at":5,"ev":"commit","log":0,"stamp":5,"tx":1}
+{"at":6,"ev":"tryc","log":0,"stamp":6,"tx":2}
+{"at":7,"ev":"abort","log":0,"stamp":7,"tx":2}
+{"end":8,"log":0}
+"#;
 
 /// An answer that nobody asked for: this history is not well-formed.
-pub fn answer_unasked<A: Allocator + Clone>(alloc: A) -> Result<History<A>, OutOfMemory>
-    ensures plan { IfOk result (λ h. h.plan ≡ record { logs = 1; objects = worked.x_at_0 }) }
-    ensures events { IfOk result (λ h. h.events ≡ worked.answer_unasked) }
-{
-    let plan = x_at_0(alloc.clone()?)?;
-    let mut run = Vec::new(alloc);
-    does(&mut run, 1, Event::Ret(0, OpName::Read, Answer::Int(0)))?;
-    Ok(History::new(plan, run))
-}
+pub const ANSWER_UNASKED: &str = r#"{"format":1,"logs":1,"objects":1}
+{"kind":"register","name":"x","open":0}
+{"ans":0,"at":0,"ev":"ret","log":0,"ob":"x","op":"read","stamp":0,"tx":1}
+{"end":1,"log":0}
+"#;
 
 /// Transaction 1 aborts with nothing pending: this history is not well-formed.
-pub fn abort_while_idle<A: Allocator + Clone>(alloc: A) -> Result<History<A>, OutOfMemory>
-    ensures plan { IfOk result (λ h. h.plan ≡ record { logs = 1; objects = worked.x_at_0 }) }
-    ensures events { IfOk result (λ h. h.events ≡ worked.abort_while_idle) }
-{
-    let plan = x_at_0(alloc.clone()?)?;
-    let mut run = Vec::new(alloc);
-    one_is_written(&mut run)?;
-    does(&mut run, 1, Event::Abort)?;
-    Ok(History::new(plan, run))
-}
+pub const ABORT_WHILE_IDLE: &str = r#"{"format":1,"logs":1,"objects":1}
+{"kind":"register","name":"x","open":0}
+{"arg":1,"at":0,"ev":"inv","log":0,"ob":"x","op":"write","stamp":0,"tx":1}
+{"ans":"done","at":1,"ev":"ret","log":0,"ob":"x","op":"write","stamp":1,"tx":1}
+{"at":2,"ev":"abort","log":0,"stamp":2,"tx":1}
+{"end":3,"log":0}
+"#;

@@ -1,16 +1,19 @@
 #![tactic(auto)]
-//! The worked histories as values: small runs, each named for what it shows. The tests of the crates above stand on them.
+//! The worked histories as texts: small runs as `docs/FORMAT.md` spells them, each named for what it shows, and a reader
+//! of them. Only tests stand on this crate.
 
 mod histories;
-mod plans;
-mod runs;
+mod inputs;
+mod reading;
 
 pub use histories::{
-    abort_while_idle, answer_unasked, both_find_it_absent, count_is_lost, idle_write_stands_later,
-    item_is_passed_on, live_write_is_seen, nothing_happened, pending_commit_is_seen,
-    pending_commit_is_unseen, read_before_commit, reader_behind_commit, stale_read_behind_commit,
-    torn_read_then_abort,
+    ABORT_WHILE_IDLE, ANSWER_UNASKED, BOTH_FIND_IT_ABSENT, COUNT_IS_LOST, IDLE_WRITE_STANDS_LATER,
+    ITEM_IS_PASSED_ON, LIVE_WRITE_IS_SEEN, NOTHING_HAPPENED, PENDING_COMMIT_IS_SEEN,
+    PENDING_COMMIT_IS_UNSEEN, READ_BEFORE_COMMIT, READER_BEHIND_COMMIT, STALE_READ_BEHIND_COMMIT,
+    TORN_READ_THEN_ABORT,
 };
-
-#[cfg(test)]
-mod tests;
+pub use inputs::{
+    FALLING_STAMPS, GREAT_TRANSACTION, GREATEST_TRANSACTION, LATE, LATE_RECORD, MISSING_STAMP,
+    NO_RECORDS, PAST_COUNT, SAME_STAMPS, TWO_COUNTS, TWO_RECORDS,
+};
+pub use reading::{Unread, facts_of, facts_on, history_of, put, sealed_from, sealed_of};

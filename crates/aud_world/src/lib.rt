@@ -8,6 +8,3 @@ mod world;
 
 pub use moves::{Move, MoveFault};
 pub use world::World;
-
-#[cfg(test)]
-mod tests;

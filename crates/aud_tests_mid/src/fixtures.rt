@@ -1,0 +1,40 @@
+//! What several modules share: decisions, orders, and shapes of facts.
+
+use aud_facts::{Facts, Sealed};
+use aud_order::Shape;
+use aud_text::{TextFault, read_order};
+use aud_witness::{Decision, Fate, Prefix};
+use aud_worked::{Unread, sealed_from};
+use std::alloc::Allocator;
+use std::sync::Arc;
+
+/// The transaction commits.
+pub fn c(tx: u32) -> Decision {
+    Decision { tx, fate: Fate::C }
+}
+
+/// The transaction aborts.
+pub fn a(tx: u32) -> Decision {
+    Decision { tx, fate: Fate::A }
+}
+
+/// The order of a text, as `1c 2a` or `none`.
+pub fn order<A: Allocator + Copy>(alloc: A, text: &str) -> Result<Prefix<A>, TextFault> {
+    read_order(alloc, text.as_bytes())
+}
+
+/// The shape of a sealed set, where its history is well-formed.
+fn shape_of_sealed<A: Allocator + Copy>(
+    alloc: A,
+    sealed: Arc<Sealed<A>, A>,
+) -> Result<Option<Shape<A>>, Unread> {
+    match sealed.history().first_fault() {
+        Some(_) => Ok(None),
+        None => Ok(Some(Shape::of(alloc, sealed)?)),
+    }
+}
+
+/// The shape of facts that are sealed and have a well-formed history.
+pub fn shape_from<A: Allocator + Copy>(alloc: A, facts: &Facts<A>) -> Result<Shape<A>, Unread> {
+    shape_of_sealed(alloc, sealed_from(facts)?)?.ok_or(Unread::Unsealed)
+}

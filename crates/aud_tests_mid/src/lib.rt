@@ -1,0 +1,17 @@
+#![tactic(auto)]
+//! The tests of the crates between the facts and knowledge, and brute force by the definition of opacity.
+
+#[cfg(test)]
+mod cover;
+#[cfg(test)]
+mod fixtures;
+#[cfg(test)]
+mod oracle;
+#[cfg(test)]
+mod report;
+#[cfg(test)]
+mod search;
+#[cfg(test)]
+mod text;
+#[cfg(test)]
+mod worked;

@@ -1,0 +1,19 @@
+//! Tests of what a node knows, of worlds of nodes, and of the program's words and runs.
+#![tactic(auto)]
+
+#[cfg(test)]
+mod devices;
+#[cfg(test)]
+mod fixtures;
+#[cfg(test)]
+mod knowing;
+#[cfg(test)]
+mod knowing_growth;
+#[cfg(test)]
+mod lines;
+#[cfg(test)]
+mod words;
+#[cfg(test)]
+mod worlds;
+#[cfg(test)]
+mod worlds_growth;

@@ -1,0 +1,208 @@
+//! Runs over texts that are cut or broken, and over facts in other orders.
+
+use aud_cli::{Job, run_lines};
+use aud_report::{MemorySink, MemorySource};
+use aud_worked::{
+    FALLING_STAMPS, LATE, LATE_RECORD, PAST_COUNT, PENDING_COMMIT_IS_UNSEEN, READER_BEHIND_COMMIT,
+    SAME_STAMPS, TWO_COUNTS, TWO_RECORDS,
+};
+use std::alloc::{AllocError, Global};
+use std::test::Fail;
+
+/// What the job says of the input, and its status.
+fn said(alloc: Global, job: &Job, input: &[u8]) -> Result<(String, u8), AllocError> {
+    let mut source = MemorySource::new(Vec::from_slice(alloc, input)?);
+    let mut sink = MemorySink::new(alloc);
+    let ended = run_lines(alloc, job, &mut source, &mut sink);
+    let line = String::from_utf8_lossy(alloc, sink.held())?;
+    Ok((line, ended.status()))
+}
+
+/// Whether a check of the order says that line of the input, with the status of its kind.
+fn is_said(alloc: Global, order: &str, input: &[u8], line: &str) -> Result<bool, AllocError> {
+    let job = Job::Check(String::from_str(alloc, order)?);
+    let (said, status) = said(alloc, &job, input)?;
+    let expected = if line.starts_with("opaque") { 0 } else { 3 };
+    Ok(said.as_str().strip_suffix("\n") == Some(line) && status == expected)
+}
+
+/// What is said of the beginning of `READER_BEHIND_COMMIT` with so many bytes.
+fn said_of_cut(alloc: Global, bytes: usize) -> Result<String, AllocError> {
+    let mut whole = 0usize;
+    let mut left = bytes;
+    for line in READER_BEHIND_COMMIT.lines() {
+        if left < line.len() {
+            break;
+        }
+        whole = whole.wrapping_add(1);
+        left = left.saturating_sub(line.len()).saturating_sub(1);
+    }
+    let next = whole.wrapping_add(1);
+    match (whole, left) {
+        (11, 0) => format!(in alloc; "opaque 1c 2c"),
+        (0 | 1, 0) => format!(in alloc; "plan line {next} refused 4"),
+        (_, 0) => format!(in alloc; "waiting for log 0"),
+        (0 | 1, _) => format!(in alloc; "plan line {next} refused 2"),
+        (_, _) => format!(in alloc; "record line {next} refused 2"),
+    }
+}
+
+#[test]
+fn cut_at_every_byte(rt: HostRuntime) -> Result<(), Fail> {
+    let alloc = rt.alloc();
+    let text = READER_BEHIND_COMMIT.as_bytes();
+    for cut in 0..=text.len() {
+        let line = said_of_cut(alloc, cut)?;
+        assert!(rt;
+            is_said(alloc, "1c 2c", &text[..cut], line.as_str())?,
+            "{cut}"
+        );
+    }
+    Ok(())
+}
+
+/// The text with more lines put in behind so many of its lines.
+fn with_lines(
+    alloc: Global,
+    text: &str,
+    behind: usize,
+    more: &[&[u8]],
+) -> Result<Vec<u8>, AllocError> {
+    let mut whole = Vec::new(alloc);
+    for (number, line) in text.lines().enumerate() {
+        if number == behind {
+            for new in more {
+                whole.extend_from_slice(new)?;
+                whole.push(b'\n')?;
+            }
+        }
+        whole.extend_from_slice(line.as_bytes())?;
+        whole.push(b'\n')?;
+    }
+    Ok(whole)
+}
+
+#[test]
+fn odd_third_lines(rt: HostRuntime) -> Result<(), Fail> {
+    let alloc = rt.alloc();
+    let long = [b'['; 4097];
+    let cases: [(&[u8], &str); 5] = [
+        (b"", "opaque 1c 2c"),
+        (b"\r", "record line 3 refused 2"),
+        (b"\xff\xfe", "record line 3 refused 2"),
+        (&long[..4096], "record line 3 refused 2"),
+        (&long, "record line 3 refused 1"),
+    ];
+    for (line, wanted) in &cases {
+        let text = with_lines(alloc, READER_BEHIND_COMMIT, 2, &[*line])?;
+        assert!(rt; is_said(alloc, "1c 2c", &text, *wanted)?, "{wanted}");
+    }
+    Ok(())
+}
+
+#[test]
+fn late_record_anywhere(rt: HostRuntime) -> Result<(), Fail> {
+    let alloc = rt.alloc();
+    let five = [LATE.as_bytes(); 5];
+    for behind in 2..11usize {
+        for more in [&five[..1], &five] {
+            let text = with_lines(alloc, LATE_RECORD, behind, more)?;
+            assert!(rt; is_said(alloc, "1c 2c", &text, "opaque 1c 2c")?, "{behind}");
+        }
+    }
+    Ok(())
+}
+
+#[test]
+fn carriage_returns(rt: HostRuntime) -> Result<(), Fail> {
+    let alloc = rt.alloc();
+    let mut text = Vec::new(alloc);
+    for line in READER_BEHIND_COMMIT.lines() {
+        text.extend_from_slice(line.as_bytes())?;
+        text.extend_from_slice(b"\r\n")?;
+    }
+    assert!(rt; is_said(alloc, "1c 2c", &text, "opaque 1c 2c")?);
+    Ok(())
+}
+
+#[test]
+fn no_last_line_feed(rt: HostRuntime) -> Result<(), Fail> {
+    let alloc = rt.alloc();
+    let mut cut = with_lines(alloc, READER_BEHIND_COMMIT, 2, &[b""])?;
+    let _feed = cut.pop();
+    let _brace = cut.pop();
+    let twice = br#"{"format":1,"logs":1,"objects":2}
+{"kind":"register","name":"x","open":0}
+{"kind":"register","name":"x","open":0}"#;
+    let cases: [(&str, &[u8], &str); 3] = [
+        ("1c 2c", &cut, "record line 12 refused 2"),
+        (
+            "none",
+            br#"{"format":1,"logs":65,"objects":0}"#,
+            "plan line 1 refused 10 2",
+        ),
+        ("none", twice, "plan line 0 refused 10 4"),
+    ];
+    for (order, text, wanted) in &cases {
+        assert!(rt; is_said(alloc, *order, *text, *wanted)?, "{wanted}");
+    }
+    Ok(())
+}
+
+/// The text with the lines behind its plan of two lines turned round by so many.
+fn turned(alloc: Global, text: &str, by: usize) -> Result<String, AllocError> {
+    let mut front = String::new(alloc);
+    let mut back = String::new(alloc);
+    for (number, line) in text.lines().enumerate() {
+        let part = if 2 <= number && number - 2 < by {
+            &mut back
+        } else {
+            &mut front
+        };
+        part.push_str(line)?;
+        part.push_str("\n")?;
+    }
+    front.push_str(back.as_str())?;
+    Ok(front)
+}
+
+#[test]
+fn any_rotation(rt: HostRuntime) -> Result<(), Fail> {
+    let alloc = rt.alloc();
+    let cases = [
+        (READER_BEHIND_COMMIT, "1c 2c", "opaque 1c 2c"),
+        (LATE_RECORD, "1c 2c", "waiting for log 1"),
+        (TWO_RECORDS, "1c 2c", "conflict 1 at log 0 place 0"),
+        (SAME_STAMPS, "1c", "conflict 2 at log 0 place 0"),
+        (TWO_COUNTS, "1c 2c", "conflict 3 at log 0 place 8"),
+        (PAST_COUNT, "1c", "conflict 4 at log 0 place 3"),
+        (FALLING_STAMPS, "1c", "conflict 5 at log 0 place 1"),
+    ];
+    for (input, order, wanted) in &cases {
+        for by in 0..10usize {
+            let text = turned(alloc, *input, by)?;
+            assert!(rt;
+                is_said(alloc, *order, text.as_bytes(), *wanted)?,
+                "{wanted} by {by}"
+            );
+        }
+    }
+    Ok(())
+}
+
+#[test]
+fn one_of_three_orders(rt: HostRuntime) -> Result<(), Fail> {
+    let alloc = rt.alloc();
+    let (line, status) = said(
+        alloc,
+        &Job::Decide(Some(3)),
+        PENDING_COMMIT_IS_UNSEEN.as_bytes(),
+    )?;
+    let orders = ["opaque 1a 2c\n", "opaque 2c 1c\n", "opaque 2c 1a\n"];
+    assert!(rt;
+        orders.iter().any(|order| *order == line.as_str()),
+        "{line}"
+    );
+    assert_eq!(rt; status, 0);
+    Ok(())
+}
