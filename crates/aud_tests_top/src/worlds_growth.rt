@@ -1,6 +1,7 @@
 //! Each growth of a short run of a world refused in turn.
 
 use crate::fixtures::{end, plan_of};
+use aud_event::OutOfMemory;
 use aud_facts::Facts;
 use aud_refusing::Refusing;
 use aud_worked::{Unread, facts_of};
@@ -15,13 +16,13 @@ const TWO_LOGS: &str = r#"{"format":1,"logs":2,"objects":2}
 "#;
 
 /// Two nodes, each fed a fact, and a packet between them.
-fn short_list<A: Allocator + Copy>() -> [Move<A>; 4] {
-    [
-        Move::Feed(0, end(0, 6)),
-        Move::Post(0),
-        Move::Feed(1, end(1, 6)),
-        Move::Deliver(0, 1),
-    ]
+fn short_list<A: Allocator + Copy>(alloc: A) -> Result<Vec<Move<A>, A>, OutOfMemory> {
+    let mut moves = Vec::new(alloc);
+    moves.push(Move::Feed(0, end(0, 6)))?;
+    moves.push(Move::Post(0))?;
+    moves.push(Move::Feed(1, end(1, 6)))?;
+    moves.push(Move::Deliver(0, 1))?;
+    Ok(moves)
 }
 
 fn facts_at<A: Allocator + Copy>(world: &World<A>, number: u32) -> usize {
@@ -49,8 +50,9 @@ fn place_of(run: Result<(), (usize, MoveFault)>) -> Option<usize> {
 
 /// Whether want of memory was told, and whether the world was left as the moves before left it.
 fn tried<A: Allocator + Copy>(alloc: A, run: &Facts) -> Result<(bool, bool), Unread> {
+    let moves = short_list(alloc)?;
     let mut world = World::new(alloc, plan_of(alloc, run)?, 2)?;
-    let place = place_of(world.run(&short_list()));
+    let place = place_of(world.run(&moves));
     let left = place.and_then(|place| SIZES.get(place).copied());
     Ok((place != Some(4), left == Some(sizes(&world))))
 }

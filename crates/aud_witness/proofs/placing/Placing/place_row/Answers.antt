@@ -42,7 +42,7 @@ invariant_of-self-2 g c =
       ap length c.put.ensures ∙ length-set p.placed k true ∙ c.self.invariant.0,
       long,
       subst (λ l. CanGoBack p.agenda.now.ends l c.try_block.new.store.past c.earliest_from-self-inside.result (reverse c.push_within.new.list.items)) (sym c.put.ensures)
-      (back-pushed p.agenda.now.ends p.placed p.store c.try_block.new.store ran.0 p.earliest c.earliest_from-self-inside.result k c.args.decision.fate p.steps.items c.push_within.new.list.items
+          (back-pushed p.agenda.now.ends p.placed p.store c.try_block.new.store ran.0 p.earliest c.earliest_from-self-inside.result k c.args.decision.fate p.steps.items c.push_within.new.list.items
           inside fresh first c.self.invariant.2 ran.1.1 steps),
     )
 
