@@ -2,3 +2,4 @@ pub mod Equality
 pub mod Grouped
 pub mod Places
 pub mod CoverMerging
+pub mod Turns
