@@ -1,10 +1,9 @@
 -- What may be moved in a list of decisions, and what decides what may follow it.
-use Rattle.std.specs.Prelude.{◌≡◌, ◌↔◌, ℕ, ◌<◌, Bool, true, false, nat_eq, List, [], ◌∷◌, ◌++◌, map, length, Option, Some, None, is_some, Ok, slice_get, slice_index_or, refl, ◌⊎◌}
-use Rattle.std.specs.List.{list_any, position}
-use Rattle.std.proofs.Common.{sym, ◌∙◌, ap, subst, inl, inr, arith, get_or, set}
+use Rattle.std.specs.Prelude.{◌≡◌, ℕ, Bool, true, nat_eq, List, [], ◌∷◌, ◌++◌, map, length, Option, Some, None, is_some, Ok, refl, ◌⊎◌}
+use Rattle.std.proofs.Common.{sym, ◌∙◌, ap, subst, inl, inr, arith, set}
 use Rattle.std.proofs.Math.ListN.{length-map}
 use Rattle.std.proofs.lemmas.List.Quantifiers.{position-Some}
-use Rattle.aud_event.specs.Meanings.{Declared, PlanOf}
+use Rattle.aud_event.specs.Meanings.{PlanOf}
 use Rattle.aud_object.specs.Objects.{ObjState, opening_of}
 use Rattle.aud_object.specs.Executions.{states_after}
 use Rattle.aud_object.specs.Replayed.{replayed}
@@ -16,7 +15,7 @@ use Rattle.aud_witness.specs.declared.decision.Fate.TheVariants.{C, A}
 use Rattle.aud_witness.specs.declared.decision.Decision.{Decision}
 use Rattle.aud_witness.specs.Orders.{is_named, kept, Shows, IsGood, IsGoodNext, Refuted}
 use Rattle.aud_witness.specs.Spots.{Spot, status_allows, first_spot, states_with, stepped}
-use Rattle.aud_witness.specs.Walks.{walked, are_all_placed, WalksSay}
+use Rattle.aud_witness.specs.Walks.{walked}
 use Rattle.aud_witness.proofs.Beginnings.{IsGood-from_Shows}
 use Rattle.aud_witness.proofs.Good.{IsGood-empty, IsGood-beginning, IsGood-push}
 use Rattle.aud_witness.proofs.BridgeSteps.{Stands, Stands-root}
@@ -24,7 +23,7 @@ use Rattle.aud_witness.proofs.WalkLemmas.{walks-say, walked-good, fits-from_limi
 use Rattle.aud_order.specs.Silent.{silent_fate, silent_row}
 use Rattle.aud_order.specs.Moves.{without, SilentMovesForward, SpotsDecide}
 use Rattle.aud_order.proofs.SilentRows.{row-found, silent-row}
-use Rattle.aud_order.proofs.Stepping.{Steps, steps-from, walked-split, walked-join, walked-one, silent-leaves, marked, moved}
+use Rattle.aud_order.proofs.Stepping.{steps-from, walked-join, walked-one, silent-leaves, marked, moved}
 
 some-from : {X : Type 0} (o : Option X) → is_some o ≡ true → (x : X) × (o ≡ Some x)
 some-from None none = absurd (cc)

@@ -1,26 +1,23 @@
 -- A row of the table tells the silent fate of its transaction.
-use Rattle.std.specs.Prelude.{◌≡◌, ℕ, suc, zero, ◌<◌, Bool, true, false, not, ◌&&◌, ◌||◌, nat_eq, List, [], ◌∷◌, map, length, Option, Some, None, slice_get, refl}
-use Rattle.std.specs.List.{list_any, list_all, position, position_or_len}
+use Rattle.std.specs.Prelude.{◌≡◌, ℕ, suc, zero, ◌<◌, Bool, true, false, ◌&&◌, ◌||◌, nat_eq, List, [], ◌∷◌, map, length, Some, None, slice_get, refl}
+use Rattle.std.specs.List.{list_any, list_all, position}
 use Rattle.std.proofs.Common.{sym, ◌∙◌, ap, subst, cond, inl, inr, arith, get_or}
-use Rattle.std.proofs.lemmas.Bool.Decides.{nat_tests}
 use Rattle.std.proofs.lemmas.List.Quantifiers.{position-Some}
 use Rattle.aud_event.specs.declared.fact.Event.{Event}
 use Rattle.aud_event.specs.declared.fact.Event.TheVariants.{Inv, Ret, TryC, TryA, Commit, Abort}
-use Rattle.aud_event.proofs.Bools.{and_true, true_or, or_true, or_right, split, nat_eq-is, nat_eq-refl}
+use Rattle.aud_event.proofs.Bools.{and_true, true_or, or_true, or_right, nat_eq-is}
 use Rattle.aud_object.specs.Objects.{is_observing}
 use Rattle.aud_object.specs.declared.execution.Execution.{Execution}
 use Rattle.aud_history.specs.declared.state.TxState.TheVariants.{Idle, TriedCommit, TriedAbort}
 use Rattle.aud_history.specs.Histories.{History, events_of, is_in, is_commit, is_try_commit, is_committed, is_live, is_commit_pending}
 use Rattle.aud_history.specs.WellFormed.{IsWellFormed}
 use Rattle.aud_history.specs.ByState.{is_match, Passes}
-use Rattle.aud_history.specs.Table.{RowOf, transactions, status_of, block_of, row_of, table_of}
+use Rattle.aud_history.specs.Table.{RowOf, transactions, block_of, row_of, table_of}
 use Rattle.aud_history.proofs.StateTable.{Passes-from_IsTransaction, matched_passes}
 use Rattle.aud_history.proofs.Tables.{any-transactions}
 use Rattle.aud_history.proofs.RowLaws.{nothing_else}
-use Rattle.aud_witness.specs.declared.decision.Fate.{Fate}
 use Rattle.aud_witness.specs.declared.decision.Fate.TheVariants.{C}
 use Rattle.aud_witness.specs.Orders.{is_allowed}
-use Rattle.aud_witness.specs.Spots.{status_allows}
 use Rattle.aud_witness.proofs.Bridge.{tx-rows, row-at, status-allowed}
 use Rattle.aud_order.specs.Silent.{leaves_objects, silent_by, silent_fate, silent_row}
 use Rattle.aud_order.proofs.Standing.{absent-from_position}

@@ -1,5 +1,5 @@
 -- Where a cursor stands, by the definition.
-use Rattle.std.specs.Prelude.{◌≡◌, ◌↔◌, ℕ, zero, suc, ◌+◌, ◌-◌, ◌<◌, Bool, true, false, not, ◌&&◌, ◌||◌, nat_eq, nat_lt, min, List, [], ◌∷◌, ◌++◌, map, length, Option, Some, None, Ok, Err, MatchOption, slice_get, slice_index_or, refl}
+use Rattle.std.specs.Prelude.{◌≡◌, ◌↔◌, ℕ, zero, suc, ◌+◌, ◌-◌, ◌<◌, Bool, true, false, not, ◌||◌, nat_eq, nat_lt, min, List, [], ◌∷◌, ◌++◌, map, length, Option, Some, None, Ok, Err, slice_get, slice_index_or, refl}
 use Rattle.std.specs.List.{list_any, position, position_or_len}
 use Rattle.std.specs.Option.{unwrap_or}
 use Rattle.std.proofs.Common.{sym, ◌∙◌, ap, subst, cond, arith, get_or, take}
@@ -134,17 +134,6 @@ enabled-there shape p k i at inside =
     ∙ ap (λ l. are_earlier_placed (table_of h) l (first_stamp h t)) (stands-at shape p k at).placed
     ∙ enabled-by_rows h p.path t (in-transactions h i 0 (subst (λ n. i < n) (length-map (transactions h) (row_of h)) inside))
 
-abbrev TellsReady : History → List Decision → Option RowOf → Bool → Type 0
-TellsReady h path o b = MatchOption o ⊥ (λ row. b ≡ (not (is_named path row.tx) && is_enabled h path row.tx))
-
-pub ready-not : (shape : ShapeOf) (p : PlacingOf) (k i : ℕ) → IsAt shape p k → i < length (table_of (history_of shape)) → true ≡ slice_index_or p.spot.placed i false →
-    TellsReady (history_of shape) p.path (slice_get (table_of (history_of shape)) i) false
-ready-not shape p k i at inside placed =
-    let h = history_of shape in
-    let t = get_or (transactions h) i 0 in
-    subst (λ o. TellsReady h p.path o false) (sym (row-there h i inside))
-    (ap (λ b. not b && is_enabled h p.path t) (placed ∙ placed-there shape p k i at inside))
-
 got : (rows : List RowOf) (i : ℕ) (d x : RowOf) → slice_get rows i ≡ Some x → get_or rows i d ≡ x
 got [] i d x at = absurd (cc)
 got (y ∷ rows) zero d x at = cc
@@ -156,17 +145,6 @@ enabled-by shape p k i first b r at inside is begins test =
     let h = history_of shape in
     let row : r ≡ row_of h (get_or (transactions h) i 0) = is ∙ got (table_of h) i r (row_of h (get_or (transactions h) i 0)) (row-there h i inside) in
     test ∙ ap (are_earlier_placed p.agenda.rows p.spot.placed) (begins ∙ ap (λ (x : RowOf). x.first) row) ∙ enabled-there shape p k i at inside
-
-pub ready-by : (shape : ShapeOf) (p : PlacingOf) (k i first : ℕ) (b : Bool) (r : RowOf) → IsAt shape p k → i < length (table_of (history_of shape)) → slice_index_or p.spot.placed i false ≡ false →
-    r ≡ slice_index_or (table_of (history_of shape)) i r → first ≡ r.first → b ≡ are_earlier_placed p.agenda.rows p.spot.placed first → TellsReady (history_of shape) p.path (slice_get (table_of (history_of shape)) i) b
-ready-by shape p k i first b r at inside fresh is begins test =
-    let h = history_of shape in
-    let t = get_or (transactions h) i 0 in
-    let row : r ≡ row_of h t = is ∙ got (table_of h) i r (row_of h t) (row-there h i inside) in
-    let stamp : first ≡ first_stamp h t = begins ∙ ap (λ (x : RowOf). x.first) row in
-    let new : is_named p.path t ≡ false = sym (placed-there shape p k i at inside) ∙ fresh in
-    subst (λ o. TellsReady h p.path o b) (sym (row-there h i inside))
-    (test ∙ ap (are_earlier_placed p.agenda.rows p.spot.placed) stamp ∙ enabled-there shape p k i at inside ∙ ap (λ c. not c && is_enabled h p.path t) (sym new))
 
 -- # One decision back
 
@@ -217,7 +195,7 @@ bad-told objects h p d fault pushed is some = (
 
 -- # The last decision
 
-last-split : (path : List Decision) (d : Decision) → slice_get path (length path - 1) ≡ Some d → (q : List Decision) × (path ≡ q ++ d ∷ [])
+pub last-split : (path : List Decision) (d : Decision) → slice_get path (length path - 1) ≡ Some d → (q : List Decision) × (path ≡ q ++ d ∷ [])
 last-split [] d at = absurd (cc)
 last-split (x ∷ []) d at = let same : x ≡ d = cc in ([], ap (λ (y : Decision). y ∷ []) same)
 last-split (x ∷ y ∷ path) d at =

@@ -1,13 +1,12 @@
 -- One step from spot to spot, taken apart and put together, and what steps leave alone.
 use Rattle.std.specs.Prelude.{◌≡◌, ◌≢◌, ℕ, zero, suc, ◌<◌, Bool, true, false, not, ◌&&◌, ◌||◌, nat_eq, nat_lt, List, [], ◌∷◌, ◌++◌, map, length, Option, Some, None, Result, Ok, Err, slice_get, slice_set, slice_index_or, refl}
 use Rattle.std.specs.List.{list_all, position}
-use Rattle.std.proofs.Common.{sym, ◌∙◌, ap, subst, cond, inl, inr, arith, get_or, set}
+use Rattle.std.proofs.Common.{sym, ◌∙◌, ap, subst, cond, arith, get_or, set}
 use Rattle.std.proofs.lemmas.List.{set_comm, get_or-set_other}
 use Rattle.std.proofs.lemmas.List.Quantifiers.{position-Some}
 use Rattle.aud_event.specs.declared.object.Op.{Op}
 use Rattle.aud_event.specs.declared.object.Op.TheVariants.{Read, Get, Contains}
-use Rattle.aud_event.specs.declared.object.Answer.{Answer}
-use Rattle.aud_event.proofs.Bools.{and_true, true_and, true_or, or_true, or_right, nat_eq-is}
+use Rattle.aud_event.proofs.Bools.{and_true, true_and, or_right, nat_eq-is}
 use Rattle.aud_object.specs.Objects.{ObjState, register, counter, set_of, queue, after_op, is_observing}
 use Rattle.aud_object.specs.Kinds.{register_stays, counter_stays}
 use Rattle.aud_object.specs.declared.execution.Execution.{Execution}

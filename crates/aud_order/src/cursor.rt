@@ -1,6 +1,6 @@
 //! A cursor over the good lists of decisions of a history.
 
-ghost use Rattle.std.specs.Prelude.{◌≡◌, ◌≢◌, ◌↔◌, ◌<◌, ◌≤◌, ◌-◌, ◌++◌, ◌&&◌, [], ◌∷◌, not, true, false, length, take, map, filter, IsTrue, IfOk, OnOk, OnErr, MatchOption, slice_get, slice_index_or};
+ghost use Rattle.std.specs.Prelude.{◌≡◌, ◌≢◌, ◌↔◌, ◌<◌, ◌≤◌, ◌-◌, ◌++◌, [], ◌∷◌, true, false, length, take, map, filter, IsTrue, IfOk, OnOk, OnErr, slice_index_or};
 ghost use Rattle.aud_object.specs.Objects.{opening_of};
 ghost use Rattle.aud_object.specs.Executions.{states_after};
 ghost use Rattle.aud_history.specs.Table.{table_of, transactions};
@@ -102,19 +102,6 @@ impl<'a, A: Allocator + Copy> Cursor<'a, A> {
         ensures { IsTrue result ↔ IsFull (history_of self.now.shape) self.now.path }
     {
         self.placing.path().len() == self.shape.table().rows().len()
-    }
-
-    /// Whether the transaction of the row at the place is not placed, and all that ended before it began are. It does not
-    /// look at the transaction's block.
-    pub fn is_ready(&self, place: usize) -> bool
-        requires { place < length (table_of (history_of self.now.shape)) }
-        ensures { MatchOption (slice_get (table_of (history_of self.now.shape)) place) ⊥ (λ row. result ≡ (not (is_named self.now.path row.tx) && is_enabled (history_of self.now.shape) self.now.path row.tx)) }
-    {
-        if self.placing.has_row(place) {
-            return false;
-        }
-        self.placing
-            .are_earlier_placed(self.shape.table().rows()[place].first())
     }
 
     /// Places a decision behind the others if it is good there, or tells the first thing that is wrong with it. Only where

@@ -4,3 +4,4 @@ pub mod Levels
 pub mod Weights
 pub mod MemoLemmas
 pub mod Steps
+pub mod Readiness

@@ -1,5 +1,5 @@
 -- What a memo keeps true.
-use Rattle.std.specs.Prelude.{◌≡◌, ℕ, zero, suc, ◌+◌, ◌-◌, ◌<◌, Bool, List, [], ◌∷◌, ◌++◌, map, length, take, reverse, Option, Some, None, slice_get, refl, ◌⊎◌}
+use Rattle.std.specs.Prelude.{◌≡◌, ℕ, zero, suc, ◌-◌, ◌<◌, Bool, List, [], ◌∷◌, ◌++◌, map, length, take, reverse, Option, Some, None, slice_get, refl, ◌⊎◌}
 use Rattle.std.specs.List.{Contains}
 use Rattle.std.proofs.Common.{sym, ◌∙◌, ap, subst, inl, inr, arith, get_or, set}
 use Rattle.std.proofs.lemmas.List.{append-nil, reverse-append}
@@ -19,7 +19,7 @@ use Rattle.aud_order.proofs.Lists.{take-push}
 use Rattle.aud_order.proofs.Moves.{shown-same, step-states}
 use Rattle.aud_search.specs.declared.choice.Choice.{Choice}
 use Rattle.aud_search.specs.declared.memo.Lead.{Lead}
-use Rattle.aud_search.specs.Memos.{MemoOf, states_behind, Names, NameWay, EntryOf, IsDead, IsLead, IsTrueMemo, IsGrown, IsStep, now_of, no_store, IsStoreAt, IsMoreOf, AreWith, IsLastOf}
+use Rattle.aud_search.specs.Memos.{MemoOf, states_behind, Names, NameWay, EntryOf, IsDead, IsLead, IsTrueMemo, IsGrown, IsStep, now_of, no_store, IsStoreAt, IsMoreOf, AreWith}
 
 -- # Lists
 
@@ -84,12 +84,10 @@ way-deeper shape all n further below more p q d way is names grown =
     (names, subst (λ l. NameWay shape all l (take (length q - 1) q)) (sym turned) (subst (λ l. NameWay shape all (n ∷ reverse below) l) (sym shorter) way))
 
 -- the way is one list shorter
-pub way-back : (shape : ShapeOf) (all : List (List ObjState)) (n last : Option ℕ) (below less : List (Option ℕ)) (p : List Decision) → NameWay shape all (n ∷ reverse below) p → IsLastOf below last less →
+pub way-back : (shape : ShapeOf) (all : List (List ObjState)) (n last : Option ℕ) (below less : List (Option ℕ)) (p : List Decision) → NameWay shape all (n ∷ reverse below) p → below ≡ less ++ last ∷ [] →
     NameWay shape all (last ∷ reverse less) (take (length p - 1) p)
-way-back shape all n last below less p way (inl is) =
+way-back shape all n last below less p way is =
     subst (λ l. NameWay shape all l (take (length p - 1) p)) (ap reverse is ∙ reverse-append less (last ∷ [])) way.1
-way-back shape all n last below less p way (inr (none, is)) =
-    subst (λ (m : Option ℕ). NameWay shape all (m ∷ reverse less) (take (length p - 1) p)) (sym none) (tt, subst (λ l. NameWay shape all (reverse l) (take (length (take (length p - 1) p) - 1) (take (length p - 1) p))) (sym is) tt)
 
 -- # What is true stays true
 

@@ -1,14 +1,14 @@
 -- What the parts of a search tell, put together.
-use Rattle.std.specs.Prelude.{◌≡◌, ℕ, zero, suc, ◌+◌, ◌-◌, ◌<◌, ◌≤◌, Bool, true, false, not, ◌&&◌, nat_lt, List, [], ◌∷◌, ◌++◌, length, reverse, Option, Some, None, MatchOption, slice_get, slice_index_or, refl}
+use Rattle.std.specs.Prelude.{◌≡◌, ℕ, zero, suc, ◌+◌, ◌-◌, ◌<◌, ◌≤◌, Bool, true, false, not, ◌&&◌, nat_lt, List, [], ◌∷◌, ◌++◌, map, length, reverse, Option, Some, None, slice_get, slice_index_or, refl}
 use Rattle.std.proofs.Common.{sym, ◌∙◌, ap, subst, inl, inr, arith, get_or, take, drop, append_assoc}
 use Rattle.std.proofs.lemmas.Bool.Decides.{nat_tests}
-use Rattle.std.proofs.lemmas.List.{append-nil, take_more, take_all, take-append-drop, reverse-append}
+use Rattle.std.proofs.lemmas.List.{map-append, append-nil, take_more, take_all, take-append-drop, reverse-append}
 use Rattle.aud_event.specs.Meanings.{Declared}
 use Rattle.aud_event.proofs.Bools.{and_true, split}
 use Rattle.aud_history.specs.Histories.{History, is_in}
 use Rattle.aud_history.specs.WellFormed.{IsWellFormed}
 use Rattle.aud_history.specs.FirstFault.{IsWithinLimits}
-use Rattle.aud_history.specs.Table.{RowOf, transactions, table_of}
+use Rattle.aud_history.specs.Table.{transactions}
 use Rattle.aud_witness.specs.declared.decision.Fate.TheVariants.{C}
 use Rattle.aud_witness.specs.declared.decision.Decision.{Decision}
 use Rattle.aud_witness.specs.Orders.{is_allowed, is_named, kept, block, IsFull, IsGood, IsGoodNext, Shows, Refuted}
@@ -24,12 +24,13 @@ use Rattle.aud_order.proofs.Lengths.{length-good}
 use Rattle.aud_search.specs.declared.choice.Effect.TheVariants.{Silent}
 use Rattle.aud_search.specs.declared.choice.Choice.{Choice}
 use Rattle.aud_search.specs.declared.outcome.Outcome.{Outcome}
+use Rattle.aud_search.specs.declared.search.Turn.{Turn}
 use Rattle.aud_search.specs.declared.outcome.Outcome.TheVariants as outcome
 use Rattle.aud_search.specs.Choices.{AreChoices}
 use Rattle.aud_search.specs.Searches.{SpentBy, BeginsWith, Tells}
 use Rattle.aud_search.specs.Levels.{AreTried, IsSearching, IsOneLess}
 use Rattle.aud_search.specs.Memos.{MemoOf, states_behind, Names, NameWay, IsStep}
-use Rattle.aud_search.specs.Tried.{IsGoodAt, cursor_with, IsOfRow, IsTried, IsFound, IsBehind, ArePushed, Spends, TellsFrom}
+use Rattle.aud_search.specs.Tried.{IsGoodAt, cursor_with, IsTried, IsFound, IsBehind, ArePushed, Spends, TellsFrom}
 use Rattle.aud_search.proofs.Refuting.{refuted-bad, refuted-longer}
 use Rattle.aud_search.proofs.Levels.{tried-more, tried-behind, search-on, search-deeper, search-spent, search-unspent, refuted-here, search-back, search-refuted, search-begins}
 use Rattle.aud_search.proofs.Weights.{weigh, lighter-deeper, lighter-on, lighter-back}
@@ -69,23 +70,12 @@ pushed-bad start cur ds i inside is bad =
 
 -- # Choices
 
-ready-good : (objects : List Declared) (h : History) (p : List Decision) (d : Decision) → IsGoodNext objects h p d → (not (is_named p d.tx) && is_enabled h p d.tx) ≡ true
+pub ready-good : (objects : List Declared) (h : History) (p : List Decision) (d : Decision) → IsGoodNext objects h p d → (not (is_named p d.tx) && is_enabled h p d.tx) ≡ true
 ready-good objects h p d next =
     let good = good-from_next objects h p d next in
     let legal = and_true (is_in h d.tx && not (is_named p d.tx) && is_allowed h d.tx d.fate && is_enabled h p d.tx) (is_legal_from 0 objects (kept h p ++ block h d)) good in
     let enabled : is_enabled h p d.tx ≡ true = (and_true (is_in h d.tx && not (is_named p d.tx) && is_allowed h d.tx d.fate) (is_enabled h p d.tx) legal.0).1 in
     (λ i. not (next.new i) && enabled i)
-
-pub not-ready : (cur : CursorOf) (c : Choice) (b : Bool) → IsOfRow (history_of cur.shape) c →
-    MatchOption (slice_get (table_of (history_of cur.shape)) c.place) ⊥ (λ row. b ≡ (not (is_named cur.path row.tx) && is_enabled (history_of cur.shape) cur.path row.tx)) → b ≡ false → IsGoodAt cur c.decision → ⊥
-not-ready cur c b (r, (at, tx)) told not_so good =
-    let is : b ≡ (not (is_named cur.path r.tx) && is_enabled (history_of cur.shape) cur.path r.tx) =
-    subst (λ o. MatchOption o ⊥ (λ (row : RowOf). b ≡ (not (is_named cur.path row.tx) && is_enabled (history_of cur.shape) cur.path row.tx))) at told in
-    let seen : b ≡ (not (is_named cur.path c.decision.tx) && is_enabled (history_of cur.shape) cur.path c.decision.tx) =
-    is ∙ ap (λ t. not (is_named cur.path t) && is_enabled (history_of cur.shape) cur.path t) tx in
-    let ready = ready-good (objects_of cur.shape) (history_of cur.shape) cur.path c.decision good in
-    let clash : false ≡ true = sym not_so ∙ seen ∙ ready in
-    cc
 
 abbrev pub no_choice : Choice
 no_choice = record { effect = Silent; last = 0; place = 0; decision = no_decision }
@@ -179,6 +169,15 @@ tells-from X objects h p None (Some left) outcome.Spent less told = absurd less
 tells-from X objects h p (Some whole) None outcome.Spent less told = absurd less
 
 -- # The loop
+
+abbrev pub next_of : Turn → ℕ
+next_of t = t.next
+
+abbrev pub states_of : Turn → Option ℕ
+states_of t = t.states
+
+pub more-turns : {X : Type 0} (f : Turn → X) (old new : List Turn) (t : Turn) → new ≡ old ++ t ∷ [] → map f new ≡ map f old ++ f t ∷ []
+more-turns f old new t is = ap (map f) is ∙ map-append f old (t ∷ [])
 
 -- the choice that was followed
 pub record Follows (start cur new : CursorOf) (cs : List Choice) (next k : ℕ) : Type 0 where

@@ -3,3 +3,4 @@ pub mod Choices
 pub mod Levels
 pub mod Tried
 pub mod Memos
+pub mod Readiness

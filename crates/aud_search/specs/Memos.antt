@@ -1,12 +1,10 @@
 -- What a search remembers: states, where blocks lead from them, and spots of lists that it refuted.
 use Rattle.std.specs.Prelude.{◌≡◌, ℕ, ◌<◌, Bool, true, false, List, [], ◌∷◌, ◌++◌, map, length, Option, Some, None, slice_get, slice_index_or, take, ◌-◌, ◌⊎◌}
 use Rattle.std.specs.List.{Contains}
-use Rattle.aud_event.specs.Meanings.{Declared}
 use Rattle.aud_object.specs.Objects.{ObjState, opening_of}
 use Rattle.aud_object.specs.Executions.{states_after}
 use Rattle.aud_object.specs.Meanings.{StoreOf}
 use Rattle.aud_object.specs.Replayed.{replayed}
-use Rattle.aud_history.specs.Histories.{History}
 use Rattle.aud_history.specs.Table.{transactions, row_of}
 use Rattle.aud_witness.specs.declared.decision.Fate.TheVariants.{C, A}
 use Rattle.aud_witness.specs.declared.decision.Decision.{Decision}
@@ -101,7 +99,3 @@ IsMoreOf old new = (more : List StoreOf) × (new ≡ old ++ more)
 -- nothing came but perhaps one
 abbrev pub AreWith : {X : Type 0} → List X → List X → X → Type 0
 AreWith {X} old new x = (y : X) → Contains new y → Contains old y ⊎ (y ≡ x)
-
--- the last number was taken, where one was left
-abbrev pub IsLastOf : List (Option ℕ) → Option ℕ → List (Option ℕ) → Type 0
-IsLastOf old n new = (old ≡ new ++ n ∷ []) ⊎ ((n ≡ None) × (new ≡ []))

@@ -1,8 +1,7 @@
 -- What became of choices that a search tried.
-use Rattle.std.specs.Prelude.{◌≡◌, ℕ, ◌+◌, ◌<◌, ◌≤◌, Bool, true, false, List, [], ◌∷◌, ◌++◌, length, Option, Some, None, slice_get, ◌⊎◌}
+use Rattle.std.specs.Prelude.{◌≡◌, ℕ, ◌+◌, ◌-◌, ◌<◌, ◌≤◌, take, Bool, true, false, List, [], ◌∷◌, ◌++◌, length, Option, Some, None, slice_get, ◌⊎◌}
 use Rattle.aud_event.specs.Meanings.{Declared}
 use Rattle.aud_history.specs.Histories.{History}
-use Rattle.aud_history.specs.Table.{RowOf, table_of}
 use Rattle.aud_witness.specs.declared.decision.Decision.{Decision}
 use Rattle.aud_witness.specs.Orders.{IsGoodNext, Shows, Refuted}
 use Rattle.aud_order.specs.Shapes.{objects_of, history_of}
@@ -20,9 +19,9 @@ IsGoodAt c d = IsGoodNext (objects_of c.shape) (history_of c.shape) c.path d
 abbrev pub cursor_with : CursorOf → Decision → CursorOf
 cursor_with c d = record { shape = c.shape; path = c.path ++ d ∷ [] }
 
--- the place of a choice is that of its transaction's row
-abbrev pub IsOfRow : History → Choice → Type 0
-IsOfRow h c = (r : RowOf) × ((slice_get (table_of h) c.place ≡ Some r) × (r.tx ≡ c.decision.tx))
+-- the cursor without its last decision, if it has one
+abbrev pub cursor_back : CursorOf → CursorOf
+cursor_back c = record { shape = c.shape; path = take (length c.path - 1) c.path }
 
 -- one choice was tried: it is good, and the cursor went on, or it is not, and nothing changed
 abbrev pub IsTried : CursorOf → CursorOf → Decision → Bool → Type 0

@@ -5,6 +5,7 @@ mod choice;
 mod index;
 mod memo;
 mod outcome;
+mod ready;
 mod search;
 
 pub use outcome::{Decided, Outcome};

@@ -313,12 +313,16 @@ impl<'a, A: Allocator + Copy> Memo<'a, A> {
         if let Some(to) = self.lead(before, tx) {
             return Some(to);
         }
+        let known = self.stores.len();
         let to = self.number(cursor)?;
-        self.keep_lead(Lead {
-            from: before,
-            tx,
-            to,
-        });
+        // To states that are met for the first time few ways lead.
+        if to < known {
+            self.keep_lead(Lead {
+                from: before,
+                tx,
+                to,
+            });
+        }
         Some(to)
     }
 

@@ -8,13 +8,14 @@ ghost use Rattle.aud_history.specs.FirstFault.{IsWithinLimits};
 ghost use Rattle.aud_order.specs.Shapes.{plan_of, objects_of, history_of};
 ghost use Rattle.aud_search.specs.Choices.{AreChoices};
 ghost use Rattle.aud_search.specs.Levels.{IsOneLess};
-ghost use Rattle.aud_search.specs.Memos.{IsLastOf};
+ghost use Rattle.aud_search.specs.Readiness.{IsReady};
 ghost use Rattle.aud_search.specs.Searches.{Tells, Decides};
-ghost use Rattle.aud_search.specs.Tried.{IsOfRow, IsTried, IsFound, IsBehind, ArePushed, TellsFrom};
+ghost use Rattle.aud_search.specs.Tried.{IsTried, IsFound, IsBehind, ArePushed, TellsFrom, cursor_back};
 
 use crate::choice::{Choice, Effect, choices_of};
 use crate::memo::Memo;
 use crate::outcome::{Decided, Outcome};
+use crate::ready::Ready;
 use aud_event::OutOfMemory;
 use aud_order::{Cursor, Pushed, Shape};
 use aud_witness::{Decision, Prefix};
@@ -54,18 +55,14 @@ fn push_all<A: Allocator + Copy>(
     Ok(true)
 }
 
-/// Goes on by the choice if it is good.
-fn try_choice<A: Allocator + Copy>(
+/// Goes on by the decision if it is good.
+fn try_decision<A: Allocator + Copy>(
     cursor: &mut Cursor<A>,
-    choice: &Choice,
+    decision: Decision,
 ) -> Result<bool, OutOfMemory>
-    requires { IsOfRow (history_of cursor.old.shape) choice.now }
-    ensures { IfOk result (IsTried cursor.old cursor.new choice.now.decision) }
+    ensures { IfOk result (IsTried cursor.old cursor.new decision) }
 {
-    if !cursor.is_ready(choice.place) {
-        return Ok(false);
-    }
-    let pushed = cursor.push(choice.decision)?;
+    let pushed = cursor.push(decision)?;
     Ok(pushed.is_good())
 }
 
@@ -73,17 +70,35 @@ fn try_choice<A: Allocator + Copy>(
 fn try_from<A: Allocator + Copy>(
     cursor: &mut Cursor<A>,
     choices: &[Choice],
+    ready: &Ready<A>,
     from: usize,
 ) -> Result<Option<usize>, OutOfMemory>
-    requires { AreChoices (history_of cursor.old.shape) choices.now }
+    requires choices { AreChoices (history_of cursor.old.shape) choices.now }
+    requires same { ready.now.choices ≡ choices.now }
+    requires ready { IsReady ready.now cursor.old }
     ensures { IfOk result (IsFound cursor.old cursor.new choices.now from) }
 {
-    for place in from..choices.len() {
-        if try_choice(cursor, &choices[place])? {
+    let mut next = from;
+    while let Some(place) = ready.next(next) {
+        if try_decision(cursor, choices[place].decision)? {
             return Ok(Some(place));
         }
+        next = place + 1;
     }
     Ok(None)
+}
+
+/// Takes the last decision back.
+fn go_back<A: Allocator + Copy>(cursor: &mut Cursor<A>, ready: &mut Ready<A>)
+    requires { IsReady ready.old cursor.old }
+    ensures back { cursor.new ≡ cursor_back cursor.old }
+    ensures ready { IsReady ready.new cursor.new }
+    ensures choices { ready.new.choices ≡ ready.old.choices }
+{
+    if let Some(last) = cursor.prefix().last().copied() {
+        let _ = cursor.pop();
+        ready.go_back(last, cursor);
+    }
 }
 
 /// The place of the next choice once this one is refuted. Behind one of a silent transaction none is left to try.
@@ -98,13 +113,19 @@ fn place_behind(choices: &[Choice], place: usize) -> usize
     }
 }
 
-/// The last number, which is then no longer there; none where none is left.
-fn last_of<A: Allocator>(numbers: &mut Vec<Option<usize>, A>) -> Option<usize>
-    ensures { IsLastOf numbers.old.items result numbers.new.items }
-{
-    match numbers.pop() {
-        Some(number) => number,
-        None => None,
+/// Which choice behind a list is tried next, and the number of the states there, if they have one.
+#[derive(Clone, Copy, Debug, PartialEq, Eq)]
+struct Turn {
+    next: usize,
+    states: Option<usize>,
+}
+
+impl Turn {
+    /// Behind a list that was just expanded.
+    fn new(states: Option<usize>) -> Turn
+        ensures { result ≡ record { next = 0; states = states } }
+    {
+        Turn { next: 0, states }
     }
 }
 
@@ -125,41 +146,37 @@ fn search_from<'a, A: Allocator + Copy>(
 {
     let mut left = budget;
     let mut memo = Memo::new(alloc, shape);
-    let mut states = None;
-    let mut numbers = Vec::new(alloc);
-    let mut below = Vec::new(alloc);
-    let mut next = 0;
+    let mut ready = Ready::at(alloc, shape, choices, cursor)?;
+    let mut turns = Vec::new(alloc);
+    let mut here = Turn::new(None);
     let _ = cursor.prefix();
     'search: loop {
-        if let Some(place) = try_from(cursor, choices, next)? {
-            if cursor.full() {
-                let witness = copied(alloc, cursor.prefix())?;
-                return Ok(Outcome::Witness(witness));
-            }
-            let behind = place_behind(choices, place);
-            let further = memo.follow(states, &choices[place], cursor);
-            if memo.knows(further, cursor) {
-                let _known = cursor.pop();
-                next = behind;
-                continue;
-            }
-            let Some(rest) = spend(left) else {
-                return Ok(Outcome::Spent);
+        let Some(place) = try_from(cursor, choices, &ready, here.next)? else {
+            let Some(turn) = turns.pop() else {
+                return Ok(Outcome::Refuted);
             };
-            left = rest;
-            below.push(behind)?;
-            numbers.push(states)?;
-            states = further;
-            next = 0;
+            memo.learn(here.states, cursor);
+            go_back(cursor, &mut ready);
+            here = turn;
+            continue;
+        };
+        if cursor.full() {
+            let witness = copied(alloc, cursor.prefix())?;
+            return Ok(Outcome::Witness(witness));
+        }
+        here.next = place_behind(choices, place);
+        let states = memo.follow(here.states, &choices[place], cursor);
+        if memo.knows(states, cursor) {
+            let _known = cursor.pop();
             continue;
         }
-        let Some(tried) = below.pop() else {
-            return Ok(Outcome::Refuted);
+        let Some(rest) = spend(left) else {
+            return Ok(Outcome::Spent);
         };
-        memo.learn(states, cursor);
-        let _refuted = cursor.pop();
-        states = last_of(&mut numbers);
-        next = tried;
+        left = rest;
+        ready.go_on(choices[place].decision, cursor);
+        turns.push(here)?;
+        here = Turn::new(states);
     }
 }
 

@@ -1,9 +1,10 @@
-use Rattle.std.specs.Prelude.{◌≡◌, ℕ, ◌∷◌, reverse}
+use Rattle.std.specs.Prelude.{◌≡◌, ℕ, ◌∷◌, map, reverse}
 use Rattle.aud_order.specs.Shapes.{objects_of, history_of}
 use Rattle.aud_search.specs.Levels.{IsSearching}
 use Rattle.aud_search.specs.Memos.{NameWay}
+use Rattle.aud_search.specs.Readiness.{IsReady}
 use Rattle.aud_search.specs.Tried.{Spends}
-use Rattle.aud_search.proofs.Steps.{weight}
+use Rattle.aud_search.proofs.Steps.{weight, next_of, states_of}
 use Rattle.aud_search.proofs.search.search_from.Given as goal
 
 abbrev pub invariant-search : goal.invariant-search
@@ -12,9 +13,11 @@ invariant-search g l = record {
   used : ℕ;
   spends : Spends l.fn.budget used l.left;
   memo : l.memo.shape ≡ l.fn.cursor.shape;
-  way : NameWay l.fn.cursor.shape l.memo.states (l.states ∷ reverse l.numbers.items) l.cursor.path;
-  searching : IsSearching (objects_of l.fn.cursor.shape) (history_of l.fn.cursor.shape) l.fn.cursor.path l.choices used l.cursor.path l.next (reverse l.below.items);
+  way : NameWay l.fn.cursor.shape l.memo.states (l.here.states ∷ reverse (map states_of l.turns.items)) l.cursor.path;
+  searching : IsSearching (objects_of l.fn.cursor.shape) (history_of l.fn.cursor.shape) l.fn.cursor.path l.choices used l.cursor.path l.here.next (reverse (map next_of l.turns.items));
+  choices : l.ready.choices ≡ l.choices;
+  ready : IsReady l.ready l.cursor;
 }
 
 abbrev pub decreases-search : goal.decreases-search
-decreases-search g l = weight l.fn.cursor.shape l.choices l.cursor.path l.next l.below.items
+decreases-search g l = weight l.fn.cursor.shape l.choices l.cursor.path l.here.next (map next_of l.turns.items)

@@ -1,9 +1,13 @@
-use Rattle.std.specs.Prelude.{◌≡◌}
+use Rattle.std.specs.Prelude.{◌≡◌, ◌-◌, ◌≤◌, length}
 use Rattle.aud_search.proofs.Steps.{AreBad}
 use Rattle.aud_search.proofs.search.try_from.Given as goal
 
-abbrev pub invariant-loop-place : goal.invariant-loop-place
-invariant-loop-place g l = record {
+abbrev pub invariant-loop-next : goal.invariant-loop-next
+invariant-loop-next g l = record {
   same : l.cursor ≡ l.fn.cursor;
-  bad : AreBad l.fn.cursor l.choices l.fn.from l.place;
+  past : l.fn.from ≤ l.next;
+  bad : AreBad l.fn.cursor l.choices l.fn.from l.next;
 }
+
+abbrev pub decreases-loop-next : goal.decreases-loop-next
+decreases-loop-next g l = length l.choices - l.next

@@ -1,4 +1,4 @@
-use Rattle.std.specs.Prelude.{◌≡◌, refl}
+use Rattle.std.specs.Prelude.{refl}
 use Rattle.std.proofs.Common.{sym, ◌∙◌, ap, subst, arith}
 use Rattle.aud_event.specs.Meanings.{PlanOf}
 use Rattle.aud_history.specs.Table.{table_of}

@@ -1,5 +1,5 @@
 use Rattle.std.specs.Prelude.{◌≡◌, ℕ, Bool, Option, Some, true, false, ◌⊎◌}
-use Rattle.std.proofs.Common.{sym, ◌∙◌, ap, subst, inl, inr}
+use Rattle.std.proofs.Common.{◌∙◌, ap, subst, inl, inr}
 use Rattle.aud_history.specs.WellFormed.{IsWellFormed}
 use Rattle.aud_history.specs.FirstFault.{IsWithinLimits}
 use Rattle.aud_witness.specs.declared.decision.Fate.TheVariants.{C, A}
@@ -8,7 +8,7 @@ use Rattle.aud_order.specs.Cursors.{CursorOf}
 use Rattle.aud_order.specs.Silent.{silent_fate}
 use Rattle.aud_search.specs.declared.choice.Effect.TheVariants.{Silent}
 use Rattle.aud_search.specs.declared.choice.Choice.{Choice}
-use Rattle.aud_search.specs.Memos.{MemoOf, IsStep, IsLead, Names, LeavesStates}
+use Rattle.aud_search.specs.Memos.{MemoOf, IsStep, LeavesStates}
 use Rattle.aud_search.proofs.MemoLemmas.{step-stays, step-known, step-lead}
 use Rattle.aud_search.proofs.memo.Memo.follow.Goals as goal
 
