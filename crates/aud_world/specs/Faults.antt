@@ -1,9 +1,12 @@
 -- Why a move is not made.
-use Rattle.std.specs.Prelude.{◌≡◌, ℕ, ◌<◌, List, length, None, Result, Ok, Err, take}
+use Rattle.std.specs.Prelude.{◌≡◌, ℕ, ◌<◌, List, [], ◌∷◌, length, None, Result, Ok, Err, take}
+use Rattle.aud_event.specs.Meanings.{PlanOf}
 use Rattle.aud_event.specs.Facts.{first_fact_fault}
 use Rattle.aud_know.specs.declared.fault.KnowFault.{KnowFault}
 use Rattle.aud_know.specs.declared.fault.KnowFault.TheVariants as know_fault
-use Rattle.aud_world.specs.Worlds.{WorldOf}
+use Rattle.aud_world.specs.Clouds.{Cloud}
+use Rattle.aud_world.specs.Moves.{after_move}
+use Rattle.aud_world.specs.Worlds.{WorldOf, IsWorldOf}
 use Rattle.aud_world.specs.declared.moves.Move.{Move}
 use Rattle.aud_world.specs.declared.moves.Move.TheVariants.{Feed, Find, Post, Deliver}
 use Rattle.aud_world.specs.declared.moves.MoveFault.{MoveFault}
@@ -42,6 +45,11 @@ IsFaultOf w m NoNode = node_of m < length w.nodes → ⊥
 IsFaultOf w m NoPacket = (node_of m < length w.nodes) × (HasPacket w m → ⊥)
 IsFaultOf w m PlanMismatch = (node_of m < length w.nodes) × HasPacket w m × (IsOfWorld w m → ⊥)
 IsFaultOf w m OutOfMemory = IsAllowed w m
+
+-- each of the moves is allowed in a world of the plan that stands for what the moves before it leave
+abbrev pub AreAllowed : {X : Type 0} → PlanOf → Cloud → List (Move X) → Type 0
+AreAllowed plan c [] = Unit {0}
+AreAllowed plan c (m ∷ ms) = ((w : WorldOf) → w.plan ≡ plan → IsWorldOf w c → IsAllowed w m) × AreAllowed plan (after_move c m) ms
 
 -- the moves that were made: all, or those before the one that was refused
 abbrev pub made : {X U : Type 0} → Result U (ℕ × MoveFault) → List (Move X) → List (Move X)

@@ -11,7 +11,7 @@ ghost use Rattle.aud_know.specs.Findings.{found};
 ghost use Rattle.aud_world.specs.Clouds.{Cloud, Gains};
 ghost use Rattle.aud_world.specs.Moves.{after_move, after_moves, at_first, IsTrueMove};
 ghost use Rattle.aud_world.specs.Worlds.{IsWorldOf, AreOfPlan};
-ghost use Rattle.aud_world.specs.Faults.{IsAllowed, IsFaultOf, IsTakeFault, made};
+ghost use Rattle.aud_world.specs.Faults.{IsAllowed, AreAllowed, IsFaultOf, IsTakeFault, made};
 ghost use Rattle.aud_world.specs.Headline.{KeepsHeadline};
 
 use crate::laws::headline_holds;
@@ -201,6 +201,7 @@ impl<A: Allocator + Copy> World<A> {
         ensures len { length self.new.nodes ≡ length self.old.nodes }
         ensures stopped { IfErr result (λ e. (m : Move A) × (slice_get moves.now e.0 ≡ Some m) × IsFaultOf self.new m e.1) }
         ensures truth { AllByRecursion (IsTrueMove self.old.plan) (made result moves.now) }
+        ensures allowed { (c : Cloud) → IsWorldOf self.old c → AreAllowed self.old.plan c (made result moves.now) }
         ensures headline { KeepsHeadline self.old (made result moves.now) self.new }
     {
         headline_holds::<A>();
