@@ -1,67 +1,60 @@
 // Does what the words ask for with standard input, and prints one line.
 #![tactic(auto)]
 
-mod input;
+mod job;
 mod message;
 
-use aud_cli::{Cause, Command, Ended, Job, job_of, run_lines};
-use aud_report::{MemorySink, MemorySource};
-use input::{InputFault, read_to_end};
+use aud_cli::{Command, Ended, Usage, job_of};
+use job::{exit_status, run_job};
 use message::message_of;
 use std::alloc::Global;
-use std::io::{self, Write};
+use std::io::{self, ErrorKind};
 use std::process::ExitCode;
 
-/// The exit status where the words are not understood.
-const USAGE: u8 = 64;
+/// What the user is told of a word that is no text.
+const NO_TEXT: &str = "error: a word is not UTF-8\n";
 
-/// Runs the job over standard input, and prints its line.
-fn run_job(rt: &HostRuntime, alloc: Global, job: &Job) -> Ended {
-    let bytes = match read_to_end(alloc, &mut rt.reader()) {
-        Ok(bytes) => bytes,
-        Err(InputFault::Failed) => return Ended::Failed(Cause::Input),
-        Err(InputFault::OutOfMemory) => return Ended::Failed(Cause::Memory),
-    };
-    let mut source = MemorySource::new(bytes);
-    let mut sink = MemorySink::new(alloc);
-    let ended = run_lines(alloc, job, &mut source, &mut sink);
-    if let Ended::Failed(cause) = ended {
-        // A sink in memory fails for want of memory alone.
-        return match cause {
-            Cause::Output => Ended::Failed(Cause::Memory),
-            other => Ended::Failed(other),
-        };
+/// Why the words were not read.
+fn unread(alloc: Global, kind: ErrorKind) -> Usage {
+    if kind == ErrorKind::OutOfMemory {
+        return Usage::OutOfMemory;
     }
-    match io::writer(rt).write_all(sink.held()) {
-        Ok(()) => ended,
-        Err(_) => Ended::Failed(Cause::Output),
+    match String::from_str(alloc, NO_TEXT) {
+        Ok(text) => Usage::Told(text),
+        Err(_) => Usage::OutOfMemory,
     }
 }
 
-fn words_of(rt: &HostRuntime, alloc: Global) -> Option<Vec<String>> {
-    std::env::args(rt).ok()?.collect(alloc).ok()
+/// The words, the program's name first.
+fn words_of(rt: &HostRuntime, alloc: Global) -> Result<Vec<String>, Usage> {
+    let words = match std::env::args(rt) {
+        Ok(words) => words,
+        Err(error) => return Err(unread(alloc, error.kind())),
+    };
+    match words.collect(alloc) {
+        Ok(words) => Ok(words),
+        Err(_) => Err(Usage::OutOfMemory),
+    }
 }
 
-/// Does what the words ask for, and gives the exit status.
-fn run(rt: &HostRuntime, alloc: Global) -> u8 {
-    let Some(words) = words_of(rt, alloc) else {
-        let _ = eprint!(rt; "{}", message_of(Cause::Memory));
-        return USAGE;
-    };
-    let ended = match job_of(alloc, words.as_slice()) {
-        Ok(Command::Lines(job)) => run_job(rt, alloc, &job),
-        Err(usage) => {
-            let _ = eprint!(rt; "{}", usage.text());
-            return USAGE;
-        }
-    };
-    if let Ended::Failed(cause) = ended {
-        let _ = eprint!(rt; "{}", message_of(cause));
+/// Does what the words ask for.
+fn answer(rt: &HostRuntime, alloc: Global) -> Result<Ended, Usage> {
+    let words = words_of(rt, alloc)?;
+    match job_of(alloc, words.as_slice())? {
+        Command::Lines(job) => Ok(run_job(alloc, &job, &mut rt.reader(), &mut io::writer(rt))),
     }
-    ended.status()
 }
 
 fn main(rt: HostRuntime) -> ExitCode {
-    let alloc = rt.alloc();
-    ExitCode::from(run(&rt, alloc))
+    let answer = answer(&rt, rt.alloc());
+    match &answer {
+        Err(usage) => {
+            let _ = eprint!(rt; "{}", usage.text());
+        }
+        Ok(Ended::Failed(cause)) => {
+            let _ = eprint!(rt; "{}", message_of(*cause));
+        }
+        Ok(_) => {}
+    }
+    ExitCode::from(exit_status(&answer))
 }
