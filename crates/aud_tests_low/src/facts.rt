@@ -1,7 +1,8 @@
 //! Sets of facts: the worked inputs in every rotation of their lines, and each growth refused in turn.
 
 use crate::fixtures::{
-    READ, READS, WRITES, WRITTEN, ample, end, record, refuse_each, register_plan,
+    Case, READ, READS, Trial, WRITES, WRITTEN, each_holds, end, holds, is_refused, record,
+    refuse_each, register_plan,
 };
 use aud_event::{Dup, Event, Fact, Op, OutOfMemory, Plan};
 use aud_facts::laws::{
@@ -9,11 +10,9 @@ use aud_facts::laws::{
     sealed_is_all, sealed_is_full,
 };
 use aud_facts::{FactStatus, Facts, Kind, all_fit};
-use aud_refusing::Refusing;
 use std::alloc::{Allocator, Global};
 use std::process::Abort;
 use std::sync::Arc;
-use std::test::Fail;
 
 /// One log: T1 writes 1 and commits, and T2 reads it and commits.
 fn one_log() -> [Fact; 9] {
@@ -70,6 +69,13 @@ fn put<A: Allocator + Copy>(facts: &mut Facts<A>, fact: &Fact) -> Result<(), Out
     }
 }
 
+fn put_all<A: Allocator + Copy>(facts: &mut Facts<A>, lines: &[Fact]) -> Result<(), OutOfMemory> {
+    for line in lines {
+        put(facts, line)?;
+    }
+    Ok(())
+}
+
 /// Joins another set of the same plan.
 fn join<A: Allocator + Copy>(facts: &mut Facts<A>, other: &Facts<A>) -> Result<(), OutOfMemory> {
     if facts.plan().same(other.plan()) {
@@ -85,65 +91,56 @@ fn rotated<A: Allocator + Copy>(
     logs: u32,
     facts: &[Fact],
     from: usize,
-) -> Result<Facts<A>, Fail> {
-    let mut all = Facts::empty(alloc, register_plan(&alloc, logs)?);
-    for fact in facts.iter().skip(from) {
-        put(&mut all, fact)?;
-    }
-    for fact in facts.iter().take(from) {
-        put(&mut all, fact)?;
-    }
+) -> Result<Facts<A>, OutOfMemory> {
+    let mut all = Facts::empty(alloc, register_plan(alloc, logs)?);
+    let (front, back) = facts.split_at(from.min(facts.len()));
+    put_all(&mut all, back)?;
+    put_all(&mut all, front)?;
     Ok(all)
 }
 
-/// Whether the facts have the status in every rotation of their lines.
-fn always(alloc: Global, logs: u32, facts: &[Fact], status: FactStatus) -> Result<bool, Fail> {
-    let first = rotated(alloc, logs, facts, 0)?;
-    for from in 0..facts.len() {
-        let all = rotated(alloc, logs, facts, from)?;
-        if all.status() != status || !all.same(&first) {
-            return Ok(false);
-        }
-        if all.seal()?.is_some() != (status == FactStatus::Sealed) {
-            return Ok(false);
-        }
-    }
-    Ok(true)
+/// Whether the facts have the status and are those of another set, and can be sealed just where the status says so.
+fn is_as_told(all: &Facts, first: &Facts, status: FactStatus) -> Result<bool, OutOfMemory> {
+    let is_sealed = all.seal()?.is_some();
+    Ok(all.status() == status && all.same(first) && is_sealed == (status == FactStatus::Sealed))
 }
 
-/// The facts with another fact put in before a place.
-fn with(alloc: Global, facts: &[Fact], place: usize, fact: Fact) -> Result<Vec<Fact>, Fail> {
-    let mut all = Vec::new(alloc);
-    for (number, old) in facts.iter().enumerate() {
-        if number == place {
-            all.push(fact)?;
+/// Facts of a plan of so many logs, and their status in every rotation of their lines.
+#[derive(Drop)]
+struct Always<'a>(u32, &'a [Fact], FactStatus);
+
+impl<'a> Case for Always<'a> {
+    fn holds(&self, alloc: Global) -> Result<bool, OutOfMemory> {
+        let first = rotated(alloc, self.0, self.1, 0)?;
+        for from in 0..self.1.len() {
+            let all = rotated(alloc, self.0, self.1, from)?;
+            if !is_as_told(&all, &first, self.2)? {
+                return Ok(false);
+            }
         }
-        all.push(*old)?;
+        Ok(true)
     }
-    if place == facts.len() {
-        all.push(fact)?;
-    }
-    Ok(all)
 }
 
 #[test]
-fn runs_are_sealed_or_wait_in_every_rotation(rt: HostRuntime) -> Result<(), Fail> {
-    let (one, two) = (one_log(), two_logs());
-    let (none, gap) = ([end(0, 0)], [record(0, 0, 1, 1, Event::TryC), end(0, 1)]);
-    let cases: [(u32, &[Fact], FactStatus); 4] = [
-        (1, &one, FactStatus::Sealed),
-        (1, &none, FactStatus::Sealed),
-        (2, &two, FactStatus::Waiting(1)),
-        (1, &gap, FactStatus::Gap(0)),
-    ];
-    for (logs, facts, status) in &cases {
-        assert!(rt; always(rt.alloc(), *logs, facts, *status)?, "{status:?}");
-    }
-    Ok(())
+fn runs_are_sealed_or_wait_in_every_rotation(rt: HostRuntime) {
+    each_holds(
+        &rt,
+        &[
+            Always(1, &one_log(), FactStatus::Sealed),
+            Always(1, &[end(0, 0)], FactStatus::Sealed),
+            Always(2, &two_logs(), FactStatus::Waiting(1)),
+            Always(
+                1,
+                &[record(0, 0, 1, 1, Event::TryC), end(0, 1)],
+                FactStatus::Gap(0),
+            ),
+        ],
+    );
 }
 
 #[test]
-fn clashing_facts_conflict_in_every_rotation(rt: HostRuntime) -> Result<(), Fail> {
+fn clashing_facts_conflict_in_every_rotation(rt: HostRuntime) {
     let twice = [
         record(0, 0, 0, 1, Event::TryC),
         record(0, 1, 0, 1, Event::Commit),
@@ -154,148 +151,174 @@ fn clashing_facts_conflict_in_every_rotation(rt: HostRuntime) -> Result<(), Fail
         record(0, 1, 0, 1, Event::Commit),
         end(0, 2),
     ];
-    let cases: [(&[Fact], Kind, u32, u32); 3] = [
-        (&twice, Kind::StampTwice, 0, 0),
-        (&past, Kind::PastCount, 0, 3),
-        (&falls, Kind::StampOrder, 0, 1),
-    ];
-    for (facts, kind, log, place) in &cases {
-        let told = FactStatus::Conflict(*kind, *log, *place);
-        assert!(rt; always(rt.alloc(), 1, facts, told)?, "{told:?}");
-    }
+    each_holds(
+        &rt,
+        &[
+            Always(1, &twice, FactStatus::Conflict(Kind::StampTwice, 0, 0)),
+            Always(1, &past, FactStatus::Conflict(Kind::PastCount, 0, 3)),
+            Always(1, &falls, FactStatus::Conflict(Kind::StampOrder, 0, 1)),
+        ],
+    );
+}
+
+/// Puts another fact in before a place, up to the end.
+fn put_in(lines: &mut Vec<Fact>, place: usize, fact: Fact) -> Result<(), OutOfMemory> {
+    let place = place.min(lines.len());
+    lines.insert(place, fact)?;
     Ok(())
 }
 
+/// A place in the run in one log, the fact that is put in there, and the conflict that this makes at a place of log 0.
+#[derive(Drop)]
+struct Clash(usize, Fact, Kind, u32);
+
+impl Case for Clash {
+    fn holds(&self, alloc: Global) -> Result<bool, OutOfMemory> {
+        let mut lines = one_log().to_vec(alloc)?;
+        put_in(&mut lines, self.0, self.1)?;
+        Always(1, &lines, FactStatus::Conflict(self.2, 0, self.3)).holds(alloc)
+    }
+}
+
 #[test]
-fn a_fact_that_clashes_with_a_run_conflicts_in_every_rotation(rt: HostRuntime) -> Result<(), Fail> {
+fn a_fact_that_clashes_with_a_run_conflicts_in_every_rotation(rt: HostRuntime) {
     let other = record(0, 0, 0, 1, Event::Inv(0, Op::Write(2)));
-    let cases = [
-        (0, other, Kind::TwoRecords, 0),
-        (1, other, Kind::TwoRecords, 0),
-        (9, end(0, 9), Kind::TwoCounts, 8),
-    ];
-    for (place, fact, kind, at) in &cases {
-        let facts = with(rt.alloc(), &one_log(), *place, *fact)?;
-        let told = FactStatus::Conflict(*kind, 0, *at);
-        assert!(rt; always(rt.alloc(), 1, &facts, told)?, "{told:?}");
-    }
-    Ok(())
+    each_holds(
+        &rt,
+        &[
+            Clash(0, other, Kind::TwoRecords, 0),
+            Clash(1, other, Kind::TwoRecords, 0),
+            Clash(9, end(0, 9), Kind::TwoCounts, 8),
+        ],
+    );
 }
 
-#[test]
-fn a_sealed_set_has_its_facts_and_history(rt: HostRuntime) -> Result<(), Fail> {
-    let facts = rotated(rt.alloc(), 1, &one_log(), 3)?;
-    let sealed = facts.seal()?.ok_or("not sealed")?;
-    assert!(rt; sealed.facts().same(&facts));
-    assert_eq!(rt; sealed.history().events(), WORKED.as_slice());
-    assert_eq!(rt; sealed.history().plan().logs(), 1);
-    Ok(())
-}
-
-#[test]
-fn an_empty_set_waits(rt: HostRuntime) -> Result<(), Fail> {
-    let facts = Facts::empty(rt.alloc(), register_plan(&rt.alloc(), 64)?);
-    assert_eq!(rt; facts.status(), FactStatus::Waiting(0));
-    assert!(rt; facts.seal()?.is_none());
-    assert_eq!(rt; facts.plan().logs(), 64);
-    assert_eq!(rt; facts.set().len(), 0);
-    Ok(())
-}
-
-/// Whether the facts are sealed, with the worked history.
-fn is_sealed_whole<A: Allocator + Copy>(facts: &Facts<A>) -> Result<bool, OutOfMemory> {
+/// Whether the facts are sealed, with the worked history under a plan of so many logs.
+fn is_sealed_whole<A: Allocator + Copy>(facts: &Facts<A>, logs: u32) -> Result<bool, OutOfMemory> {
     match facts.seal()? {
         None => Ok(false),
         Some(sealed) => {
-            Ok(sealed.facts().same(facts) && sealed.history().events() == WORKED.as_slice())
+            let history = sealed.history();
+            let is_worked = history.events() == WORKED.as_slice() && history.plan().logs() == logs;
+            Ok(is_worked && sealed.facts().same(facts))
         }
     }
 }
 
+fn seals_from_the_third(alloc: Global) -> Result<bool, OutOfMemory> {
+    is_sealed_whole(&rotated(alloc, 1, &one_log(), 3)?, 1)
+}
+
 #[test]
-fn a_log_waits_for_its_record(rt: HostRuntime) -> Result<(), Fail> {
-    let alloc = rt.alloc();
-    for place in 0..10 {
+fn a_sealed_set_has_its_facts_and_history(rt: HostRuntime) {
+    holds(&rt, seals_from_the_third(rt.alloc()));
+}
+
+fn is_empty_and_waits(alloc: Global) -> Result<bool, OutOfMemory> {
+    let facts = Facts::empty(alloc, register_plan(alloc, 64)?);
+    let is_sealed = facts.seal()?.is_some();
+    let is_empty = facts.plan().logs() == 64 && facts.set().len() == 0;
+    Ok(is_empty && !is_sealed && facts.status() == FactStatus::Waiting(0))
+}
+
+#[test]
+fn an_empty_set_waits(rt: HostRuntime) {
+    holds(&rt, is_empty_and_waits(rt.alloc()));
+}
+
+/// A place at which the late record comes, once and then again and again.
+struct LateAt(usize);
+
+impl Case for LateAt {
+    fn holds(&self, alloc: Global) -> Result<bool, OutOfMemory> {
         let mut lines = two_logs().to_vec(alloc)?;
         for count in 10..15usize {
-            lines = with(alloc, &lines, place, late())?;
-            assert_eq!(rt; lines.len(), count);
-            assert!(rt;
-                is_sealed_whole(&rotated(alloc, 2, &lines, 0)?)?,
-                "at {place}"
-            );
+            put_in(&mut lines, self.0, late())?;
+            let is_sealed = is_sealed_whole(&rotated(alloc, 2, &lines, 0)?, 2)?;
+            if !is_sealed || lines.len() != count {
+                return Ok(false);
+            }
         }
+        Ok(true)
     }
-    Ok(())
+}
+
+#[test]
+fn a_log_waits_for_its_record(rt: HostRuntime) {
+    each_holds(
+        &rt,
+        &[
+            LateAt(0),
+            LateAt(1),
+            LateAt(2),
+            LateAt(3),
+            LateAt(4),
+            LateAt(5),
+            LateAt(6),
+            LateAt(7),
+            LateAt(8),
+            LateAt(9),
+        ],
+    );
 }
 
 #[test]
 fn kinds_have_their_numbers(rt: HostRuntime) {
-    let cases = [
-        (Kind::TwoRecords, 1),
-        (Kind::StampTwice, 2),
-        (Kind::TwoCounts, 3),
-        (Kind::PastCount, 4),
-        (Kind::StampOrder, 5),
+    let numbers = [
+        Kind::TwoRecords.number(),
+        Kind::StampTwice.number(),
+        Kind::TwoCounts.number(),
+        Kind::PastCount.number(),
+        Kind::StampOrder.number(),
     ];
-    for (kind, number) in &cases {
-        assert_eq!(rt; kind.number(), *number, "of {kind:?}");
-    }
+    assert!(rt; numbers == [1, 2, 3, 4, 5]);
 }
 
-type Watched<'a> = Facts<&'a Refusing<Global>>;
-
-/// The lines of the worked run in one log from one on and below another.
-fn lines_of<'a>(alloc: &'a Refusing<Global>, from: usize, to: usize) -> Result<Watched<'a>, Fail> {
-    let mut facts = Facts::empty(alloc, register_plan(&alloc, 1)?);
-    for (number, fact) in one_log().iter().enumerate() {
-        if from <= number && number < to {
-            put(&mut facts, fact)?;
+/// Whether the set has these lines and no others.
+fn has_just<A: Allocator + Copy>(facts: &Facts<A>, lines: &[Fact]) -> bool {
+    let set = facts.set();
+    for line in lines {
+        if !set.contains(line) {
+            return false;
         }
     }
-    Ok(facts)
+    set.len() == lines.len()
 }
 
-/// Whether the set has so many first lines of the worked run, and no others.
-fn has_first<A: Allocator + Copy>(facts: &Facts<A>, count: usize) -> bool {
-    let set = facts.set();
-    set.len() == count && one_log().iter().take(count).all(|line| set.contains(line))
-}
-
-/// How many growths making the first of these lines takes, which a status and a comparison do not raise.
-fn growths_of(alloc: Global, lines: usize) -> Result<u64, Fail> {
-    let counted = ample(alloc)?;
-    let facts = lines_of(&counted, 0, lines)?;
+/// Whether a status and a comparison go, which take no memory.
+fn is_itself<A: Allocator + Copy>(facts: &Facts<A>) -> bool {
     facts.status();
-    facts.same(&facts);
-    Ok(counted.growths())
+    facts.same(facts)
 }
 
 /// Puts in the last line. A refused insert leaves the first eight, and the next one is not refused.
-fn insert_is_refused<A: Allocator + Copy>(
-    rt: &impl Abort,
-    facts: &mut Facts<A>,
-) -> Result<bool, OutOfMemory> {
+fn insert_is_refused<A: Allocator + Copy>(rt: &impl Abort, facts: &mut Facts<A>) -> bool {
     let is_refused = put(facts, &end(0, 8)).is_err();
     if is_refused {
-        assert!(rt; has_first(facts, 8));
-        put(facts, &end(0, 8))?;
+        assert!(rt; has_just(facts, &one_log()[..8]) && put(facts, &end(0, 8)).is_ok());
     }
-    assert!(rt; has_first(facts, 9));
-    Ok(is_refused)
+    assert!(rt; has_just(facts, &one_log()));
+    is_refused
 }
 
-fn insert_meets_refusal(rt: &impl Abort, alloc: &Refusing<Global>) -> Result<(), Fail> {
-    let mut facts = lines_of(alloc, 0, 8)?;
-    let is_refused = insert_is_refused(rt, &mut facts)?;
-    assert!(rt; is_refused == alloc.was_met());
-    Ok(())
+/// The last line of the worked run, put in behind the others.
+struct Inserts;
+
+impl Trial for Inserts {
+    fn is_refused<R: Abort, A: Allocator + Copy>(
+        rt: &R,
+        alloc: A,
+        _ample: A,
+    ) -> Result<bool, OutOfMemory> {
+        let mut facts = rotated(alloc, 1, &one_log()[..8], 0)?;
+        assert!(rt; is_itself(&facts));
+        Ok(insert_is_refused(rt, &mut facts))
+    }
 }
 
 #[test]
-fn a_refused_insert_changes_no_set(rt: HostRuntime) -> Result<(), Fail> {
-    let used = growths_of(rt.alloc(), 8)?;
-    refuse_each(&rt, used, 3, |alloc| insert_meets_refusal(&rt, alloc))
+fn a_refused_insert_changes_no_set(rt: HostRuntime) {
+    refuse_each::<HostRuntime, Inserts>(&rt, 3);
 }
 
 /// Joins the first five lines and the last five. A refused join leaves the first five, and the next one is not refused.
@@ -303,47 +326,63 @@ fn join_is_refused<A: Allocator + Copy>(
     rt: &impl Abort,
     facts: &mut Facts<A>,
     other: &Facts<A>,
-) -> Result<bool, OutOfMemory> {
+) -> bool {
     let is_refused = join(facts, other).is_err();
     if is_refused {
-        assert!(rt; has_first(facts, 5));
-        join(facts, other)?;
+        assert!(rt; has_just(facts, &one_log()[..5]) && join(facts, other).is_ok());
     }
-    assert!(rt; has_first(facts, 9));
-    Ok(is_refused)
+    assert!(rt; has_just(facts, &one_log()));
+    is_refused
 }
 
-fn join_meets_refusal(rt: &impl Abort, alloc: &Refusing<Global>) -> Result<(), Fail> {
-    let mut facts = lines_of(alloc, 0, 5)?;
-    let other = lines_of(alloc, 4, 9)?;
-    let is_refused = join_is_refused(rt, &mut facts, &other)?;
-    assert!(rt; is_refused == alloc.was_met());
-    Ok(())
+/// Two halves of the worked run, which share a line.
+struct Joins;
+
+impl Trial for Joins {
+    fn is_refused<R: Abort, A: Allocator + Copy>(
+        rt: &R,
+        alloc: A,
+        _ample: A,
+    ) -> Result<bool, OutOfMemory> {
+        let mut facts = rotated(alloc, 1, &one_log()[..5], 0)?;
+        let other = rotated(alloc, 1, &one_log()[4..], 0)?;
+        assert!(rt; is_itself(&facts));
+        Ok(join_is_refused(rt, &mut facts, &other))
+    }
 }
 
 #[test]
-fn a_refused_join_changes_no_set(rt: HostRuntime) -> Result<(), Fail> {
-    // both sets have five lines
-    let used = growths_of(rt.alloc(), 5)?.wrapping_mul(2);
-    refuse_each(&rt, used, 3, |alloc| join_meets_refusal(&rt, alloc))
+fn a_refused_join_changes_no_set(rt: HostRuntime) {
+    refuse_each::<HostRuntime, Joins>(&rt, 3);
 }
 
-/// A refused seal leaves the set, and the next one is not refused.
-fn seal_meets_refusal(rt: &impl Abort, alloc: &Refusing<Global>) -> Result<(), Fail> {
-    let facts = lines_of(alloc, 0, 9)?;
-    let sealed = is_sealed_whole(&facts);
-    assert!(rt; sealed.is_err() == alloc.was_met());
-    if sealed.is_err() {
-        assert!(rt; has_first(&facts, 9));
+/// Seals the worked run. A refused seal leaves the set, and the next one is not refused.
+fn seal_is_refused<A: Allocator + Copy>(rt: &impl Abort, facts: &Facts<A>) -> bool {
+    let is_refused = is_refused(rt, is_sealed_whole(facts, 1));
+    if is_refused {
+        assert!(rt; has_just(facts, &one_log()) && is_sealed_whole(facts, 1) == Ok(true));
     }
-    assert!(rt; sealed.or_else(|_| is_sealed_whole(&facts))?);
-    Ok(())
+    is_refused
+}
+
+/// The worked run, sealed.
+struct Seals;
+
+impl Trial for Seals {
+    fn is_refused<R: Abort, A: Allocator + Copy>(
+        rt: &R,
+        alloc: A,
+        _ample: A,
+    ) -> Result<bool, OutOfMemory> {
+        let facts = rotated(alloc, 1, &one_log(), 0)?;
+        assert!(rt; is_itself(&facts));
+        Ok(seal_is_refused(rt, &facts))
+    }
 }
 
 #[test]
-fn a_refused_seal_changes_no_set(rt: HostRuntime) -> Result<(), Fail> {
-    let used = growths_of(rt.alloc(), 9)?;
-    refuse_each(&rt, used, 2, |alloc| seal_meets_refusal(&rt, alloc))
+fn a_refused_seal_changes_no_set(rt: HostRuntime) {
+    refuse_each::<HostRuntime, Seals>(&rt, 2);
 }
 
 /// The worked run and a line twice, at once: whether it is just the worked run.
@@ -355,60 +394,85 @@ fn bulk_of<A: Allocator + Copy>(
     lines.push(end(0, 8))?;
     if all_fit(&plan, &lines) {
         let facts = Facts::from_vec(alloc, plan, lines)?;
-        Ok(has_first(&facts, 9))
+        Ok(has_just(&facts, &one_log()))
     } else {
         Ok(false)
     }
 }
 
-fn bulk_meets_refusal(rt: &impl Abort, alloc: &Refusing<Global>) -> Result<(), Fail> {
-    let plan = register_plan(&alloc, 1)?;
-    let lines = Vec::from_slice(alloc, &one_log())?;
-    let made = bulk_of(alloc, plan, lines);
-    assert!(rt; made.is_err() == alloc.was_met());
-    assert!(rt; made.unwrap_or(true));
-    Ok(())
-}
+/// A bulk of lines that are there.
+struct Bulks;
 
-#[test]
-fn each_growth_of_a_bulk_is_refused_in_turn(rt: HostRuntime) -> Result<(), Fail> {
-    let counted = ample(rt.alloc())?;
-    register_plan(&&counted, 1)?;
-    let used = counted.growths().wrapping_add(1);
-    refuse_each(&rt, used, 9, |alloc| bulk_meets_refusal(&rt, alloc))
-}
-
-#[test]
-fn sets_join_in_any_order(rt: HostRuntime) -> Result<(), Fail> {
-    let lines = two_logs();
-    let mut left = rotated(rt.alloc(), 2, &lines[..5], 0)?;
-    let mut right = rotated(rt.alloc(), 2, &lines[5..], 1)?;
-    let older = left.dup()?;
-    assert_eq!(rt; left.status(), FactStatus::Waiting(1));
-    assert_eq!(rt; right.status(), FactStatus::Waiting(0));
-    join(&mut left, &right)?;
-    join(&mut right, &older)?;
-    assert!(rt; left.same(&right));
-    assert!(rt; !left.same(&older));
-    assert_eq!(rt; left.set().len(), 9);
-    assert_eq!(rt; left.status(), FactStatus::Waiting(1));
-    Ok(())
-}
-
-#[test]
-fn a_sealed_set_that_grows_conflicts(rt: HostRuntime) -> Result<(), Fail> {
-    let mut facts = rotated(rt.alloc(), 2, &two_logs(), 0)?;
-    let clash = FactStatus::Conflict(Kind::TwoRecords, 1, 1);
-    let cases = [
-        (late(), FactStatus::Sealed),
-        (late(), FactStatus::Sealed),
-        (record(1, 1, 5, 2, READS), clash),
-    ];
-    for (fact, status) in &cases {
-        put(&mut facts, fact)?;
-        assert_eq!(rt; facts.status(), *status, "with {fact:?}");
+impl Trial for Bulks {
+    fn is_refused<R: Abort, A: Allocator + Copy>(
+        rt: &R,
+        alloc: A,
+        _ample: A,
+    ) -> Result<bool, OutOfMemory> {
+        let plan = register_plan(alloc, 1)?;
+        let lines = Vec::from_slice(alloc, &one_log())?;
+        Ok(is_refused(rt, bulk_of(alloc, plan, lines)))
     }
-    Ok(())
+}
+
+#[test]
+fn each_growth_of_a_bulk_is_refused_in_turn(rt: HostRuntime) {
+    refuse_each::<HostRuntime, Bulks>(&rt, 9);
+}
+
+/// Joins each of two sets that wait for log 1 and for log 0 to the other: whether both are then the whole, which waits.
+fn both_join(left: &mut Facts, right: &mut Facts) -> Result<bool, OutOfMemory> {
+    let older = left.dup()?;
+    let before = [left.status(), right.status()];
+    join(left, right)?;
+    join(right, &older)?;
+    let waits = [before[0], before[1], left.status()]
+        == [
+            FactStatus::Waiting(1),
+            FactStatus::Waiting(0),
+            FactStatus::Waiting(1),
+        ];
+    Ok(waits && left.same(right) && !left.same(&older) && left.set().len() == 9)
+}
+
+fn halves_join(alloc: Global) -> Result<bool, OutOfMemory> {
+    let mut left = rotated(alloc, 2, &two_logs()[..5], 0)?;
+    let mut right = rotated(alloc, 2, &two_logs()[5..], 1)?;
+    both_join(&mut left, &mut right)
+}
+
+#[test]
+fn sets_join_in_any_order(rt: HostRuntime) {
+    holds(&rt, halves_join(rt.alloc()));
+}
+
+/// Puts facts in, each with the status that it leaves.
+fn grows_by(facts: &mut Facts, cases: &[(Fact, FactStatus)]) -> Result<bool, OutOfMemory> {
+    for (fact, status) in cases {
+        put(facts, fact)?;
+        if facts.status() != *status {
+            return Ok(false);
+        }
+    }
+    Ok(true)
+}
+
+fn sealed_grows(alloc: Global) -> Result<bool, OutOfMemory> {
+    let mut facts = rotated(alloc, 2, &two_logs(), 0)?;
+    let clash = FactStatus::Conflict(Kind::TwoRecords, 1, 1);
+    grows_by(
+        &mut facts,
+        &[
+            (late(), FactStatus::Sealed),
+            (late(), FactStatus::Sealed),
+            (record(1, 1, 5, 2, READS), clash),
+        ],
+    )
+}
+
+#[test]
+fn a_sealed_set_that_grows_conflicts(rt: HostRuntime) {
+    holds(&rt, sealed_grows(rt.alloc()));
 }
 
 #[test]
@@ -422,14 +486,22 @@ fn the_laws_hold(_rt: HostRuntime) {
     joins_repeat();
 }
 
+fn are_apart(one: &Facts, two: &Facts) -> Result<bool, OutOfMemory> {
+    let is_copied = one.same(&one.dup()?);
+    let fit = [
+        all_fit(two.plan(), &[end(1, 0)]),
+        all_fit(one.plan(), &[end(0, 0), end(1, 0)]),
+    ];
+    Ok(is_copied && !one.same(two) && fit == [true, false])
+}
+
+fn empty_sets_are_apart(alloc: Global) -> Result<bool, OutOfMemory> {
+    let one = Facts::empty(alloc, register_plan(alloc, 1)?);
+    let two = Facts::empty(alloc, register_plan(alloc, 2)?);
+    are_apart(&one, &two)
+}
+
 #[test]
-fn plans_tell_sets_apart(rt: HostRuntime) -> Result<(), Fail> {
-    let alloc = rt.alloc();
-    let one = Facts::empty(alloc, register_plan(&alloc, 1)?);
-    let two = Facts::empty(alloc, register_plan(&alloc, 2)?);
-    assert!(rt; !one.same(&two));
-    assert!(rt; one.same(&one.dup()?));
-    assert!(rt; all_fit(two.plan(), &[end(1, 0)]));
-    assert!(rt; !all_fit(one.plan(), &[end(0, 0), end(1, 0)]));
-    Ok(())
+fn plans_tell_sets_apart(rt: HostRuntime) {
+    holds(&rt, empty_sets_are_apart(rt.alloc()));
 }

@@ -1,71 +1,86 @@
 //! Histories on outside values, their faults and their tables, and each growth of a table refused in turn.
 
-use crate::fixtures::{READ, READS, WRITES, WRITTEN, ample, history_of, if_fitting, refuse_each};
+use crate::fixtures::{
+    Case, READ, READS, Trial, WRITES, WRITTEN, each_holds, history_of, holds, if_fitting,
+    is_refused, refuse_each,
+};
 use aud_event::{Answer, Event, Op, OutOfMemory};
-use aud_history::{History, Rule, Status, TxTable};
+use aud_history::{History, Status, TxTable};
 use aud_object::{Execution, Invocation};
-use aud_refusing::Refusing;
-use std::alloc::{AllocError, Allocator, Global};
+use std::alloc::{Allocator, Global};
 use std::process::Abort;
-use std::test::Fail;
 
-#[test]
-fn events_fit_their_plan(rt: HostRuntime) -> Result<(), Fail> {
-    let alloc = rt.alloc();
-    let history = history_of(&alloc, &[(1023, WRITES), (1023, WRITTEN)])?;
-    assert_eq!(rt; history.events().len(), 2);
-    assert_eq!(rt; history.plan().number("x"), Some(0));
-    let unfit = [
-        (1024, Event::TryC),
-        (1, Event::Inv(1, Op::Read)),
-        (1, Event::Inv(0, Op::Get)),
-    ];
-    for entry in &unfit {
-        assert!(rt; if_fitting(&alloc, &[*entry])?.is_none(), "at {entry:?}");
+/// Events, and how many there are and the number of `x` in their plan, if they fit it.
+struct Fits(&'static [(u32, Event)], Option<(usize, Option<u16>)>);
+
+impl Case for Fits {
+    fn holds(&self, alloc: Global) -> Result<bool, OutOfMemory> {
+        let found = match if_fitting(alloc, self.0)? {
+            Some(history) => Some((history.events().len(), history.plan().number("x"))),
+            None => None,
+        };
+        Ok(found == self.1)
     }
-    Ok(())
-}
-
-/// The stamp and the rule's number of the first fault.
-fn fault(alloc: Global, events: &[(u32, Event)]) -> Result<Option<(u32, u32)>, Fail> {
-    let history = history_of(&alloc, events)?;
-    Ok(
-        history
-            .first_fault()
-            .map(|(stamp, rule)| (stamp, rule.number())),
-    )
 }
 
 #[test]
-fn each_rule_is_told_where_it_is_broken(rt: HostRuntime) -> Result<(), Fail> {
-    let cases: [(&[(u32, Event)], Option<(u32, u32)>); 10] = [
-        (&[], None),
-        (
-            &[(1, WRITES), (2, READS), (1, Event::Abort), (2, READ)],
-            None,
-        ),
-        (
-            &[(1, WRITES), (1, Event::Abort), (1, Event::Abort)],
-            Some((2, 1)),
-        ),
-        (&[(1, WRITES), (1, READS)], Some((1, 2))),
-        (&[(1, READ)], Some((0, 3))),
-        (&[(1, WRITES), (1, READ)], Some((1, 4))),
-        (&[(1, READS), (1, Event::TryC)], Some((1, 5))),
-        (&[(1, Event::TryA), (1, READS)], Some((1, 6))),
-        (
-            &[(2, Event::TryC), (1, Event::TryA), (1, Event::Commit)],
-            Some((2, 7)),
-        ),
-        (
-            &[(1, WRITES), (1, WRITTEN), (1, Event::Abort)],
-            Some((2, 8)),
-        ),
-    ];
-    for (events, wanted) in &cases {
-        assert_eq!(rt; fault(rt.alloc(), events)?, *wanted, "of {events:?}");
+fn events_fit_their_plan(rt: HostRuntime) {
+    each_holds(
+        &rt,
+        &[
+            Fits(&[(1023, WRITES), (1023, WRITTEN)], Some((2, Some(0)))),
+            Fits(&[(1024, Event::TryC)], None),
+            Fits(&[(1, Event::Inv(1, Op::Read))], None),
+            Fits(&[(1, Event::Inv(0, Op::Get))], None),
+        ],
+    );
+}
+
+/// Events, and the stamp and the rule's number of their first fault.
+struct Breaks(&'static [(u32, Event)], Option<(u32, u32)>);
+
+impl Case for Breaks {
+    fn holds(&self, alloc: Global) -> Result<bool, OutOfMemory> {
+        let Some(history) = if_fitting(alloc, self.0)? else {
+            return Ok(false);
+        };
+        let found = match history.first_fault() {
+            Some((stamp, rule)) => Some((stamp, rule.number())),
+            None => None,
+        };
+        Ok(found == self.1)
     }
-    Ok(())
+}
+
+#[test]
+fn each_rule_is_told_where_it_is_broken(rt: HostRuntime) {
+    each_holds(
+        &rt,
+        &[
+            Breaks(&[], None),
+            Breaks(
+                &[(1, WRITES), (2, READS), (1, Event::Abort), (2, READ)],
+                None,
+            ),
+            Breaks(
+                &[(1, WRITES), (1, Event::Abort), (1, Event::Abort)],
+                Some((2, 1)),
+            ),
+            Breaks(&[(1, WRITES), (1, READS)], Some((1, 2))),
+            Breaks(&[(1, READ)], Some((0, 3))),
+            Breaks(&[(1, WRITES), (1, READ)], Some((1, 4))),
+            Breaks(&[(1, READS), (1, Event::TryC)], Some((1, 5))),
+            Breaks(&[(1, Event::TryA), (1, READS)], Some((1, 6))),
+            Breaks(
+                &[(2, Event::TryC), (1, Event::TryA), (1, Event::Commit)],
+                Some((2, 7)),
+            ),
+            Breaks(
+                &[(1, WRITES), (1, WRITTEN), (1, Event::Abort)],
+                Some((2, 8)),
+            ),
+        ],
+    );
 }
 
 /// T2 invokes a read, T1 writes and commits, T2 is answered, asks to commit and invokes nothing; T3 waits for a read.
@@ -91,71 +106,91 @@ fn table_of<A: Allocator + Copy>(
     TxTable::of(alloc, history)
 }
 
-fn table_of_mixed(rt: &(impl Abort + AllocGlobal)) -> Result<TxTable, Fail> {
-    let history = history_of(&rt.alloc(), &MIXED)?;
-    Ok(table_of(rt, rt.alloc(), &history)?)
+fn table_of_mixed(rt: &impl Abort, alloc: Global) -> Result<TxTable, OutOfMemory> {
+    table_of(rt, alloc, &history_of(rt, alloc, &MIXED)?)
 }
 
-#[test]
-fn a_table_lists_each_transaction(rt: HostRuntime) -> Result<(), Fail> {
-    let table = table_of_mixed(&rt)?;
-    let rows = [
-        (2, 0, 7, Status::CommitPending),
-        (1, 1, 6, Status::Committed),
-        (3, 3, 3, Status::Live),
-        (4, 8, 8, Status::Live),
-    ];
-    assert_eq!(rt; table.rows().len(), 4);
-    for (place, row) in table.rows().iter().enumerate() {
-        let found = (row.tx(), row.first(), row.last(), row.status());
-        assert_eq!(rt; Some(found), rows.get(place).copied());
-    }
-    assert_eq!(rt; table.place(3), Some(2));
-    assert_eq!(rt; table.place(5), None);
-    Ok(())
-}
+/// Each transaction, its first and its last stamp, and its status.
+const ROWS: [(u32, u32, u32, Status); 4] = [
+    (2, 0, 7, Status::CommitPending),
+    (1, 1, 6, Status::Committed),
+    (3, 3, 3, Status::Live),
+    (4, 8, 8, Status::Live),
+];
 
-#[test]
-fn a_table_has_what_each_transaction_did(rt: HostRuntime) -> Result<(), Fail> {
-    let table = table_of_mixed(&rt)?;
-    let written = Execution {
-        object: 0,
-        op: Op::Write(1),
-        answer: Answer::Done,
-    };
-    let waits = Invocation {
-        object: 0,
-        op: Op::Read,
-    };
-    let wrote = table.rows().get(1).ok_or("no second row")?;
-    assert_eq!(rt; wrote.block().executions(), [written].as_slice());
-    let waiting = table.rows().get(2).ok_or("no third row")?;
-    assert_eq!(rt; waiting.block().trailing(), Some(waits));
-    assert_eq!(rt; waiting.block().executions().len(), 0);
-    Ok(())
-}
-
-fn table_meets_refusal(rt: &impl Abort, alloc: &Refusing<Global>) -> Result<(), Fail> {
-    let history = history_of(&alloc, &MIXED)?;
-    match table_of(rt, alloc, &history) {
-        Err(OutOfMemory) => assert!(rt; alloc.was_met()),
-        Ok(table) => {
-            assert_eq!(rt; table.rows().len(), 4);
-            assert!(rt; !alloc.was_met());
+fn has_rows(table: &TxTable) -> bool {
+    for (row, wanted) in table.rows().iter().zip(&ROWS) {
+        if (row.tx(), row.first(), row.last(), row.status()) != *wanted {
+            return false;
         }
     }
-    Ok(())
+    table.rows().len() == 4
+}
+
+fn lists_each(rt: &impl Abort, alloc: Global) -> Result<bool, OutOfMemory> {
+    let table = table_of_mixed(rt, alloc)?;
+    let places = [table.place(3), table.place(5)];
+    Ok(has_rows(&table) && places == [Some(2), None])
 }
 
 #[test]
-fn each_growth_of_a_table_is_refused_in_turn(rt: HostRuntime) -> Result<(), Fail> {
-    let counted = ample(rt.alloc())?;
-    let made = history_of(&&counted, &MIXED)?;
-    assert_eq!(rt; made.events().len(), 9);
-    refuse_each(
-        &rt,
-        counted.growths(),
-        4,
-        |alloc| table_meets_refusal(&rt, alloc),
-    )
+fn a_table_lists_each_transaction(rt: HostRuntime) {
+    holds(&rt, lists_each(&rt, rt.alloc()));
+}
+
+/// Whether the transaction of a row did just that, and waits for that.
+fn did(table: &TxTable, row: usize, ran: &[Execution], waits: Option<Invocation>) -> bool {
+    match table.rows().get(row) {
+        Some(row) => row.block().executions() == ran && row.block().trailing() == waits,
+        None => false,
+    }
+}
+
+const WRITTEN_ONE: Execution = Execution {
+    object: 0,
+    op: Op::Write(1),
+    answer: Answer::Done,
+};
+
+const WAITS: Invocation = Invocation {
+    object: 0,
+    op: Op::Read,
+};
+
+fn has_what_each_did(rt: &impl Abort, alloc: Global) -> Result<bool, OutOfMemory> {
+    let table = table_of_mixed(rt, alloc)?;
+    Ok(did(&table, 1, &[WRITTEN_ONE], None) && did(&table, 2, &[], Some(WAITS)))
+}
+
+#[test]
+fn a_table_has_what_each_transaction_did(rt: HostRuntime) {
+    holds(&rt, has_what_each_did(&rt, rt.alloc()));
+}
+
+fn has_four_rows<A: Allocator + Copy>(
+    rt: &impl Abort,
+    alloc: A,
+    history: &History<A>,
+) -> Result<bool, OutOfMemory> {
+    Ok(table_of(rt, alloc, history)?.rows().len() == 4)
+}
+
+/// The table of a history.
+struct Tables;
+
+impl Trial for Tables {
+    fn is_refused<R: Abort, A: Allocator + Copy>(
+        rt: &R,
+        alloc: A,
+        _ample: A,
+    ) -> Result<bool, OutOfMemory> {
+        let history = history_of(rt, alloc, &MIXED)?;
+        assert!(rt; history.events().len() == 9);
+        Ok(is_refused(rt, has_four_rows(rt, alloc, &history)))
+    }
+}
+
+#[test]
+fn each_growth_of_a_table_is_refused_in_turn(rt: HostRuntime) {
+    refuse_each::<HostRuntime, Tables>(&rt, 4);
 }

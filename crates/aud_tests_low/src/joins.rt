@@ -1,17 +1,15 @@
 //! Sets, covers, least values and pairs at concrete types, and each growth refused in turn.
 
-use crate::fixtures::{ample, end, record, refuse_each};
-use aud_event::{Dup, Event, Fact, OutOfMemory};
+use crate::fixtures::{Case, Trial, each_holds, end, holds, is_refused, record, refuse_each};
+use aud_event::{Dup, Event, Fact, Key, OutOfMemory};
 use aud_lattice::laws::{norm_of_firsts, norm_of_union, norm_with_norm};
 use aud_lattice::{
     Cover, Lattice, Least, Mark, Pair, Rank, Row, UnionSet, joined, joined_both_ways,
 };
-use aud_refusing::Refusing;
 use std::alloc::{Allocator, Global};
 use std::process::Abort;
-use std::test::Fail;
 
-fn set_of<A: Allocator + Clone>(alloc: A, items: &[u32]) -> Result<UnionSet<u32, A>, OutOfMemory> {
+fn set_of<A: Allocator + Copy>(alloc: A, items: &[u32]) -> Result<UnionSet<u32, A>, OutOfMemory> {
     let mut set = UnionSet::empty(alloc);
     for item in items {
         set.insert(*item)?;
@@ -19,136 +17,224 @@ fn set_of<A: Allocator + Clone>(alloc: A, items: &[u32]) -> Result<UnionSet<u32,
     Ok(set)
 }
 
-fn cover_of<A: Allocator + Copy>(
-    alloc: A,
-    first: &[u32],
-    second: &[u32],
-) -> Result<Cover<u32, A>, OutOfMemory> {
+fn cover_of<A: Allocator + Copy>(alloc: A, lists: &[&[u32]]) -> Result<Cover<u32, A>, OutOfMemory> {
     let mut cover = Cover::empty(alloc);
-    cover.insert(first)?;
-    cover.insert(second)?;
+    for list in lists {
+        cover.insert(list)?;
+    }
     Ok(cover)
 }
 
-fn least_of<A: Allocator + Clone>(
+fn least_of<A: Allocator + Copy>(
     alloc: A,
-    list: &[u32],
+    lists: &[&[u32]],
 ) -> Result<Least<Row<u32, A>>, OutOfMemory> {
     let mut least = Least::none();
-    least.put(Row::copy_of(alloc, list)?);
+    for list in lists {
+        least.put(Row::copy_of(alloc, list)?);
+    }
     Ok(least)
 }
 
-#[test]
-fn an_insert_tells_whether_the_item_is_new(rt: HostRuntime) -> Result<(), Fail> {
-    let mut set = UnionSet::empty(rt.alloc());
-    assert!(rt; set.is_empty());
-    let cases = [
-        (5u32, true, 0, 1),
-        (2, true, 1, 2),
-        (5, false, 2, 2),
-        (9, true, 2, 3),
+/// Whether the value is the same as one that was to be made, for which there was memory.
+fn is_same<L: Lattice + Dup>(value: &L, made: Result<L, OutOfMemory>) -> bool {
+    match made {
+        Ok(other) => value.same(&other),
+        Err(OutOfMemory) => false,
+    }
+}
+
+/// An item, whether it is new, and how many items there are before and after it is put in.
+type Insertion = (u32, bool, usize, usize);
+
+fn insert_tells(set: &mut UnionSet<u32>, insertion: &Insertion) -> Result<bool, OutOfMemory> {
+    let (item, is_new, before, after) = *insertion;
+    let older = set.dup()?;
+    let told = set.insert(item)?;
+    let lens = [older.len(), set.len()];
+    let shown = [
+        told,
+        older.contains(&item),
+        set.contains(&item),
+        older.same(set),
     ];
-    for (item, is_new, before, after) in &cases {
-        let older = set.dup()?;
-        assert_eq!(rt; set.insert(*item)?, *is_new, "at {item}");
-        assert_eq!(rt; (older.len(), set.len()), (*before, *after));
-        assert_eq!(rt;
-            (older.contains(item), set.contains(item)),
-            (!*is_new, true)
-        );
-        assert_eq!(rt; older.same(&set), !*is_new);
+    Ok(lens == [before, after] && shown == [is_new, !is_new, true, !is_new])
+}
+
+fn each_insert_tells(
+    set: &mut UnionSet<u32>,
+    insertions: &[Insertion],
+) -> Result<bool, OutOfMemory> {
+    for insertion in insertions {
+        if !insert_tells(set, insertion)? {
+            return Ok(false);
+        }
     }
-    assert!(rt; !set.contains(&4));
-    assert!(rt; !set.is_empty());
-    Ok(())
+    Ok(!set.contains(&4) && !set.is_empty())
+}
+
+fn inserts_tell(alloc: Global) -> Result<bool, OutOfMemory> {
+    let mut set = UnionSet::empty(alloc);
+    let is_empty = set.is_empty();
+    let tell = each_insert_tells(
+        &mut set,
+        &[
+            (5, true, 0, 1),
+            (2, true, 1, 2),
+            (5, false, 2, 2),
+            (9, true, 2, 3),
+        ],
+    )?;
+    Ok(is_empty && tell)
 }
 
 #[test]
-fn a_set_has_each_item_once_least_first(rt: HostRuntime) -> Result<(), Fail> {
-    let set = set_of(rt.alloc(), &[5, 2, 5, 9])?;
-    let mut seen = Vec::new(rt.alloc());
+fn an_insert_tells_whether_the_item_is_new(rt: HostRuntime) {
+    holds(&rt, inserts_tell(rt.alloc()));
+}
+
+/// Whether the set gives just these items, in this order.
+fn gives(set: &UnionSet<u32>, items: &[u32]) -> bool {
+    let mut count = 0usize;
     for item in set.iter() {
-        seen.push(*item)?;
+        if items.get(count) != Some(item) {
+            return false;
+        }
+        count = count.wrapping_add(1);
     }
-    assert_eq!(rt; seen.as_slice(), [2, 5, 9].as_slice());
-    let at_once = UnionSet::from_vec(rt.alloc(), [9, 2, 5, 2, 9].to_vec(rt.alloc())?)?;
-    assert!(rt; at_once.same(&set));
-    Ok(())
+    count == items.len()
+}
+
+fn has_each_once(alloc: Global) -> Result<bool, OutOfMemory> {
+    let set = set_of(alloc, &[5, 2, 5, 9])?;
+    let at_once = UnionSet::from_vec(alloc, [9, 2, 5, 2, 9].to_vec(alloc)?);
+    Ok(gives(&set, &[2, 5, 9]) && is_same(&set, at_once))
 }
 
 #[test]
-fn a_set_of_facts_grows_in_any_order(rt: HostRuntime) -> Result<(), Fail> {
-    let mut rising = UnionSet::empty(rt.alloc());
-    let mut falling = UnionSet::empty(rt.alloc());
+fn a_set_has_each_item_once_least_first(rt: HostRuntime) {
+    holds(&rt, has_each_once(rt.alloc()));
+}
+
+/// A thousand end marks put in by their counts, rising or falling.
+fn thousand(alloc: Global, is_rising: bool) -> Result<UnionSet<Fact>, OutOfMemory> {
+    let mut set = UnionSet::empty(alloc);
     for number in 0..1000u32 {
-        rising.insert(end(number % 64, number))?;
-        let number = 999 - number;
-        falling.insert(end(number % 64, number))?;
+        let number = if is_rising { number } else { 999 - number };
+        set.insert(end(number % 64, number))?;
     }
-    assert_eq!(rt; rising.len(), 1000);
-    assert!(rt; rising.same(&falling));
-    let mut walked = 0;
-    for (at, fact) in rising.iter().enumerate() {
-        assert!(rt; falling.contains(fact));
-        walked = at;
+    Ok(set)
+}
+
+/// How many facts a walk over the set gives, up to one that is not in the other.
+fn walked(set: &UnionSet<Fact>, other: &UnionSet<Fact>) -> usize {
+    let mut count = 0usize;
+    for fact in set.iter() {
+        if !other.contains(fact) {
+            return count;
+        }
+        count = count.wrapping_add(1);
     }
-    assert_eq!(rt; walked, 999);
-    Ok(())
+    count
+}
+
+fn thousands_agree(alloc: Global) -> Result<bool, OutOfMemory> {
+    let rising = thousand(alloc, true)?;
+    let falling = thousand(alloc, false)?;
+    let lens = [rising.len(), walked(&rising, &falling)];
+    Ok(lens == [1000; 2] && rising.same(&falling))
+}
+
+#[test]
+fn a_set_of_facts_grows_in_any_order(rt: HostRuntime) {
+    holds(&rt, thousands_agree(rt.alloc()));
 }
 
 fn moves_to_threads<T: Send + Sync>(_value: &T) {}
 
-#[test]
-fn sets_join(rt: HostRuntime) -> Result<(), Fail> {
-    let mut left = set_of(rt.alloc(), &[1, 4, 6])?;
-    let mut right = set_of(rt.alloc(), &[4, 5])?;
-    left.join(&right)?;
-    moves_to_threads(&left);
-    assert!(rt; left.same(&set_of(rt.alloc(), &[6, 5, 4, 1])?));
-    right.join(&left)?;
-    assert!(rt; right.same(&left));
-    Ok(())
+/// Joins each of two sets to the other: whether both are then the set of these items.
+fn both_join(
+    alloc: Global,
+    left: &mut UnionSet<u32>,
+    right: &mut UnionSet<u32>,
+) -> Result<bool, OutOfMemory> {
+    left.join(right)?;
+    moves_to_threads(left);
+    right.join(left)?;
+    Ok(is_same(left, set_of(alloc, &[6, 5, 4, 1])) && right.same(left))
 }
 
-/// The covers that join, and the first after the join.
-fn joined_covers(alloc: Global) -> Result<(Cover<u32>, Cover<u32>), OutOfMemory> {
-    let older = cover_of(alloc, &[1, 2], &[1, 3])?;
+fn small_sets_join(alloc: Global) -> Result<bool, OutOfMemory> {
+    let mut left = set_of(alloc, &[1, 4, 6])?;
+    let mut right = set_of(alloc, &[4, 5])?;
+    both_join(alloc, &mut left, &mut right)
+}
+
+#[test]
+fn sets_join(rt: HostRuntime) {
+    holds(&rt, small_sets_join(rt.alloc()));
+}
+
+/// The cover before the join.
+fn older_cover(alloc: Global) -> Result<Cover<u32>, OutOfMemory> {
+    cover_of(alloc, &[&[1, 2], &[1, 3]])
+}
+
+fn joined_cover(alloc: Global) -> Result<Cover<u32>, OutOfMemory> {
+    let older = older_cover(alloc)?;
     let mut cover = older.dup()?;
-    cover.join(&cover_of(alloc, &[1], &[2, 2])?)?;
-    Ok((older, cover))
+    cover.join(&cover_of(alloc, &[&[1], &[2, 2]])?)?;
+    Ok(cover)
 }
 
-#[test]
-fn covers_join(rt: HostRuntime) -> Result<(), Fail> {
-    let (older, cover) = joined_covers(rt.alloc())?;
-    assert!(rt; !cover.same(&older));
-    assert!(rt; cover.covers_all(&older));
-    assert!(rt; !older.covers_all(&cover));
-    let lists = cover.lists()?;
-    let wanted: [&[u32]; 2] = [&[1], &[2, 2]];
-    assert_eq!(rt; lists.len(), 2);
-    for (list, wanted) in lists.iter().zip(&wanted) {
-        assert_eq!(rt; list.as_slice(), *wanted);
+/// Whether these are `1` and `2 2`, in this order.
+fn are_joined(lists: &[Row<u32>]) -> bool {
+    match lists {
+        [one, other] => {
+            one.as_slice() == [1].as_slice() && other.as_slice() == [2, 2].as_slice()
+        }
+        _ => false,
     }
-    Ok(())
 }
 
-#[test]
-fn a_cover_marks_lists(rt: HostRuntime) -> Result<(), Fail> {
-    let (_, cover) = joined_covers(rt.alloc())?;
-    let cases: [(&[u32], Mark); 5] = [
-        (&[1, 3], Mark::Covered),
-        (&[1], Mark::Covered),
-        (&[2], Mark::Inner),
-        (&[], Mark::Inner),
-        (&[3], Mark::Outside),
+fn cover_joins(alloc: Global) -> Result<bool, OutOfMemory> {
+    let older = older_cover(alloc)?;
+    let cover = joined_cover(alloc)?;
+    let covers = [
+        cover.same(&older),
+        cover.covers_all(&older),
+        older.covers_all(&cover),
     ];
-    for (list, wanted) in &cases {
-        assert_eq!(rt; cover.mark(list), *wanted, "of {list:?}");
+    Ok(covers == [false, true, false] && are_joined(&cover.lists()?))
+}
+
+#[test]
+fn covers_join(rt: HostRuntime) {
+    holds(&rt, cover_joins(rt.alloc()));
+}
+
+/// A list, and how it stands to the joined cover.
+struct Marked(&'static [u32], Mark);
+
+impl Case for Marked {
+    fn holds(&self, alloc: Global) -> Result<bool, OutOfMemory> {
+        Ok(joined_cover(alloc)?.mark(self.0) == self.1)
     }
-    assert_eq!(rt; Cover::<u32>::empty(rt.alloc()).mark(&[]), Mark::Outside);
-    Ok(())
+}
+
+#[test]
+fn a_cover_marks_lists(rt: HostRuntime) {
+    each_holds(
+        &rt,
+        &[
+            Marked(&[1, 3], Mark::Covered),
+            Marked(&[1], Mark::Covered),
+            Marked(&[2], Mark::Inner),
+            Marked(&[], Mark::Inner),
+            Marked(&[3], Mark::Outside),
+        ],
+    );
+    assert!(rt; Cover::<u32>::empty(rt.alloc()).mark(&[]) == Mark::Outside);
 }
 
 #[test]
@@ -158,21 +244,38 @@ fn the_laws_hold(_rt: HostRuntime) {
     norm_of_firsts::<u32>();
 }
 
-#[test]
-fn the_least_list_stays(rt: HostRuntime) -> Result<(), Fail> {
-    assert!(rt; Least::<u32>::none().get().is_none());
-    let mut least = least_of(rt.alloc(), &[1, 2])?;
-    least.put(Row::copy_of(rt.alloc(), &[1, 1, 7])?);
-    least.put(Row::copy_of(rt.alloc(), &[2])?);
-    let older = least.dup()?;
-    least.join(&least_of(rt.alloc(), &[1, 1])?)?;
-    assert!(rt; !least.same(&older));
-    let found = least.get().ok_or("no list")?;
-    assert_eq!(rt; found.as_slice(), [1, 1].as_slice());
-    Ok(())
+fn is_least(least: &Least<Row<u32>>, list: &[u32]) -> bool {
+    match least.get() {
+        Some(row) => row.as_slice() == list,
+        None => false,
+    }
 }
 
-fn pair_of(alloc: Global, number: u32) -> Result<Pair<UnionSet<u32>, Least<u32>>, OutOfMemory> {
+fn takes_the_least(
+    least: &mut Least<Row<u32>>,
+    other: &Least<Row<u32>>,
+) -> Result<bool, OutOfMemory> {
+    let older = least.dup()?;
+    least.join(other)?;
+    Ok(!least.same(&older) && is_least(least, &[1, 1]))
+}
+
+fn least_stays(alloc: Global) -> Result<bool, OutOfMemory> {
+    let mut least = least_of(alloc, &[&[1, 2], &[1, 1, 7], &[2]])?;
+    let other = least_of(alloc, &[&[1, 1]])?;
+    takes_the_least(&mut least, &other)
+}
+
+#[test]
+fn the_least_list_stays(rt: HostRuntime) {
+    assert!(rt; Least::<u32>::none().get().is_none());
+    holds(&rt, least_stays(rt.alloc()));
+}
+
+/// A set with a least number.
+type Numbers = Pair<UnionSet<u32>, Least<u32>>;
+
+fn pair_of(alloc: Global, number: u32) -> Result<Numbers, OutOfMemory> {
     let mut second = Least::none();
     second.put(number);
     Ok(Pair {
@@ -181,127 +284,148 @@ fn pair_of(alloc: Global, number: u32) -> Result<Pair<UnionSet<u32>, Least<u32>>
     })
 }
 
-#[test]
-fn groupings_agree(rt: HostRuntime) -> Result<(), Fail> {
-    let values = [
-        pair_of(rt.alloc(), 4)?,
-        pair_of(rt.alloc(), 2)?,
-        pair_of(rt.alloc(), 9)?,
-    ];
-    let both = joined_both_ways(&values)?;
-    assert!(rt; both.0.same(&both.1));
-    assert_eq!(rt; both.0.first.len(), 4);
-    assert_eq!(rt; both.0.second.get().copied(), Some(2));
-    assert!(rt; joined(&values)?.dup()?.same(&both.1));
-    Ok(())
+fn pairs_of(alloc: Global, numbers: &[u32]) -> Result<Vec<Numbers>, OutOfMemory> {
+    let mut values = Vec::new(alloc);
+    for number in numbers {
+        values.push(pair_of(alloc, *number)?)?;
+    }
+    Ok(values)
 }
 
-type Parts<'a> = Pair<
-    UnionSet<u32, &'a Refusing<Global>>,
-    Pair<Cover<u32, &'a Refusing<Global>>, Least<Row<u32, &'a Refusing<Global>>>>,
->;
+/// Whether both groupings give the same, which has four items and of which 2 is the least number.
+fn both_ways_agree(values: &[Numbers]) -> Result<bool, OutOfMemory> {
+    if values.is_empty() {
+        return Ok(false);
+    }
+    let (front, halves) = joined_both_ways(values)?;
+    let all = joined(values)?.dup();
+    let is_wanted = front.first.len() == 4 && front.second.get().copied() == Some(2);
+    Ok(is_wanted && front.same(&halves) && is_same(&halves, all))
+}
 
-fn parts_of<'a>(
-    alloc: &'a Refusing<Global>,
+fn groups_agree(alloc: Global) -> Result<bool, OutOfMemory> {
+    both_ways_agree(&pairs_of(alloc, &[4, 2, 9])?)
+}
+
+#[test]
+fn groupings_agree(rt: HostRuntime) {
+    holds(&rt, groups_agree(rt.alloc()));
+}
+
+/// A set, a cover and a least list.
+type Parts<A> = Pair<UnionSet<u32, A>, Pair<Cover<u32, A>, Least<Row<u32, A>>>>;
+
+fn parts_of<A: Allocator + Copy>(
+    alloc: A,
     items: &[u32],
     list: &[u32],
     least: &[u32],
-) -> Result<Parts<'a>, OutOfMemory> {
+) -> Result<Parts<A>, OutOfMemory> {
+    let first = set_of(alloc, items)?;
+    let cover = cover_of(alloc, &[list, &[8, 8]])?;
+    let least = least_of(alloc, &[least])?;
     Ok(Pair {
-        first: set_of(alloc, items)?,
+        first,
         second: Pair {
-            first: cover_of(alloc, list, &[8, 8])?,
-            second: least_of(alloc, least)?,
+            first: cover,
+            second: least,
         },
     })
 }
 
-fn one_of(alloc: &Refusing<Global>) -> Result<Parts<'_>, OutOfMemory> {
+fn one_of<A: Allocator + Copy>(alloc: A) -> Result<Parts<A>, OutOfMemory> {
     parts_of(alloc, &[1, 4, 5, 6], &[1, 2, 3], &[7, 1])
 }
 
-fn other_of(alloc: &Refusing<Global>) -> Result<Parts<'_>, OutOfMemory> {
+fn other_of<A: Allocator + Copy>(alloc: A) -> Result<Parts<A>, OutOfMemory> {
     parts_of(alloc, &[3, 4, 8, 9, 10], &[1, 2], &[5])
 }
 
-fn both_of(alloc: &Refusing<Global>) -> Result<Parts<'_>, OutOfMemory> {
+fn both_of<A: Allocator + Copy>(alloc: A) -> Result<Parts<A>, OutOfMemory> {
     parts_of(alloc, &[1, 3, 4, 5, 6, 8, 9, 10], &[1, 2], &[5])
 }
 
-/// A refused join changes no part, and goes the next time.
-fn join_meets_refusal(
+/// Joins another value. A refused join leaves the value as one that was made before it, and goes the next time.
+fn join_is_refused<L: Lattice + Dup>(
     rt: &impl Abort,
-    alloc: &Refusing<Global>,
-    ample: &Refusing<Global>,
-) -> Result<(), Fail> {
-    let mut parts = one_of(alloc)?;
-    let other = other_of(ample)?;
-    let is_refused = parts.join(&other).is_err();
-    assert!(rt; is_refused == alloc.was_met());
+    value: &mut L,
+    other: &L,
+    before: Result<L, OutOfMemory>,
+    after: Result<L, OutOfMemory>,
+) -> bool {
+    let is_refused = value.join(other).is_err();
     if is_refused {
-        assert!(rt; parts.same(&one_of(ample)?));
-        parts.join(&other)?;
+        assert!(rt; is_same(value, before) && value.join(other).is_ok());
     }
-    assert!(rt; parts.same(&both_of(ample)?));
-    Ok(())
+    assert!(rt; is_same(value, after));
+    is_refused
+}
+
+/// A join of three parts, of which a refused one changes none.
+struct PartsJoin;
+
+impl Trial for PartsJoin {
+    fn is_refused<R: Abort, A: Allocator + Copy>(
+        rt: &R,
+        alloc: A,
+        ample: A,
+    ) -> Result<bool, OutOfMemory> {
+        let mut parts = one_of(alloc)?;
+        let other = other_of(ample)?;
+        Ok(join_is_refused(rt, &mut parts, &other, one_of(ample), both_of(ample)))
+    }
 }
 
 #[test]
-fn a_refused_join_changes_no_part(rt: HostRuntime) -> Result<(), Fail> {
-    let counted = ample(rt.alloc())?;
-    one_of(&counted)?;
-    let ample = ample(rt.alloc())?;
-    refuse_each(
-        &rt,
-        counted.growths(),
-        8,
-        |alloc| join_meets_refusal(&rt, alloc, &ample),
-    )
+fn a_refused_join_changes_no_part(rt: HostRuntime) {
+    refuse_each::<HostRuntime, PartsJoin>(&rt, 8);
 }
 
 const SEVEN: [u32; 7] = [1, 2, 3, 4, 5, 6, 7];
 
-fn insert_meets_refusal(
+/// Whether so many items are there, if the set was made.
+fn has_len<T: Key + Dup, A: Allocator + Copy>(
+    made: Result<UnionSet<T, A>, OutOfMemory>,
+    len: usize,
+) -> Result<bool, OutOfMemory> {
+    Ok(made?.len() == len)
+}
+
+/// Puts in an eighth item. A refused insert leaves the set, and goes the next time.
+fn insert_is_refused<A: Allocator + Copy>(
     rt: &impl Abort,
-    alloc: &Refusing<Global>,
-    ample: &Refusing<Global>,
-) -> Result<(), Fail> {
-    let mut set = set_of(alloc, &SEVEN)?;
+    ample: A,
+    set: &mut UnionSet<u32, A>,
+) -> bool {
     let is_refused = set.insert(8).is_err();
-    assert!(rt; is_refused == alloc.was_met());
     if is_refused {
-        assert!(rt; set.same(&set_of(ample, &SEVEN)?));
-        assert!(rt; set.insert(8)?);
+        assert!(rt; is_same(set, set_of(ample, &SEVEN)) && set.insert(8) == Ok(true));
     }
     assert!(rt; set.contains(&8));
-    Ok(())
+    is_refused
+}
+
+/// An insert into a set of seven, and before it a copy and a look for an item, which take no memory.
+struct SetInsert;
+
+impl Trial for SetInsert {
+    fn is_refused<R: Abort, A: Allocator + Copy>(
+        rt: &R,
+        alloc: A,
+        ample: A,
+    ) -> Result<bool, OutOfMemory> {
+        let mut set = set_of(alloc, &SEVEN)?;
+        assert!(rt; has_len(set.dup(), 7) == Ok(true) && set.contains(&3));
+        Ok(insert_is_refused(rt, ample, &mut set))
+    }
 }
 
 #[test]
-fn copies_and_lookups_of_a_set_take_no_memory(rt: HostRuntime) -> Result<(), Fail> {
-    let counted = ample(rt.alloc())?;
-    let set = set_of(&counted, &SEVEN)?;
-    let used = counted.growths();
-    assert_eq!(rt; set.dup()?.len(), 7);
-    assert!(rt; set.contains(&3));
-    assert_eq!(rt; counted.growths(), used);
-    Ok(())
+fn a_refused_insert_changes_no_set_and_copies_take_no_memory(rt: HostRuntime) {
+    refuse_each::<HostRuntime, SetInsert>(&rt, 3);
 }
 
-#[test]
-fn a_refused_insert_changes_no_set(rt: HostRuntime) -> Result<(), Fail> {
-    let counted = ample(rt.alloc())?;
-    set_of(&counted, &SEVEN)?;
-    let ample = ample(rt.alloc())?;
-    refuse_each(
-        &rt,
-        counted.growths(),
-        3,
-        |alloc| insert_meets_refusal(&rt, alloc, &ample),
-    )
-}
-
-fn bulk_of(alloc: &Refusing<Global>) -> Result<UnionSet<u32, &Refusing<Global>>, OutOfMemory> {
+fn bulk_of<A: Allocator + Copy>(alloc: A) -> Result<UnionSet<u32, A>, OutOfMemory> {
     let mut items = Vec::new(alloc);
     for number in 0..30u32 {
         items.push(number.wrapping_mul(7) % 10)?;
@@ -309,90 +433,112 @@ fn bulk_of(alloc: &Refusing<Global>) -> Result<UnionSet<u32, &Refusing<Global>>,
     UnionSet::from_vec(alloc, items)
 }
 
+/// A set made at once of numbers, some of them more than once.
+struct Bulk;
+
+impl Trial for Bulk {
+    fn is_refused<R: Abort, A: Allocator + Copy>(
+        rt: &R,
+        alloc: A,
+        _ample: A,
+    ) -> Result<bool, OutOfMemory> {
+        Ok(is_refused(rt, has_len(bulk_of(alloc), 10)))
+    }
+}
+
 #[test]
-fn each_growth_of_a_bulk_is_refused_in_turn(rt: HostRuntime) -> Result<(), Fail> {
-    refuse_each(&rt, 0, 10, |alloc| {
-        let count = bulk_of(alloc).map(|set| set.len());
-        assert!(rt; count.is_err() == alloc.was_met());
-        assert_eq!(rt; count.unwrap_or(10), 10);
-        Ok(())
-    })
+fn each_growth_of_a_bulk_is_refused_in_turn(rt: HostRuntime) {
+    refuse_each::<HostRuntime, Bulk>(&rt, 10);
 }
 
 /// Records of four logs as they arrive, the last one first, and an end mark twice.
-fn arrivals<A: Allocator>(alloc: A) -> Result<Vec<Fact, A>, OutOfMemory> {
+fn arrivals<A: Allocator + Copy>(alloc: A) -> Result<Vec<Fact, A>, OutOfMemory> {
     let mut facts = Vec::new(alloc);
-    for number in 0..40u32 {
-        facts.push(record(number % 4, 9 - number / 4, number, 1, Event::TryC))?;
+    for number in 0..42u32 {
+        facts.push(if number < 40 {
+            record(number % 4, 9 - number / 4, number, 1, Event::TryC)
+        } else {
+            end(1, 10)
+        })?;
     }
-    facts.push(end(1, 10))?;
-    facts.push(end(1, 10))?;
     Ok(facts)
-}
-
-#[test]
-fn ranks_do_not_show(rt: HostRuntime) -> Result<(), Fail> {
-    let ranked = UnionSet::from_ranked(rt.alloc(), arrivals(rt.alloc())?)?;
-    let plain = UnionSet::from_vec(rt.alloc(), arrivals(rt.alloc())?)?;
-    assert_eq!(rt; ranked.len(), 41);
-    assert!(rt; ranked.same(&plain));
-    assert_eq!(rt; end(1, 10).rank(), 262_145);
-    Ok(())
 }
 
 fn ranked_bulk_of<A: Allocator + Copy>(alloc: A) -> Result<UnionSet<Fact, A>, OutOfMemory> {
     UnionSet::from_ranked(alloc, arrivals(alloc)?)
 }
 
-#[test]
-fn each_growth_of_a_ranked_bulk_is_refused_in_turn(rt: HostRuntime) -> Result<(), Fail> {
-    refuse_each(&rt, 0, 41, |alloc| {
-        match ranked_bulk_of(alloc) {
-            Err(OutOfMemory) => assert!(rt; alloc.was_met()),
-            Ok(set) => assert_eq!(rt; set.len(), 41),
-        }
-        Ok(())
-    })
+fn ranked_is_plain(alloc: Global) -> Result<bool, OutOfMemory> {
+    let ranked = ranked_bulk_of(alloc)?;
+    let plain = UnionSet::from_vec(alloc, arrivals(alloc)?);
+    Ok(ranked.len() == 41 && is_same(&ranked, plain))
 }
 
-fn cover_meets_refusal(
+#[test]
+fn ranks_do_not_show(rt: HostRuntime) {
+    holds(&rt, ranked_is_plain(rt.alloc()));
+    assert!(rt; end(1, 10).rank() == 262_145);
+}
+
+/// A set made at once of facts by their ranks.
+struct RankedBulk;
+
+impl Trial for RankedBulk {
+    fn is_refused<R: Abort, A: Allocator + Copy>(
+        rt: &R,
+        alloc: A,
+        _ample: A,
+    ) -> Result<bool, OutOfMemory> {
+        Ok(is_refused(rt, has_len(ranked_bulk_of(alloc), 41)))
+    }
+}
+
+#[test]
+fn each_growth_of_a_ranked_bulk_is_refused_in_turn(rt: HostRuntime) {
+    refuse_each::<HostRuntime, RankedBulk>(&rt, 41);
+}
+
+fn before_of<A: Allocator + Copy>(alloc: A) -> Result<Cover<u32, A>, OutOfMemory> {
+    cover_of(alloc, &[&[1, 2, 3], &[4]])
+}
+
+fn after_of<A: Allocator + Copy>(alloc: A) -> Result<Cover<u32, A>, OutOfMemory> {
+    cover_of(alloc, &[&[1, 2], &[4]])
+}
+
+/// Puts in a beginning of a list, and then lists and copies the cover. A refused insert leaves the cover, and goes the next
+/// time.
+fn cover_is_refused<A: Allocator + Copy>(
     rt: &impl Abort,
-    alloc: &Refusing<Global>,
-    ample: &Refusing<Global>,
-) -> Result<(), Fail> {
-    let mut cover = cover_of(alloc, &[1, 2, 3], &[4])?;
-    let after = cover_of(ample, &[1, 2], &[4])?;
+    ample: A,
+    cover: &mut Cover<u32, A>,
+) -> bool {
     let is_refused = cover.insert(&[1, 2]).is_err()
         || cover.lists().is_err()
         || cover.dup().is_err();
-    assert!(rt; is_refused == alloc.was_met());
-    if is_refused && !cover.same(&after) {
-        assert!(rt; cover.same(&cover_of(ample, &[1, 2, 3], &[4])?));
-        cover.insert(&[1, 2])?;
+    if is_refused && !is_same(cover, after_of(ample)) {
+        assert!(rt; is_same(cover, before_of(ample)) && cover.insert(&[1, 2]).is_ok());
     }
-    assert!(rt; cover.same(&after));
-    Ok(())
+    assert!(rt; is_same(cover, after_of(ample)));
+    is_refused
+}
+
+/// An insert into a cover of two lists and copies of it, and before it a mark, which takes no memory.
+struct CoverInsert;
+
+impl Trial for CoverInsert {
+    fn is_refused<R: Abort, A: Allocator + Copy>(
+        rt: &R,
+        alloc: A,
+        ample: A,
+    ) -> Result<bool, OutOfMemory> {
+        let mut cover = before_of(alloc)?;
+        assert!(rt; cover.mark(&[1]) == Mark::Inner);
+        Ok(cover_is_refused(rt, ample, &mut cover))
+    }
 }
 
 #[test]
-fn marks_of_a_cover_take_no_memory(rt: HostRuntime) -> Result<(), Fail> {
-    let counted = ample(rt.alloc())?;
-    let cover = cover_of(&counted, &[1, 2, 3], &[4])?;
-    let used = counted.growths();
-    assert_eq!(rt; cover.mark(&[1]), Mark::Inner);
-    assert_eq!(rt; counted.growths(), used);
-    Ok(())
-}
-
-#[test]
-fn a_refused_insert_changes_no_cover(rt: HostRuntime) -> Result<(), Fail> {
-    let counted = ample(rt.alloc())?;
-    cover_of(&counted, &[1, 2, 3], &[4])?;
-    let ample = ample(rt.alloc())?;
-    refuse_each(
-        &rt,
-        counted.growths(),
-        5,
-        |alloc| cover_meets_refusal(&rt, alloc, &ample),
-    )
+fn a_refused_insert_changes_no_cover_and_marks_take_no_memory(rt: HostRuntime) {
+    refuse_each::<HostRuntime, CoverInsert>(&rt, 5);
 }

@@ -2,186 +2,242 @@
 
 ghost use Rattle.std.specs.Prelude.{◌≡◌};
 
-use crate::fixtures::{ample, declare, refuse_each};
-use aud_event::{Answer, Dup, ObjKind, Op, OutOfMemory, Plan};
+use crate::fixtures::{Trial, holds, is_refused, plan_of, refuse_each, refuse_each_or_go_on};
+use aud_event::{Answer, Dup, ObjKind, Op, OutOfMemory};
 use aud_object::{
     Block, Counter, Execution, Invocation, ObjectSpec, Queue, Register, SetOf, Shown, Store, laws,
 };
-use aud_refusing::Refusing;
 use std::alloc::{Allocator, Global};
 use std::process::Abort;
-use std::test::Fail;
 
-/// Runs operations on an object of the kind, of which each gets its answer.
+/// Runs operations on an object of the kind: whether each gets its answer.
 fn run_all<S: ObjectSpec>(
-    rt: &impl Abort,
     kind: ObjKind,
     state: &mut S::State,
     steps: &[(Op, Answer)],
-) -> Result<(), OutOfMemory>
+) -> Result<bool, OutOfMemory>
     requires { kind ≡ S.kind }
 {
     for (op, answer) in steps {
-        assert!(rt; op.name().is_of(kind));
-        assert_eq!(rt; S::apply(state, op)?, *answer, "to {op:?}");
+        if !op.name().is_of(kind) || S::apply(state, op)? != *answer {
+            return Ok(false);
+        }
     }
-    Ok(())
+    Ok(true)
 }
 
-/// Copies an object between two runs of operations. Whether the copy is still the same then.
+/// Copies an object between two runs of operations. Whether each gets its answer, and the copy is still the same then just
+/// where it is to be.
 fn copy_between<S: ObjectSpec>(
-    rt: &impl Abort,
     kind: ObjKind,
     state: &mut S::State,
     before: &[(Op, Answer)],
     after: &[(Op, Answer)],
+    stays: bool,
 ) -> Result<bool, OutOfMemory>
     requires { kind ≡ S.kind }
 {
-    run_all::<S>(rt, kind, state, before)?;
+    let has_run = run_all::<S>(kind, state, before)?;
     let copy = S::copy(state)?;
-    run_all::<S>(rt, kind, state, after)?;
-    assert!(rt; S::same(&copy, &copy));
-    Ok(S::same(state, &copy))
+    let runs_on = run_all::<S>(kind, state, after)?;
+    let is_same = [S::same(&copy, &copy), S::same(state, &copy)];
+    Ok(has_run && runs_on && is_same == [true, stays])
+}
+
+fn register_goes(alloc: Global) -> Result<bool, OutOfMemory> {
+    copy_between::<Register>(
+        ObjKind::Register,
+        &mut Register::opening(alloc, -7),
+        &[(Op::Read, Answer::Int(-7)), (Op::Write(9), Answer::Done)],
+        &[(Op::Read, Answer::Int(9))],
+        true,
+    )
 }
 
 #[test]
-fn a_register_holds_what_was_written(rt: HostRuntime) -> Result<(), Fail> {
-    let mut state = Register::opening(rt.alloc(), -7);
-    let before = [(Op::Read, Answer::Int(-7)), (Op::Write(9), Answer::Done)];
-    let after = [(Op::Read, Answer::Int(9))];
-    let kind = ObjKind::Register;
-    assert!(rt; copy_between::<Register>(&rt, kind, &mut state, &before, &after)?);
-    Ok(())
+fn a_register_holds_what_was_written(rt: HostRuntime) {
+    holds(&rt, register_goes(rt.alloc()));
 }
 
-#[test]
-fn a_counter_stays_at_the_ends_of_its_range(rt: HostRuntime) -> Result<(), Fail> {
-    let cases = [
-        (i64::MAX - 1, Op::Inc, i64::MAX),
-        (i64::MIN + 1, Op::Dec, i64::MIN),
+/// A counter that comes to an end of its range by an operation, and stays there.
+fn counter_goes(alloc: Global, opening: i64, op: Op, end: i64) -> Result<bool, OutOfMemory> {
+    let steps = [
+        (op, Answer::Done),
+        (Op::Get, Answer::Int(end)),
+        (op, Answer::Done),
+        (Op::Get, Answer::Int(end)),
     ];
-    for (opening, op, end) in &cases {
-        let mut state = Counter::opening(rt.alloc(), *opening);
-        let steps = [
-            (*op, Answer::Done),
-            (Op::Get, Answer::Int(*end)),
-            (*op, Answer::Done),
-            (Op::Get, Answer::Int(*end)),
-        ];
-        let kind = ObjKind::Counter;
-        assert!(rt; copy_between::<Counter>(&rt, kind, &mut state, &steps, &[])?);
-    }
-    Ok(())
+    copy_between::<Counter>(
+        ObjKind::Counter,
+        &mut Counter::opening(alloc, opening),
+        &steps,
+        &[],
+        true,
+    )
+}
+
+#[test]
+fn a_counter_stays_at_the_ends_of_its_range(rt: HostRuntime) {
+    holds(
+        &rt,
+        counter_goes(rt.alloc(), i64::MAX - 1, Op::Inc, i64::MAX),
+    );
+    holds(
+        &rt,
+        counter_goes(rt.alloc(), i64::MIN + 1, Op::Dec, i64::MIN),
+    );
 }
 
 /// What a set answers, over any allocator.
-fn set_goes<A: Allocator + Clone>(rt: &impl Abort, alloc: A) -> Result<(), OutOfMemory> {
-    let mut state = SetOf::<A>::opening(alloc, 0);
-    let before = [
-        (Op::Add(3), Answer::Flag(true)),
-        (Op::Add(3), Answer::Flag(false)),
-        (Op::Add(-3), Answer::Flag(true)),
-        (Op::Remove(3), Answer::Flag(true)),
-        (Op::Remove(3), Answer::Flag(false)),
-    ];
-    let after = [
-        (Op::Add(3), Answer::Flag(true)),
-        (Op::Contains(3), Answer::Flag(true)),
-    ];
-    let kind = ObjKind::SetOf;
-    assert!(rt; !copy_between::<SetOf<A>>(rt, kind, &mut state, &before, &after)?);
-    Ok(())
+fn set_goes<A: Allocator + Copy>(alloc: A) -> Result<bool, OutOfMemory> {
+    copy_between::<SetOf<A>>(
+        ObjKind::SetOf,
+        &mut SetOf::<A>::opening(alloc, 0),
+        &[
+            (Op::Add(3), Answer::Flag(true)),
+            (Op::Add(3), Answer::Flag(false)),
+            (Op::Add(-3), Answer::Flag(true)),
+            (Op::Remove(3), Answer::Flag(true)),
+            (Op::Remove(3), Answer::Flag(false)),
+        ],
+        &[
+            (Op::Add(3), Answer::Flag(true)),
+            (Op::Contains(3), Answer::Flag(true)),
+        ],
+        false,
+    )
+}
+
+struct SetGoes;
+
+impl Trial for SetGoes {
+    fn is_refused<R: Abort, A: Allocator + Copy>(
+        rt: &R,
+        alloc: A,
+        _ample: A,
+    ) -> Result<bool, OutOfMemory> {
+        Ok(is_refused(rt, set_goes(alloc)))
+    }
 }
 
 #[test]
-fn a_set_says_what_changed(rt: HostRuntime) -> Result<(), Fail> {
-    set_goes(&rt, rt.alloc())?;
-    refuse_each(&rt, 0, 2, |alloc| {
-        assert_eq!(rt; set_goes(&rt, alloc).is_err(), alloc.was_met());
-        Ok(())
-    })
+fn a_set_says_what_changed(rt: HostRuntime) {
+    holds(&rt, set_goes(rt.alloc()));
+    refuse_each::<HostRuntime, SetGoes>(&rt, 2);
 }
 
 /// What a queue answers, over any allocator.
-fn queue_goes<A: Allocator + Clone>(rt: &impl Abort, alloc: A) -> Result<(), OutOfMemory> {
-    let mut state = Queue::<A>::opening(alloc, 0);
-    let before = [
-        (Op::Deq, Answer::Empty),
-        (Op::Enq(1), Answer::Done),
-        (Op::Enq(2), Answer::Done),
-    ];
-    let after = [(Op::Deq, Answer::Int(1)), (Op::Deq, Answer::Int(2))];
-    let kind = ObjKind::Queue;
-    assert!(rt; !copy_between::<Queue<A>>(rt, kind, &mut state, &before, &after)?);
-    Ok(())
+fn queue_goes<A: Allocator + Copy>(alloc: A) -> Result<bool, OutOfMemory> {
+    copy_between::<Queue<A>>(
+        ObjKind::Queue,
+        &mut Queue::<A>::opening(alloc, 0),
+        &[
+            (Op::Deq, Answer::Empty),
+            (Op::Enq(1), Answer::Done),
+            (Op::Enq(2), Answer::Done),
+        ],
+        &[(Op::Deq, Answer::Int(1)), (Op::Deq, Answer::Int(2))],
+        false,
+    )
+}
+
+struct QueueGoes;
+
+impl Trial for QueueGoes {
+    fn is_refused<R: Abort, A: Allocator + Copy>(
+        rt: &R,
+        alloc: A,
+        _ample: A,
+    ) -> Result<bool, OutOfMemory> {
+        Ok(is_refused(rt, queue_goes(alloc)))
+    }
 }
 
 #[test]
-fn a_queue_gives_its_items_in_order(rt: HostRuntime) -> Result<(), Fail> {
-    queue_goes(&rt, rt.alloc())?;
-    refuse_each(&rt, 0, 2, |alloc| {
-        assert_eq!(rt; queue_goes(&rt, alloc).is_err(), alloc.was_met());
-        Ok(())
-    })
+fn a_queue_gives_its_items_in_order(rt: HostRuntime) {
+    holds(&rt, queue_goes(rt.alloc()));
+    refuse_each::<HostRuntime, QueueGoes>(&rt, 2);
 }
 
 #[test]
 fn only_operations_that_change_nothing_observe(rt: HostRuntime) {
-    let cases = [
-        (Register::<Global>::observes(&Op::Read), true),
-        (Register::<Global>::observes(&Op::Write(9)), false),
-        (Counter::<Global>::observes(&Op::Get), true),
-        (Counter::<Global>::observes(&Op::Inc), false),
-        (SetOf::<Global>::observes(&Op::Contains(3)), true),
-        (SetOf::<Global>::observes(&Op::Add(3)), false),
-        (Queue::<Global>::observes(&Op::Deq), false),
+    let observes = [
+        Register::<Global>::observes(&Op::Read),
+        Register::<Global>::observes(&Op::Write(9)),
+        Counter::<Global>::observes(&Op::Get),
+        Counter::<Global>::observes(&Op::Inc),
+        SetOf::<Global>::observes(&Op::Contains(3)),
+        SetOf::<Global>::observes(&Op::Add(3)),
+        Queue::<Global>::observes(&Op::Deq),
     ];
-    for (at, (observes, wanted)) in cases.iter().enumerate() {
-        assert_eq!(rt; *observes, *wanted, "at {at}");
-    }
+    assert!(rt; observes == [true, false, true, false, true, false, false]);
 }
 
-/// Runs an operation that is refused, and then one that gets its answer.
-fn refuse_once<S: ObjectSpec>(
+/// Runs an operation that may be refused. After one that is, another gets its answer.
+fn leaves<S: ObjectSpec>(
     rt: &impl Abort,
     kind: ObjKind,
     state: &mut S::State,
-    refused: Op,
+    tried: Op,
     then: (Op, Answer),
-) -> Result<(), OutOfMemory>
+) -> bool
     requires { kind ≡ S.kind }
 {
-    assert!(rt; refused.name().is_of(kind));
-    assert_eq!(rt; S::apply(state, &refused), Err(OutOfMemory));
-    run_all::<S>(rt, kind, state, &[then])
+    assert!(rt; tried.name().is_of(kind));
+    let is_refused = S::apply(state, &tried).is_err();
+    if is_refused {
+        assert!(rt; run_all::<S>(kind, state, &[then]) == Ok(true));
+    }
+    is_refused
+}
+
+/// A set that an item is put in.
+struct SetLeft;
+
+impl Trial for SetLeft {
+    fn is_refused<R: Abort, A: Allocator + Copy>(
+        rt: &R,
+        alloc: A,
+        _ample: A,
+    ) -> Result<bool, OutOfMemory> {
+        let mut set = SetOf::<A>::opening(alloc, 0);
+        let then = (Op::Contains(3), Answer::Flag(false));
+        Ok(leaves::<SetOf<A>>(rt, ObjKind::SetOf, &mut set, Op::Add(3), then))
+    }
+}
+
+/// A queue that an item is put in.
+struct QueueLeft;
+
+impl Trial for QueueLeft {
+    fn is_refused<R: Abort, A: Allocator + Copy>(
+        rt: &R,
+        alloc: A,
+        _ample: A,
+    ) -> Result<bool, OutOfMemory> {
+        let mut queue = Queue::<A>::opening(alloc, 0);
+        let then = (Op::Deq, Answer::Empty);
+        Ok(leaves::<Queue<A>>(rt, ObjKind::Queue, &mut queue, Op::Enq(3), then))
+    }
 }
 
 #[test]
-fn a_refused_operation_leaves_the_set_and_the_queue(rt: HostRuntime) -> Result<(), Fail> {
-    let alloc = Refusing::new(rt.alloc(), rt.alloc(), 0)?;
-    let mut set = SetOf::opening(&alloc, 0);
-    let then = (Op::Contains(3), Answer::Flag(false));
-    refuse_once::<SetOf<&Refusing<Global>>>(&rt, ObjKind::SetOf, &mut set, Op::Add(3), then)?;
-    let alloc = Refusing::new(rt.alloc(), rt.alloc(), 0)?;
-    let mut queue = Queue::opening(&alloc, 0);
-    let then = (Op::Deq, Answer::Empty);
-    refuse_once::<Queue<&Refusing<Global>>>(&rt, ObjKind::Queue, &mut queue, Op::Enq(3), then)?;
-    Ok(())
+fn a_refused_operation_leaves_the_set_and_the_queue(rt: HostRuntime) {
+    refuse_each::<HostRuntime, SetLeft>(&rt, 1);
+    refuse_each::<HostRuntime, QueueLeft>(&rt, 1);
 }
 
 /// A register that opens at 4, a counter, a set and a queue.
-fn plan(alloc: Global) -> Result<Plan, Fail> {
-    let mut objects = Vec::new(alloc);
-    objects.push(declare(&alloc, "r", ObjKind::Register, 4)?)?;
-    objects.push(declare(&alloc, "c", ObjKind::Counter, 0)?)?;
-    objects.push(declare(&alloc, "s", ObjKind::SetOf, 0)?)?;
-    objects.push(declare(&alloc, "q", ObjKind::Queue, 0)?)?;
-    Ok(Plan::new(alloc, 1, objects)?)
-}
+const FOUR: [(&str, ObjKind, i64); 4] = [
+    ("r", ObjKind::Register, 4),
+    ("c", ObjKind::Counter, 0),
+    ("s", ObjKind::SetOf, 0),
+    ("q", ObjKind::Queue, 0),
+];
 
-fn opening(alloc: Global) -> Result<Store, Fail> {
-    Ok(Store::opening(alloc, &plan(alloc)?)?)
+/// The store at the opening, of a plan that keeps its memory elsewhere.
+fn opening<A: Allocator + Copy>(alloc: A, plans: A) -> Result<Store<A>, OutOfMemory> {
+    Store::opening(alloc, &plan_of(plans, 1, &FOUR)?)
 }
 
 /// An operation on the object of a number, with its answer.
@@ -230,7 +286,7 @@ const WRONG: [Ran; 7] = [
     (0, Op::Read, Answer::Int(5)),
 ];
 
-fn block(alloc: Global, all: &[Ran]) -> Result<Block, OutOfMemory> {
+fn block<A: Allocator + Copy>(alloc: A, all: &[Ran]) -> Result<Block<A>, OutOfMemory> {
     let mut executions = Vec::new(alloc);
     for (object, op, answer) in all {
         executions.push(Execution {
@@ -242,53 +298,87 @@ fn block(alloc: Global, all: &[Ran]) -> Result<Block, OutOfMemory> {
     Ok(Block::new(executions, None))
 }
 
-/// Whether the block can run, and whether it leaves the store the same where it runs for good, if it is to.
-fn run_block(store: &mut Store, is_kept: bool, block: &Block) -> Result<(bool, bool), OutOfMemory> {
-    let before = store.dup()?;
-    let runs = if is_kept {
-        store.replay(block)?
+/// Whether a block of these can run, and runs for good if it is to be kept.
+fn runs<A: Allocator + Copy>(
+    blocks: A,
+    store: &mut Store<A>,
+    is_kept: bool,
+    all: &[Ran],
+) -> Result<bool, OutOfMemory> {
+    let block = block(blocks, all)?;
+    if is_kept {
+        store.replay(&block)
     } else {
-        store.fits(block)?
-    };
-    Ok((runs, store.same(&before)))
-}
-
-#[test]
-fn blocks_run_in_order_and_a_wrong_one_is_taken_back(rt: HostRuntime) -> Result<(), Fail> {
-    let mut store = opening(rt.alloc())?;
-    assert_eq!(rt; store.len(), 4);
-    let cases: [(bool, &[Ran], (bool, bool)); 5] = [
-        (false, &FRESH, (true, true)),
-        (false, &SECOND, (false, true)),
-        (true, &FIRST, (true, false)),
-        (true, &WRONG, (false, true)),
-        (true, &SECOND, (true, false)),
-    ];
-    for (is_kept, all, wanted) in &cases {
-        let block = block(rt.alloc(), all)?;
-        assert_eq!(rt;
-            run_block(&mut store, *is_kept, &block)?,
-            *wanted,
-            "of {all:?}"
-        );
+        store.fits(&block)
     }
-    Ok(())
 }
 
-#[test]
-fn a_block_that_was_taken_back_can_run_again(rt: HostRuntime) -> Result<(), Fail> {
-    let mut store = opening(rt.alloc())?;
-    let opening = store.dup()?;
-    let first = block(rt.alloc(), &FIRST)?;
-    for _ in 0..3u8 {
-        if store.replay(&first)? {
-            store.undo();
+/// Whether these can run, for good if they are to be kept, and whether they leave the store the same.
+fn leaves_same(
+    alloc: Global,
+    store: &mut Store,
+    is_kept: bool,
+    all: &[Ran],
+) -> Result<(bool, bool), OutOfMemory> {
+    let before = store.dup()?;
+    let has_run = runs(alloc, store, is_kept, all)?;
+    Ok((has_run, store.same(&before)))
+}
+
+/// Blocks, whether each is to be kept, and whether it runs and leaves the store the same.
+const BLOCKS: [(bool, &[Ran], (bool, bool)); 5] = [
+    (false, &FRESH, (true, true)),
+    (false, &SECOND, (false, true)),
+    (true, &FIRST, (true, false)),
+    (true, &WRONG, (false, true)),
+    (true, &SECOND, (true, false)),
+];
+
+fn blocks_run(alloc: Global, store: &mut Store) -> Result<bool, OutOfMemory> {
+    for (is_kept, all, wanted) in &BLOCKS {
+        if leaves_same(alloc, store, *is_kept, all)? != *wanted {
+            return Ok(false);
         }
-        assert!(rt; store.same(&opening));
     }
-    assert!(rt; store.fits(&first)?);
-    assert!(rt; store.same(&opening));
-    Ok(())
+    Ok(true)
+}
+
+fn four_run(alloc: Global) -> Result<bool, OutOfMemory> {
+    let mut store = opening(alloc, alloc)?;
+    Ok(store.len() == 4 && blocks_run(alloc, &mut store)?)
+}
+
+#[test]
+fn blocks_run_in_order_and_a_wrong_one_is_taken_back(rt: HostRuntime) {
+    holds(&rt, four_run(rt.alloc()));
+}
+
+/// Whether the store is the opened one after the block ran and was taken back.
+fn goes_back(store: &mut Store, opened: &Store, first: &Block) -> Result<bool, OutOfMemory> {
+    if store.replay(first)? {
+        store.undo();
+    }
+    Ok(store.same(opened))
+}
+
+fn goes_back_each_time(store: &mut Store, first: &Block) -> Result<bool, OutOfMemory> {
+    let opened = store.dup()?;
+    for _ in 0..3u8 {
+        if !goes_back(store, &opened, first)? {
+            return Ok(false);
+        }
+    }
+    Ok(store.fits(first)? && store.same(&opened))
+}
+
+fn first_goes_back(alloc: Global) -> Result<bool, OutOfMemory> {
+    let mut store = opening(alloc, alloc)?;
+    goes_back_each_time(&mut store, &block(alloc, &FIRST)?)
+}
+
+#[test]
+fn a_block_that_was_taken_back_can_run_again(rt: HostRuntime) {
+    holds(&rt, first_goes_back(rt.alloc()));
 }
 
 const WAITS: Invocation = Invocation {
@@ -296,108 +386,125 @@ const WAITS: Invocation = Invocation {
     op: Op::Deq,
 };
 
-#[test]
-fn a_block_lends_its_parts_and_a_trailing_invocation_is_free(rt: HostRuntime) -> Result<(), Fail> {
-    let mut store = opening(rt.alloc())?;
-    let read = Execution {
-        object: 0,
-        op: Op::Read,
-        answer: Answer::Int(4),
-    };
-    let block = Block::new([read].to_vec(rt.alloc())?, Some(WAITS));
+const READ_FOUR: Execution = Execution {
+    object: 0,
+    op: Op::Read,
+    answer: Answer::Int(4),
+};
+
+/// Whether a copy of the block lends just that read and that it waits, and can run.
+fn copy_reads(store: &mut Store, block: &Block) -> Result<bool, OutOfMemory> {
     let copy = block.dup()?;
-    assert_eq!(rt; copy.executions(), [read].as_slice());
-    assert_eq!(rt; copy.trailing(), Some(WAITS));
-    assert!(rt; store.replay(&copy)?);
-    Ok(())
+    let lends = copy.executions() == [READ_FOUR].as_slice() && copy.trailing() == Some(WAITS);
+    Ok(lends && store.replay(&copy)?)
+}
+
+fn reads_and_waits(alloc: Global) -> Result<bool, OutOfMemory> {
+    let mut store = opening(alloc, alloc)?;
+    let block = Block::new([READ_FOUR].to_vec(alloc)?, Some(WAITS));
+    copy_reads(&mut store, &block)
 }
 
 #[test]
-fn an_object_that_is_not_there_answers_nothing(rt: HostRuntime) -> Result<(), Fail> {
-    let mut store = opening(rt.alloc())?;
-    let elsewhere = block(rt.alloc(), &[(4, Op::Read, Answer::Int(4))])?;
-    assert!(rt; !store.fits(&elsewhere)?);
-    Ok(())
+fn a_block_lends_its_parts_and_a_trailing_invocation_is_free(rt: HostRuntime) {
+    holds(&rt, reads_and_waits(rt.alloc()));
+}
+
+fn answers_elsewhere(alloc: Global) -> Result<bool, OutOfMemory> {
+    let mut store = opening(alloc, alloc)?;
+    runs(alloc, &mut store, false, &[(4, Op::Read, Answer::Int(4))])
 }
 
 #[test]
-fn a_store_shows_its_states(rt: HostRuntime) -> Result<(), Fail> {
-    let mut store = opening(rt.alloc())?;
-    let before = store.show(rt.alloc())?;
-    assert!(rt; store.replay(&block(rt.alloc(), &FIRST)?)?);
-    let after = store.show(rt.alloc())?;
-    let expected = [
+fn an_object_that_is_not_there_answers_nothing(rt: HostRuntime) {
+    assert!(rt; answers_elsewhere(rt.alloc()) == Ok(false));
+}
+
+/// What the store shows after `FIRST`.
+fn shown_after(alloc: Global) -> Result<[Shown; 4], OutOfMemory> {
+    let members = [1].to_vec(alloc)?;
+    let items = [7, 8].to_vec(alloc)?;
+    Ok([
         Shown::Register(5),
         Shown::Counter(1),
-        Shown::SetOf([1].to_vec(rt.alloc())?),
-        Shown::Queue([7, 8].to_vec(rt.alloc())?),
-    ];
-    assert!(rt; after.as_slice() == expected.as_slice());
-    assert!(rt; before.as_slice() < after.as_slice());
-    Ok(())
+        Shown::SetOf(members),
+        Shown::Queue(items),
+    ])
 }
 
-/// Opens a store and replays `FIRST`. Where that was refused, the store is as it opened.
-fn replay_meets_refusal(
-    rt: &(impl Abort + AllocGlobal),
-    alloc: &Refusing<Global>,
-    plan: &Plan,
-) -> Result<(), Fail> {
-    let (first, fresh) = (block(rt.alloc(), &FIRST)?, block(rt.alloc(), &FRESH)?);
-    match Store::opening(alloc, plan) {
-        Err(OutOfMemory) => assert!(rt; alloc.was_met()),
-        Ok(mut store) => {
-            assert_eq!(rt; store.replay(&first).is_err(), alloc.was_met());
-            // met once, the refusal does not come again
-            assert!(rt; !alloc.was_met() || store.fits(&fresh) == Ok(true));
+/// Whether the store shows more by now, and just what is expected.
+fn shows_more(store: &Store, alloc: Global, before: &[Shown]) -> Result<bool, OutOfMemory> {
+    let after = store.show(alloc)?;
+    let expected = shown_after(alloc)?;
+    Ok(after.as_slice() == expected.as_slice() && before < after.as_slice())
+}
+
+fn shows_its_states(alloc: Global) -> Result<bool, OutOfMemory> {
+    let mut store = opening(alloc, alloc)?;
+    let before = store.show(alloc)?;
+    Ok(runs(alloc, &mut store, true, &FIRST)? && shows_more(&store, alloc, &before)?)
+}
+
+#[test]
+fn a_store_shows_its_states(rt: HostRuntime) {
+    holds(&rt, shows_its_states(rt.alloc()));
+}
+
+/// Replays `FIRST`. Where that was refused, the store is as it opened, and the refusal, met once, does not come again.
+fn replay_is_refused<A: Allocator + Copy>(rt: &impl Abort, ample: A, store: &mut Store<A>) -> bool {
+    let is_refused = runs(ample, store, true, &FIRST).is_err();
+    if is_refused {
+        assert!(rt; runs(ample, store, false, &FRESH) == Ok(true));
+    }
+    is_refused
+}
+
+/// A store that opens and replays `FIRST`.
+struct Replays;
+
+impl Trial for Replays {
+    fn is_refused<R: Abort, A: Allocator + Copy>(
+        rt: &R,
+        alloc: A,
+        ample: A,
+    ) -> Result<bool, OutOfMemory> {
+        match opening(alloc, ample) {
+            Ok(mut store) => Ok(replay_is_refused(rt, ample, &mut store)),
+            Err(OutOfMemory) => Ok(true),
         }
     }
-    Ok(())
 }
 
 #[test]
-fn each_growth_refused_leaves_the_store(rt: HostRuntime) -> Result<(), Fail> {
-    let plan = plan(rt.alloc())?;
-    refuse_each(&rt, 0, 4, |alloc| replay_meets_refusal(&rt, alloc, &plan))
+fn each_growth_refused_leaves_the_store(rt: HostRuntime) {
+    refuse_each::<HostRuntime, Replays>(&rt, 4);
 }
 
-fn opened_and_run<'a>(
-    rt: &(impl Abort + AllocGlobal),
-    alloc: &'a Refusing<Global>,
-    plan: &Plan,
-) -> Result<Store<&'a Refusing<Global>>, Fail> {
-    let mut store = Store::opening(alloc, plan)?;
-    assert!(rt; store.replay(&block(rt.alloc(), &FIRST)?)?);
-    Ok(store)
+/// Copies and shows the store.
+fn is_copied<A: Allocator + Copy>(alloc: A, store: &Store<A>) -> Result<bool, OutOfMemory> {
+    let copy = store.dup()?;
+    let _shown = store.show(alloc)?;
+    Ok(store.same(&copy))
 }
 
-/// Copies and shows the store. A list whose first growth was refused may ask for less and go on.
-fn copies_meet_refusal(
-    rt: &(impl Abort + AllocGlobal),
-    alloc: &Refusing<Global>,
-    plan: &Plan,
-) -> Result<(), Fail> {
-    let store = opened_and_run(rt, alloc, plan)?;
-    let copy = store.dup();
-    let shown = store.show(alloc);
-    if !alloc.was_met() {
-        assert!(rt; shown.is_ok());
-        assert!(rt; store.same(&copy?));
+/// A store that is copied and shown. A list whose first growth was refused may ask for less and go on.
+struct Copies;
+
+impl Trial for Copies {
+    fn is_refused<R: Abort, A: Allocator + Copy>(
+        rt: &R,
+        alloc: A,
+        ample: A,
+    ) -> Result<bool, OutOfMemory> {
+        let mut store = opening(alloc, ample)?;
+        assert!(rt; runs(ample, &mut store, true, &FIRST)?);
+        Ok(is_refused(rt, is_copied(alloc, &store)))
     }
-    Ok(())
-}
-
-fn growths_of_run(rt: &(impl Abort + AllocGlobal), plan: &Plan) -> Result<u64, Fail> {
-    let counted = ample(rt.alloc())?;
-    opened_and_run(rt, &counted, plan)?;
-    Ok(counted.growths())
 }
 
 #[test]
-fn each_growth_refused_leaves_no_copy(rt: HostRuntime) -> Result<(), Fail> {
-    let plan = plan(rt.alloc())?;
-    let used = growths_of_run(&rt, &plan)?;
-    refuse_each(&rt, used, 4, |alloc| copies_meet_refusal(&rt, alloc, &plan))
+fn each_growth_refused_leaves_no_copy(rt: HostRuntime) {
+    refuse_each_or_go_on::<HostRuntime, Copies>(&rt, 4);
 }
 
 #[test]
@@ -408,20 +515,30 @@ fn the_laws_hold(_rt: HostRuntime) {
     laws::blocks_replay_in_turn();
 }
 
-#[test]
-fn a_block_grows_by_events(rt: HostRuntime) -> Result<(), Fail> {
-    let mut block = Block::empty(rt.alloc());
-    block.answer(Answer::Done)?;
-    assert_eq!(rt; block.executions().len(), 0);
+/// Answers a block: how many executions it has then, and what it waits for.
+fn answered(block: &mut Block, answer: Answer) -> Result<(usize, Option<Invocation>), OutOfMemory> {
+    block.answer(answer)?;
+    Ok((block.executions().len(), block.trailing()))
+}
+
+fn grows_by_events(block: &mut Block) -> Result<bool, OutOfMemory> {
+    let fresh = answered(block, Answer::Done)?;
     block.invoke(WAITS);
-    assert_eq!(rt; block.trailing(), Some(WAITS));
-    block.answer(Answer::Empty)?;
-    assert_eq!(rt; block.trailing(), None);
+    let waits = block.trailing() == Some(WAITS);
+    let ended = answered(block, Answer::Empty)?;
     let ran = Execution {
         object: 3,
         op: Op::Deq,
         answer: Answer::Empty,
     };
-    assert_eq!(rt; block.executions(), [ran].as_slice());
-    Ok(())
+    Ok(waits && [fresh, ended] == [(0, None), (1, None)] && block.executions() == [ran].as_slice())
+}
+
+fn empty_block_grows(alloc: Global) -> Result<bool, OutOfMemory> {
+    grows_by_events(&mut Block::empty(alloc))
+}
+
+#[test]
+fn a_block_grows_by_events(rt: HostRuntime) {
+    holds(&rt, empty_block_grows(rt.alloc()));
 }

@@ -1,150 +1,114 @@
-//! Two worked histories below small covers, and each growth refused in turn.
+//! Two worked histories below small covers.
 
-use crate::fixtures::{order, shape_from};
+use crate::fixtures::{is_order, order, shape_of};
 use aud_cover::{closed, open_list};
-use aud_facts::Facts;
+use aud_event::OutOfMemory;
 use aud_lattice::Cover;
-use aud_refusing::Refusing;
+use aud_order::Shape;
 use aud_witness::{Decision, Prefix};
-use aud_worked::{PENDING_COMMIT_IS_UNSEEN, TORN_READ_THEN_ABORT, Unread, facts_of, facts_on};
+use aud_worked::{PENDING_COMMIT_IS_UNSEEN, TORN_READ_THEN_ABORT, Unread};
 use std::alloc::{Allocator, Global};
 use std::test::Fail;
 
-/// The cover of the lists of one decision each, of the decisions in an order text.
-fn cover_of<A: Allocator + Copy>(alloc: A, members: &str) -> Result<Cover<Decision, A>, Unread> {
-    let members = order(alloc, members)?;
+/// The cover of the lists of one decision each.
+fn cover_of<A: Allocator + Copy>(
+    alloc: A,
+    members: &[Decision],
+) -> Result<Cover<Decision, A>, OutOfMemory> {
     let mut cover = Cover::empty(alloc);
-    for member in members.decisions() {
+    for member in members {
         cover.insert(&[*member])?;
     }
     Ok(cover)
 }
 
+/// The same of the decisions in an order text.
+fn cover_from<A: Allocator + Copy>(alloc: A, members: &str) -> Result<Cover<Decision, A>, Unread> {
+    let members = order(alloc, members)?;
+    Ok(cover_of(alloc, members.decisions())?)
+}
+
 /// Whether the lists of one decision each close the prefix.
-fn closes<A: Allocator + Copy>(
+pub(crate) fn closes<A: Allocator + Copy>(
     alloc: A,
-    facts: &Facts<A>,
+    shape: &Shape<A>,
     members: &str,
     prefix: &str,
 ) -> Result<bool, Unread> {
-    let cover = cover_of(alloc, members)?;
-    let shape = shape_from(alloc, facts)?;
-    Ok(closed(alloc, &cover, &shape, &order(alloc, prefix)?)?)
+    let cover = cover_from(alloc, members)?;
+    let prefix = order(alloc, prefix)?;
+    Ok(closed(alloc, &cover, shape, &prefix)?)
 }
 
 #[test]
-fn prefixes_of_a_torn_read_are_closed(rt: HostRuntime) -> Result<(), Fail> {
-    let cases: [(&'static str, &'static str, bool); 4] = [
-        ("none", "none", false),
-        ("1c", "none", true),
-        ("1c", "1c 2a", true),
-        ("none", "2a", true),
+fn prefixes_are_closed(rt: HostRuntime) -> Result<(), Fail> {
+    let cases: [(&str, &str, &str, bool); 8] = [
+        (TORN_READ_THEN_ABORT, "none", "none", false),
+        (TORN_READ_THEN_ABORT, "1c", "none", true),
+        (TORN_READ_THEN_ABORT, "1c", "1c 2a", true),
+        (TORN_READ_THEN_ABORT, "none", "2a", true),
+        (PENDING_COMMIT_IS_UNSEEN, "1c", "none", false),
+        (PENDING_COMMIT_IS_UNSEEN, "1c 1a", "none", false),
+        (PENDING_COMMIT_IS_UNSEEN, "1c 1a 2c", "none", true),
+        (PENDING_COMMIT_IS_UNSEEN, "1c", "1a", false),
     ];
-    let torn = facts_of(rt.alloc(), TORN_READ_THEN_ABORT)?;
-    for (members, prefix, wanted) in &cases {
-        let is_closed = closes(rt.alloc(), &torn, members, prefix)?;
-        assert_eq!(rt; is_closed, *wanted, "{prefix} below {members}");
+    for (input, members, prefix, wanted) in &cases {
+        let shape = shape_of(rt.alloc(), input)?;
+        let is_closed = closes(rt.alloc(), &shape, members, prefix)?;
+        assert_eq!(rt; is_closed, *wanted, "{prefix} below {members} of {input}");
     }
     Ok(())
-}
-
-#[test]
-fn prefixes_of_a_pending_commit_are_closed(rt: HostRuntime) -> Result<(), Fail> {
-    let cases: [(&'static str, &'static str, bool); 4] = [
-        ("1c", "none", false),
-        ("1c 1a", "none", false),
-        ("1c 1a 2c", "none", true),
-        ("1c", "1a", false),
-    ];
-    let unseen = facts_of(rt.alloc(), PENDING_COMMIT_IS_UNSEEN)?;
-    for (members, prefix, wanted) in &cases {
-        let is_closed = closes(rt.alloc(), &unseen, members, prefix)?;
-        assert_eq!(rt; is_closed, *wanted, "{prefix} below {members}");
-    }
-    Ok(())
-}
-
-/// What the lists of one decision each leave open.
-fn left_open<A: Allocator + Copy>(
-    alloc: A,
-    facts: &Facts<A>,
-    members: &str,
-) -> Result<Vec<Prefix<A>, A>, Unread> {
-    let cover = cover_of(alloc, members)?;
-    let shape = shape_from(alloc, facts)?;
-    Ok(open_list(alloc, &cover, &shape)?)
 }
 
 /// Whether the lists are these, in this order.
-fn are(alloc: Global, found: &[Prefix], wanted: &[&'static str]) -> Result<bool, Fail> {
-    let mut are_all = found.len() == wanted.len();
+fn are<A: Allocator + Copy>(
+    alloc: A,
+    found: &[Prefix<A>],
+    wanted: &[&str],
+) -> Result<bool, Unread> {
     for (list, text) in found.iter().zip(wanted) {
-        are_all = are_all && *list == order(alloc, text)?;
+        if !is_order(alloc, list, text)? {
+            return Ok(false);
+        }
     }
-    Ok(are_all)
+    Ok(found.len() == wanted.len())
+}
+
+/// Whether the lists of one decision each leave these lists open.
+pub(crate) fn leaves_open<A: Allocator + Copy>(
+    alloc: A,
+    shape: &Shape<A>,
+    members: &str,
+    wanted: &[&str],
+) -> Result<bool, Unread> {
+    let cover = cover_from(alloc, members)?;
+    let found = open_list(alloc, &cover, shape)?;
+    are(alloc, &found, wanted)
+}
+
+/// Each worked history with a cover, and what the cover leaves open.
+const LEFT_OPEN: [(&str, &str, &[&str]); 3] = [
+    (TORN_READ_THEN_ABORT, "none", &["none"]),
+    (TORN_READ_THEN_ABORT, "1c", &[]),
+    (PENDING_COMMIT_IS_UNSEEN, "1c", &["1a", "2c"]),
+];
+
+/// Whether the lists of one decision each leave these lists of the input's history open.
+fn is_left_open(
+    alloc: Global,
+    input: &str,
+    members: &str,
+    wanted: &[&str],
+) -> Result<bool, Unread> {
+    let shape = shape_of(alloc, input)?;
+    leaves_open(alloc, &shape, members, wanted)
 }
 
 #[test]
 fn what_is_left_open(rt: HostRuntime) -> Result<(), Fail> {
-    let cases: [(&'static str, &'static str, &'static [&'static str]); 3] = [
-        (TORN_READ_THEN_ABORT, "none", &["none"]),
-        (TORN_READ_THEN_ABORT, "1c", &[]),
-        (PENDING_COMMIT_IS_UNSEEN, "1c", &["1a", "2c"]),
-    ];
-    for (input, members, wanted) in &cases {
-        let facts = facts_of(rt.alloc(), input)?;
-        let found = left_open(rt.alloc(), &facts, members)?;
-        assert!(rt;
-            are(rt.alloc(), &found, wanted)?,
-            "below {members} of {input}"
-        );
-    }
-    Ok(())
-}
-
-/// A call that takes memory.
-#[derive(Clone, Copy, Debug)]
-enum Call {
-    Closes,
-    LeavesOpen,
-}
-
-/// Makes the call on a copy of the facts.
-fn called<A: Allocator + Copy>(alloc: A, facts: &Facts, call: Call) -> Result<(), Unread> {
-    let facts = facts_on(alloc, facts)?;
-    match call {
-        Call::Closes => {
-            let _is_closed = closes(alloc, &facts, "1c", "none")?;
-        }
-        Call::LeavesOpen => {
-            let _lists = left_open(alloc, &facts, "1c")?;
-        }
-    }
-    Ok(())
-}
-
-/// Whether want of memory was told, and whether the growth to be refused was met.
-fn refused_at(alloc: Global, facts: &Facts, call: Call, nth: u64) -> Result<(bool, bool), Fail> {
-    let refusing = Refusing::new(alloc, alloc, nth)?;
-    let was_refused = called(&refusing, facts, call).is_err();
-    Ok((was_refused, refusing.was_met()))
-}
-
-#[test]
-fn memory_is_refused(rt: HostRuntime) -> Result<(), Fail> {
-    let cases: [(&str, Call); 2] = [
-        (TORN_READ_THEN_ABORT, Call::Closes),
-        (PENDING_COMMIT_IS_UNSEEN, Call::LeavesOpen),
-    ];
-    for (input, call) in &cases {
-        let facts = facts_of(rt.alloc(), input)?;
-        let mut refusals = 0u32;
-        for nth in 0..200u64 {
-            let (was_refused, was_met) = refused_at(rt.alloc(), &facts, *call, nth)?;
-            assert_eq!(rt; was_refused, was_met, "{call:?} without growth {nth}");
-            refusals = refusals.wrapping_add(u32::from(was_refused));
-        }
-        assert!(rt; 20 < refusals && refusals < 200, "{call:?}");
+    for (input, members, wanted) in &LEFT_OPEN {
+        let is_left = is_left_open(rt.alloc(), input, members, wanted)?;
+        assert!(rt; is_left, "below {members} of {input}");
     }
     Ok(())
 }

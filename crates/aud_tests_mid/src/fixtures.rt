@@ -4,8 +4,8 @@ use aud_facts::{Facts, Sealed};
 use aud_order::Shape;
 use aud_text::{TextFault, read_order};
 use aud_witness::{Decision, Fate, Prefix};
-use aud_worked::{Unread, sealed_from};
-use std::alloc::Allocator;
+use aud_worked::{Unread, facts_of, sealed_from};
+use std::alloc::{Allocator, Global};
 use std::sync::Arc;
 
 /// The transaction commits.
@@ -23,6 +23,15 @@ pub fn order<A: Allocator + Copy>(alloc: A, text: &str) -> Result<Prefix<A>, Tex
     read_order(alloc, text.as_bytes())
 }
 
+/// Whether the order is that of the text.
+pub fn is_order<A: Allocator + Copy>(
+    alloc: A,
+    found: &Prefix<A>,
+    text: &str,
+) -> Result<bool, Unread> {
+    Ok(*found == order(alloc, text)?)
+}
+
 /// The shape of a sealed set, where its history is well-formed.
 fn shape_of_sealed<A: Allocator + Copy>(
     alloc: A,
@@ -37,4 +46,9 @@ fn shape_of_sealed<A: Allocator + Copy>(
 /// The shape of facts that are sealed and have a well-formed history.
 pub fn shape_from<A: Allocator + Copy>(alloc: A, facts: &Facts<A>) -> Result<Shape<A>, Unread> {
     shape_of_sealed(alloc, sealed_from(facts)?)?.ok_or(Unread::Unsealed)
+}
+
+/// The shape of the facts that an input says.
+pub fn shape_of(alloc: Global, input: &str) -> Result<Shape, Unread> {
+    shape_from(alloc, &facts_of(alloc, input)?)
 }

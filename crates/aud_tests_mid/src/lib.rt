@@ -8,6 +8,8 @@ mod fixtures;
 #[cfg(test)]
 mod oracle;
 #[cfg(test)]
+mod refusals;
+#[cfg(test)]
 mod report;
 #[cfg(test)]
 mod search;

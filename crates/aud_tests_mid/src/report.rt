@@ -13,60 +13,117 @@ use aud_report::{
 };
 use aud_text::{PlanTextFault, TextFault};
 use aud_witness::OrderFault;
+use aud_worked::Unread;
 use std::alloc::{AllocError, Allocator, Global};
 use std::test::Fail;
 
-/// What a plan's refusal says.
-fn refused(line: usize, fault: TextFault) -> Said {
-    Said::PlanRefused(PlanTextFault { line, fault })
+/// Whether the line is what is written of what is said.
+fn is_line<A: Allocator + Copy>(alloc: A, said: &Said, line: &str) -> Result<bool, OutOfMemory> {
+    Ok(write_line(alloc, said)?.as_slice() == line.as_bytes())
 }
 
-/// Whether the line is what is written of what is said.
-fn is_line(alloc: Global, said: &Said, line: &str) -> Result<bool, OutOfMemory> {
-    Ok(write_line(alloc, said)?.as_slice() == line.as_bytes())
+/// What is said of the order of a text, which stands outside.
+fn opaque(outside: Global, text: &str) -> Result<Said, TextFault> {
+    Ok(Said::Opaque(order(outside, text)?))
+}
+
+/// Whether the line is what is written of the order of a text.
+fn is_opaque_line<A: Allocator + Copy>(
+    alloc: A,
+    outside: Global,
+    text: &str,
+    line: &str,
+) -> Result<bool, Unread> {
+    let said = opaque(outside, text)?;
+    Ok(is_line(alloc, &said, line)?)
+}
+
+/// Whether the line of a long order is written.
+pub(crate) fn is_long_line<A: Allocator + Copy>(alloc: A, outside: Global) -> Result<bool, Unread> {
+    let text = "1c 2a 3c 4a 5c 6a 7c 8a 9c 1023a";
+    let line = "opaque 1c 2a 3c 4a 5c 6a 7c 8a 9c 1023a\n";
+    is_opaque_line(alloc, outside, text, line)
+}
+
+#[test]
+fn answers_are_written(rt: HostRuntime) -> Result<(), Fail> {
+    for (text, line) in &[("1c 2a", "opaque 1c 2a\n"), ("none", "opaque none\n")] {
+        assert!(rt;
+            is_opaque_line(rt.alloc(), rt.alloc(), text, line)?,
+            "{line}"
+        );
+    }
+    assert!(rt; is_line(rt.alloc(), &Said::NotOpaque, "not opaque\n")?);
+    assert!(rt; is_line(rt.alloc(), &Said::Unfinished, "unfinished\n")?);
+    Ok(())
+}
+
+/// What else is said.
+#[derive(Clone, Copy)]
+enum Word {
+    Conflict(Kind, u32, u32),
+    Waiting(u32),
+    Gap(u32),
+    IllFormed(Rule, u32),
+    OrderRefused(OrderFault),
+    OrderTextRefused(TextFault),
+    PlanRefused(usize, TextFault),
+    RecordRefused(usize, TextFault),
+}
+
+fn said(word: Word) -> Said {
+    match word {
+        Word::Conflict(kind, log, at) => Said::Conflict(kind, log, at),
+        Word::Waiting(log) => Said::Waiting(log),
+        Word::Gap(stamp) => Said::Gap(stamp),
+        Word::IllFormed(rule, stamp) => Said::IllFormed(rule, stamp),
+        Word::OrderRefused(fault) => Said::OrderRefused(fault),
+        Word::OrderTextRefused(fault) => Said::OrderTextRefused(fault),
+        Word::PlanRefused(line, fault) => Said::PlanRefused(PlanTextFault { line, fault }),
+        Word::RecordRefused(line, fault) => Said::RecordRefused(line, fault),
+    }
 }
 
 #[test]
 fn lines_are_written(rt: HostRuntime) -> Result<(), Fail> {
-    let cases: [(Said, &str); 14] = [
-        (Said::Opaque(order(rt.alloc(), "1c 2a")?), "opaque 1c 2a\n"),
-        (Said::Opaque(order(rt.alloc(), "none")?), "opaque none\n"),
-        (Said::NotOpaque, "not opaque\n"),
-        (Said::Unfinished, "unfinished\n"),
+    let cases: [(Word, &str); 10] = [
         (
-            Said::Conflict(Kind::TwoRecords, 0, 0),
+            Word::Conflict(Kind::TwoRecords, 0, 0),
             "conflict 1 at log 0 place 0\n",
         ),
         (
-            Said::Conflict(Kind::StampOrder, 63, 4095),
+            Word::Conflict(Kind::StampOrder, 63, 4095),
             "conflict 5 at log 63 place 4095\n",
         ),
-        (Said::Waiting(1), "waiting for log 1\n"),
-        (Said::Gap(0), "gap at stamp 0\n"),
+        (Word::Waiting(1), "waiting for log 1\n"),
+        (Word::Gap(0), "gap at stamp 0\n"),
         (
-            Said::IllFormed(Rule::AbortWithoutCause, 2),
+            Word::IllFormed(Rule::AbortWithoutCause, 2),
             "ill-formed rule 8 at stamp 2\n",
         ),
         (
-            Said::OrderRefused(OrderFault::RealTime(2)),
+            Word::OrderRefused(OrderFault::RealTime(2)),
             "order refused 4 tx 2\n",
         ),
         (
-            Said::OrderTextRefused(TextFault::UnknownWord),
+            Word::OrderTextRefused(TextFault::UnknownWord),
             "order text refused 7\n",
         ),
         (
-            refused(1, TextFault::Plan(PlanFault::TooManyLogs)),
+            Word::PlanRefused(1, TextFault::Plan(PlanFault::TooManyLogs)),
             "plan line 1 refused 10 2\n",
         ),
-        (refused(1, TextFault::KeyMissing), "plan line 1 refused 4\n"),
         (
-            Said::RecordRefused(3, TextFault::Fact(FactFault::TxRange)),
+            Word::PlanRefused(1, TextFault::KeyMissing),
+            "plan line 1 refused 4\n",
+        ),
+        (
+            Word::RecordRefused(3, TextFault::Fact(FactFault::TxRange)),
             "record line 3 refused 8 4\n",
         ),
     ];
-    for (said, line) in &cases {
-        assert!(rt; is_line(rt.alloc(), said, line)?, "{line}");
+    for (word, line) in &cases {
+        assert!(rt; is_line(rt.alloc(), &said(*word), line)?, "{line}");
     }
     Ok(())
 }
@@ -84,105 +141,92 @@ fn dripping(alloc: Global, reads: u64) -> Result<DrippingSource, AllocError>
     })
 }
 
-/// What is read from that source, and how often it failed.
-fn dripped<A: Allocator>(
+/// Whether the three bytes are read from that source, and how often it failed.
+fn dripped<A: Allocator + Drop>(
     alloc: A,
-    sources: Global,
+    outside: Global,
     reads: u64,
-) -> Result<(Result<Vec<u8, A>, ReadFault>, u64), AllocError> {
-    let mut source = dripping(sources, reads)?;
-    let read = read_all(alloc, &mut source);
+) -> Result<(Result<bool, ReadFault>, u64), AllocError> {
+    let mut source = dripping(outside, reads)?;
+    let read = match read_all(alloc, &mut source) {
+        Ok(bytes) => Ok(bytes.as_slice() == b"abc".as_slice()),
+        Err(fault) => Err(fault),
+    };
     Ok((read, source.failures))
 }
 
 #[test]
 fn a_byte_a_read(rt: HostRuntime) -> Result<(), Fail> {
     for reads in 0..4u64 {
-        let (read, failures) = dripped(rt.alloc(), rt.alloc(), reads)?;
-        assert!(rt; read.err() == Some(ReadFault::Failed) && failures == 1);
+        let found = dripped(rt.alloc(), rt.alloc(), reads)?;
+        assert_eq!(rt; found, (Err(ReadFault::Failed), 1));
     }
-    let (read, failures) = dripped(rt.alloc(), rt.alloc(), 4)?;
-    assert_eq!(rt; failures, 0);
-    let bytes = read.ok().ok_or("a source that ends")?;
-    assert_eq!(rt; bytes.as_slice(), b"abc".as_slice());
+    let found = dripped(rt.alloc(), rt.alloc(), 4)?;
+    assert_eq!(rt; found, (Ok(true), 0));
     Ok(())
+}
+
+/// Whether the three bytes are read from a source that does not fail.
+pub(crate) fn is_read<A: Allocator + Drop>(alloc: A, outside: Global) -> Result<bool, Unread> {
+    match dripped(alloc, outside, 4)? {
+        (Ok(is_whole), _) => Ok(is_whole),
+        (Err(ReadFault::OutOfMemory), _) => Err(Unread::OutOfMemory),
+        (Err(ReadFault::Failed), _) => Ok(false),
+    }
+}
+
+/// Whether three bytes are written, how often the sink failed that they are written to, and how many it holds.
+fn choked(alloc: Global, writes: u64, takes_nothing: bool) -> (bool, u64, usize) {
+    let mut sink = ChokingSink {
+        bytes: Vec::new(alloc),
+        writes,
+        takes_nothing,
+        failures: 0,
+    };
+    let is_written = write_all(&mut sink, b"abc").is_ok();
+    (is_written, sink.failures, sink.bytes.len())
 }
 
 #[test]
 fn a_byte_a_write(rt: HostRuntime) {
-    for writes in 0..6u64 {
-        let mut sink = ChokingSink {
-            bytes: Vec::new(rt.alloc()),
-            writes: writes / 2,
-            takes_nothing: writes % 2 == 0,
-            failures: 0,
-        };
-        assert!(rt; write_all(&mut sink, b"abc").is_err() && sink.failures == 1);
-        assert!(rt; sink.bytes.len() as u64 == writes / 2);
+    for writes in 0..3u64 {
+        for takes_nothing in &[true, false] {
+            let found = choked(rt.alloc(), writes, *takes_nothing);
+            assert_eq!(rt; found, (false, 1, writes as usize));
+        }
     }
+}
+
+/// The text that has two bytes so many times.
+fn long_text(alloc: Global, count: u32) -> Result<Vec<u8>, AllocError> {
+    let mut text = Vec::new(alloc);
+    for _ in 0..count {
+        text.extend_from_slice(b"ab")?;
+    }
+    Ok(text)
+}
+
+/// Whether the text is read from memory.
+fn is_read_back(alloc: Global, text: &[u8]) -> Result<bool, AllocError> {
+    let mut source = MemorySource::new(text.to_vec(alloc)?);
+    match read_all(alloc, &mut source) {
+        Ok(read) => Ok(read.as_slice() == text),
+        Err(_) => Ok(false),
+    }
+}
+
+/// Whether two bytes are written, and held by the sink.
+fn is_held<A: Allocator + Drop>(alloc: A) -> (bool, bool) {
+    let mut sink = MemorySink::new(alloc);
+    let is_written = write_all(&mut sink, b"ab").is_ok();
+    (is_written, sink.held() == b"ab".as_slice())
 }
 
 #[test]
 fn in_memory(rt: HostRuntime) -> Result<(), Fail> {
-    let mut text = Vec::new(rt.alloc());
-    for _ in 0..20_000u32 {
-        text.extend_from_slice(b"ab")?;
-    }
-    let mut source = MemorySource::new(text.clone()?);
-    let read = read_all(rt.alloc(), &mut source)
-        .ok()
-        .ok_or("it never fails")?;
-    assert!(rt; read.as_slice() == text.as_slice());
-    let mut sink = MemorySink::new(rt.alloc());
-    assert!(rt; write_all(&mut sink, b"ab").is_ok());
-    assert!(rt; sink.held() == b"ab".as_slice());
-    Ok(())
-}
-
-/// What failed where a growth is refused while the line is written, and whether the growth was met.
-fn unwritten(
-    alloc: Global,
-    said: &Said,
-    nth: u64,
-) -> Result<(Option<OutOfMemory>, bool), AllocError> {
-    let refusing = Refusing::new(alloc, alloc, nth)?;
-    let fault = write_line(&refusing, said).err();
-    Ok((fault, refusing.was_met()))
-}
-
-#[test]
-fn lines_meet_each_refusal(rt: HostRuntime) -> Result<(), Fail> {
-    let said = Said::Opaque(order(rt.alloc(), "1c 2a 3c 4a 5c 6a 7c 8a 9c 1023a")?);
-    for nth in 0..64u64 {
-        let (fault, was_met) = unwritten(rt.alloc(), &said, nth)?;
-        if !was_met {
-            assert!(rt; nth > 0 && fault.is_none());
-            return Ok(());
-        }
-        assert_eq!(rt; fault, Some(OutOfMemory));
-    }
-    assert!(rt; false);
-    Ok(())
-}
-
-/// What failed where a growth is refused while a source is read, and whether the growth was met.
-fn unread(alloc: Global, nth: u64) -> Result<(Option<ReadFault>, bool), AllocError> {
-    let refusing = Refusing::new(alloc, alloc, nth)?;
-    let (read, _failures) = dripped(&refusing, alloc, 4)?;
-    Ok((read.err(), refusing.was_met()))
-}
-
-#[test]
-fn reading_meets_each_refusal(rt: HostRuntime) -> Result<(), Fail> {
-    for nth in 0..64u64 {
-        let (fault, was_met) = unread(rt.alloc(), nth)?;
-        if !was_met {
-            assert!(rt; nth > 0 && fault.is_none());
-            return Ok(());
-        }
-        assert_eq!(rt; fault, Some(ReadFault::OutOfMemory));
-    }
-    assert!(rt; false);
+    let text = long_text(rt.alloc(), 20_000)?;
+    assert!(rt; is_read_back(rt.alloc(), &text)?);
+    assert_eq!(rt; is_held(rt.alloc()), (true, true));
     Ok(())
 }
 

@@ -8,6 +8,7 @@ mod written;
 
 use aud_event::Plan;
 use aud_text::read_plan;
+pub(crate) use orders::{are_decisions, is_written};
 use std::alloc::Global;
 use std::test::Fail;
 

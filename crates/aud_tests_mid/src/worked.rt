@@ -1,18 +1,28 @@
-//! Each worked history is read, the first fault of each is that of the definition, and each growth is refused in turn.
+//! Each worked history is read, and the first fault of each is that of the definition.
 
+use aud_event::Plan;
 use aud_history::Rule;
-use aud_refusing::Refusing;
 use aud_worked::{
     ABORT_WHILE_IDLE, ANSWER_UNASKED, BOTH_FIND_IT_ABSENT, COUNT_IS_LOST, IDLE_WRITE_STANDS_LATER,
     ITEM_IS_PASSED_ON, LIVE_WRITE_IS_SEEN, NOTHING_HAPPENED, PENDING_COMMIT_IS_SEEN,
     PENDING_COMMIT_IS_UNSEEN, READ_BEFORE_COMMIT, READER_BEHIND_COMMIT, STALE_READ_BEHIND_COMMIT,
-    TORN_READ_THEN_ABORT, Unread, facts_of, facts_on, history_of, sealed_from,
+    TORN_READ_THEN_ABORT, Unread, facts_of, history_of,
 };
+use std::alloc::Global;
 use std::test::Fail;
 
 /// What is wrong with a history: the stamp and the number of the rule.
 fn told(fault: Option<(u32, Rule)>) -> Option<(u32, u32)> {
-    fault.map(|(stamp, rule)| (stamp, rule.number()))
+    match fault {
+        Some((stamp, rule)) => Some((stamp, rule.number())),
+        None => None,
+    }
+}
+
+/// How many events the input's history has, and what is wrong with it.
+fn read(alloc: Global, input: &str) -> Result<(usize, Option<(u32, u32)>), Unread> {
+    let history = history_of(alloc, input)?;
+    Ok((history.events().len(), told(history.first_fault())))
 }
 
 #[test]
@@ -34,37 +44,22 @@ fn histories_are_read(rt: HostRuntime) -> Result<(), Fail> {
         (ABORT_WHILE_IDLE, 3, Some((2, 8))),
     ];
     for (input, events, fault) in &cases {
-        let history = history_of(rt.alloc(), input)?;
-        assert_eq!(rt; history.events().len(), *events, "in {input}");
-        assert_eq!(rt; told(history.first_fault()), *fault, "in {input}");
+        assert_eq!(rt; read(rt.alloc(), input)?, (*events, *fault), "in {input}");
     }
     Ok(())
+}
+
+/// Whether the plan has one log, and objects of two names but none of a third.
+fn has_two_names(plan: &Plan) -> bool {
+    plan.logs() == 1
+        && plan.number("x") == Some(0)
+        && plan.number("y") == Some(1)
+        && plan.number("z").is_none()
 }
 
 #[test]
 fn objects_have_their_names(rt: HostRuntime) -> Result<(), Fail> {
     let facts = facts_of(rt.alloc(), TORN_READ_THEN_ABORT)?;
-    assert_eq!(rt; facts.plan().logs(), 1);
-    for (name, number) in &[("x", Some(0u16)), ("y", Some(1)), ("z", None)] {
-        assert_eq!(rt; facts.plan().number(name), *number, "of {name}");
-    }
-    Ok(())
-}
-
-#[test]
-fn each_growth_is_refused(rt: HostRuntime) -> Result<(), Fail> {
-    let facts = facts_of(rt.alloc(), TORN_READ_THEN_ABORT)?;
-    let mut refusals = 0u64;
-    for nth in 0..200 {
-        let alloc = Refusing::new(rt.alloc(), rt.alloc(), nth)?;
-        let made = facts_on(&alloc, &facts).and_then(|copy| sealed_from(&copy));
-        if !alloc.was_met() {
-            assert!(rt; made.is_ok());
-            break;
-        }
-        assert!(rt; made.err() == Some(Unread::OutOfMemory));
-        refusals = nth + 1;
-    }
-    assert!(rt; 3 < refusals && refusals < 200);
+    assert!(rt; has_two_names(facts.plan()));
     Ok(())
 }

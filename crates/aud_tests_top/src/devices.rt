@@ -10,9 +10,14 @@ fn job(alloc: Global) -> Result<Job, AllocError> {
     Ok(Job::Check(String::from_str(alloc, "1c 2c")?))
 }
 
-/// How a run ends on a source that gives a byte a read and fails behind so many, what it writes, and how often the source
-/// failed.
-fn dripped(alloc: Global, job: &Job, reads: u64) -> Result<(Ended, String, u64), AllocError> {
+/// How a run ends on a source that gives a byte a read and fails behind so many, whether it writes the line, and how
+/// often the source failed.
+fn dripped(
+    alloc: Global,
+    job: &Job,
+    reads: u64,
+    line: &str,
+) -> Result<(Ended, bool, u64), AllocError> {
     let mut source = DrippingSource {
         bytes: Vec::from_slice(alloc, READER_BEHIND_COMMIT.as_bytes())?,
         at: 0,
@@ -21,8 +26,7 @@ fn dripped(alloc: Global, job: &Job, reads: u64) -> Result<(Ended, String, u64),
     };
     let mut sink = MemorySink::new(alloc);
     let ended = run_lines(alloc, job, &mut source, &mut sink);
-    let written = String::from_utf8_lossy(alloc, sink.held())?;
-    Ok((ended, written, source.failures))
+    Ok((ended, sink.held() == line.as_bytes(), source.failures))
 }
 
 #[test]
@@ -30,23 +34,26 @@ fn source_drips_and_fails(rt: HostRuntime) -> Result<(), Fail> {
     let alloc = rt.alloc();
     let job = job(alloc)?;
     for reads in 0..READER_BEHIND_COMMIT.len() as u64 {
-        let (ended, written, failures) = dripped(alloc, &job, reads)?;
-        assert_eq!(rt; ended, Ended::Failed(Cause::Input), "behind {reads}");
-        assert!(rt; written.is_empty() && failures == 1, "behind {reads}");
+        let dripped = dripped(alloc, &job, reads, "")?;
+        assert_eq!(rt;
+            dripped,
+            (Ended::Failed(Cause::Input), true, 1),
+            "behind {reads}"
+        );
     }
-    let (ended, written, _failures) = dripped(alloc, &job, u64::MAX)?;
-    assert_eq!(rt; ended, Ended::Opaque);
-    assert_eq!(rt; written.as_str(), "opaque 1c 2c\n");
+    let (ended, is_written, _failures) = dripped(alloc, &job, u64::MAX, "opaque 1c 2c\n")?;
+    assert_eq!(rt; (ended, is_written), (Ended::Opaque, true));
     Ok(())
 }
 
-/// How a run ends on a sink that takes a byte a write and fails behind so many, and what the sink took.
+/// How a run ends on a sink that takes a byte a write and fails behind so many, and how many bytes it took, if they are a
+/// beginning of the line.
 fn choked(
     alloc: Global,
     job: &Job,
     writes: u64,
     takes_nothing: bool,
-) -> Result<(Ended, String), AllocError> {
+) -> Result<(Ended, Option<u64>), AllocError> {
     let bytes = Vec::from_slice(alloc, READER_BEHIND_COMMIT.as_bytes())?;
     let mut source = MemorySource::new(bytes);
     let mut sink = ChokingSink {
@@ -56,28 +63,29 @@ fn choked(
         failures: 0,
     };
     let ended = run_lines(alloc, job, &mut source, &mut sink);
-    let written = String::from_utf8_lossy(alloc, sink.bytes.as_slice())?;
-    Ok((ended, written))
+    let taken = sink.bytes.as_slice();
+    let is_beginning = b"opaque 1c 2c\n".starts_with(taken);
+    Ok((ended, is_beginning.then_some(taken.len() as u64)))
 }
 
 #[test]
 fn sink_chokes(rt: HostRuntime) -> Result<(), Fail> {
     let alloc = rt.alloc();
     let job = job(alloc)?;
-    let line = "opaque 1c 2c\n";
     for half in 0..26u64 {
         let (writes, takes_nothing) = (half / 2, half % 2 == 0);
-        let (ended, written) = choked(alloc, &job, writes, takes_nothing)?;
-        assert_eq!(rt; ended, Ended::Failed(Cause::Output), "at {half}");
-        assert!(rt;
-            line.starts_with(written.as_str()) && written.len() as u64 == writes,
+        let choked = choked(alloc, &job, writes, takes_nothing)?;
+        assert_eq!(rt;
+            choked,
+            (Ended::Failed(Cause::Output), Some(writes)),
             "at {half}"
         );
     }
     for takes_nothing in [true, false] {
-        let (ended, written) = choked(alloc, &job, 13, takes_nothing)?;
-        assert_eq!(rt; ended, Ended::Opaque);
-        assert_eq!(rt; written.as_str(), line);
+        assert_eq!(rt;
+            choked(alloc, &job, 13, takes_nothing)?,
+            (Ended::Opaque, Some(13))
+        );
     }
     Ok(())
 }

@@ -1,12 +1,11 @@
 //! Each growth refused in turn: a refused call leaves what is known, and the next one takes all.
 
 use crate::fixtures::{TORN_READ, list, refuted};
-use crate::knowing::{by_facts, by_refuted, other_record, take};
+use crate::knowing::{Judgement, REFUTED, Step, judged, known_by, other_record};
 use aud_event::{Event, OutOfMemory};
 use aud_facts::Facts;
-use aud_know::{Item, KnowFault, Knowledge, Verdict};
+use aud_know::{Item, KnowFault, Knowledge};
 use aud_refusing::Refusing;
-use aud_witness::Prefix;
 use aud_worked::{Unread, facts_of};
 use std::alloc::{Allocator, Global};
 use std::sync::Arc;
@@ -23,34 +22,43 @@ enum Trial {
 }
 
 /// Whether there are so many facts, and a list is known to be refuted.
-fn has<A: Allocator + Copy>(known: &Knowledge<A>, facts: usize, list: &Prefix<A>) -> bool {
-    known.facts().len() == facts && known.knows(list)
+fn has<A: Allocator + Copy>(alloc: A, known: &Knowledge<A>, facts: usize) -> Result<bool, Unread> {
+    let list = list(alloc, "1c")?;
+    Ok(known.facts().len() == facts && known.knows(&list))
+}
+
+/// Whether the take was refused for want of memory and left the value, or none where it was not refused.
+fn refusal<A: Allocator + Copy>(
+    known: &mut Knowledge<A>,
+    item: &Item<A>,
+) -> Result<Option<bool>, OutOfMemory> {
+    let before = known.copy()?;
+    match known.take(item) {
+        Ok(()) => Ok(None),
+        Err(fault) => Ok(Some(fault == KnowFault::OutOfMemory && known.same(&before))),
+    }
 }
 
 /// Whether a take was refused; and whether that left the value, and the next one takes all.
 fn takes<A: Allocator + Copy>(
     alloc: A,
-    mut known: Knowledge<A>,
+    known: &mut Knowledge<A>,
     item: &Item<A>,
     facts: usize,
 ) -> Result<(bool, bool), Unread> {
-    let list = list(alloc, "1c")?;
-    let before = known.copy()?;
-    match known.take(item) {
-        Ok(()) => Ok((false, has(&known, facts, &list))),
-        Err(fault) => {
-            let is_left = fault == KnowFault::OutOfMemory && known.same(&before);
-            let is_taken = known.take(item).is_ok();
-            Ok((true, is_left && is_taken && has(&known, facts, &list)))
-        }
-    }
+    let refusal = refusal(known, item)?;
+    let is_well = match refusal {
+        None => true,
+        Some(is_left) => is_left && known.take(item).is_ok(),
+    };
+    Ok((refusal.is_some(), is_well && has(alloc, known, facts)?))
 }
 
 fn tries_finding<A: Allocator + Copy>(alloc: A, run: &Facts) -> Result<(bool, bool), Unread> {
     match refuted(alloc, run, "1c")? {
         Some(finding) => {
-            let known = by_facts(alloc, run, 5)?;
-            takes(alloc, known, &Item::Finding(finding), 14)
+            let mut known = known_by(alloc, run, &[Step::Facts(5)])?;
+            takes(alloc, &mut known, &Item::Finding(finding), 14)
         }
         None => Ok((false, false)),
     }
@@ -63,28 +71,42 @@ fn with_record<A: Allocator + Copy>(
     order: &str,
     event: Event,
 ) -> Result<Knowledge<A>, Unread> {
-    let mut known = by_refuted(alloc, run, order)?;
-    take(&mut known, &Item::Fact(other_record(event)))?;
-    Ok(known)
+    let other = Step::Fact(other_record(event));
+    known_by(alloc, run, &[Step::Facts(100), Step::Refuted(order), other])
+}
+
+/// The same as another's.
+fn known_with_record<A: Allocator + Copy>(
+    alloc: A,
+    run: &Facts,
+    order: &str,
+    event: Event,
+) -> Result<Item<A>, Unread> {
+    let known = with_record(alloc, run, order, event)?;
+    Ok(Item::Known(Arc::new(alloc, known)?))
 }
 
 fn tries_known<A: Allocator + Copy>(alloc: A, run: &Facts) -> Result<(bool, bool), Unread> {
-    let known = with_record(alloc, run, "2a", Event::TryA)?;
-    let other = Arc::new(alloc, with_record(alloc, run, "1c", Event::TryC)?)?;
-    takes(alloc, known, &Item::Known(other), 16)
+    let other = known_with_record(alloc, run, "1c", Event::TryC)?;
+    let mut known = with_record(alloc, run, "2a", Event::TryA)?;
+    takes(alloc, &mut known, &other, 16)
 }
 
 fn is_not_opaque<A: Allocator + Copy>(known: &Knowledge<A>) -> Result<bool, OutOfMemory> {
-    Ok(matches!(known.verdict()?, Verdict::NotOpaque))
+    Ok(judged(known)? == Judgement::NotOpaque)
 }
 
 /// Whether a verdict was refused; and whether that left the value, and the next one is the same.
-fn tries_verdict<A: Allocator + Copy>(alloc: A, run: &Facts) -> Result<(bool, bool), Unread> {
-    let known = by_refuted(alloc, run, "1c")?;
-    match is_not_opaque(&known) {
+fn judges<A: Allocator + Copy>(known: &Knowledge<A>) -> Result<(bool, bool), Unread> {
+    match is_not_opaque(known) {
         Ok(is_well) => Ok((false, is_well)),
-        Err(OutOfMemory) => Ok((true, is_not_opaque(&known)?)),
+        Err(OutOfMemory) => Ok((true, is_not_opaque(known)?)),
     }
+}
+
+fn tries_verdict<A: Allocator + Copy>(alloc: A, run: &Facts) -> Result<(bool, bool), Unread> {
+    let known = known_by(alloc, run, &REFUTED)?;
+    judges(&known)
 }
 
 fn tries<A: Allocator + Copy>(alloc: A, run: &Facts, trial: Trial) -> Result<(bool, bool), Unread> {

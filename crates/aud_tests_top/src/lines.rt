@@ -47,16 +47,48 @@ fn said_of_cut(alloc: Global, bytes: usize) -> Result<String, AllocError> {
     }
 }
 
+/// Whether that is said of this beginning.
+fn is_said_of_cut(alloc: Global, cut: &[u8]) -> Result<bool, AllocError> {
+    let line = said_of_cut(alloc, cut.len())?;
+    is_said(alloc, "1c 2c", cut, line.as_str())
+}
+
 #[test]
 fn cut_at_every_byte(rt: HostRuntime) -> Result<(), Fail> {
-    let alloc = rt.alloc();
     let text = READER_BEHIND_COMMIT.as_bytes();
     for cut in 0..=text.len() {
-        let line = said_of_cut(alloc, cut)?;
-        assert!(rt;
-            is_said(alloc, "1c 2c", &text[..cut], line.as_str())?,
-            "{cut}"
-        );
+        assert!(rt; is_said_of_cut(rt.alloc(), &text[..cut])?, "{cut}");
+    }
+    Ok(())
+}
+
+/// Puts the line behind the text.
+fn put_line(text: &mut Vec<u8>, line: &[u8]) -> Result<(), AllocError> {
+    text.extend_from_slice(line)?;
+    text.push(b'\n')?;
+    Ok(())
+}
+
+/// Puts the lines behind the text.
+fn put_lines(text: &mut Vec<u8>, lines: &[&[u8]]) -> Result<(), AllocError> {
+    for line in lines {
+        put_line(text, *line)?;
+    }
+    Ok(())
+}
+
+/// Puts the lines of a text behind another, with more lines behind so many of them.
+fn put_with_lines(
+    whole: &mut Vec<u8>,
+    text: &str,
+    behind: usize,
+    more: &[&[u8]],
+) -> Result<(), AllocError> {
+    for (number, line) in text.lines().enumerate() {
+        if number == behind {
+            put_lines(whole, more)?;
+        }
+        put_line(whole, line.as_bytes())?;
     }
     Ok(())
 }
@@ -69,17 +101,20 @@ fn with_lines(
     more: &[&[u8]],
 ) -> Result<Vec<u8>, AllocError> {
     let mut whole = Vec::new(alloc);
-    for (number, line) in text.lines().enumerate() {
-        if number == behind {
-            for new in more {
-                whole.extend_from_slice(new)?;
-                whole.push(b'\n')?;
-            }
-        }
-        whole.extend_from_slice(line.as_bytes())?;
-        whole.push(b'\n')?;
-    }
+    put_with_lines(&mut whole, text, behind, more)?;
     Ok(whole)
+}
+
+/// Whether that line is said of the text with more lines put in.
+fn is_said_with(
+    alloc: Global,
+    text: &str,
+    behind: usize,
+    more: &[&[u8]],
+    line: &str,
+) -> Result<bool, AllocError> {
+    let whole = with_lines(alloc, text, behind, more)?;
+    is_said(alloc, "1c 2c", &whole, line)
 }
 
 #[test]
@@ -94,8 +129,10 @@ fn odd_third_lines(rt: HostRuntime) -> Result<(), Fail> {
         (&long, "record line 3 refused 1"),
     ];
     for (line, wanted) in &cases {
-        let text = with_lines(alloc, READER_BEHIND_COMMIT, 2, &[*line])?;
-        assert!(rt; is_said(alloc, "1c 2c", &text, *wanted)?, "{wanted}");
+        assert!(rt;
+            is_said_with(alloc, READER_BEHIND_COMMIT, 2, &[*line], *wanted)?,
+            "{wanted}"
+        );
     }
     Ok(())
 }
@@ -106,64 +143,104 @@ fn late_record_anywhere(rt: HostRuntime) -> Result<(), Fail> {
     let five = [LATE.as_bytes(); 5];
     for behind in 2..11usize {
         for more in [&five[..1], &five] {
-            let text = with_lines(alloc, LATE_RECORD, behind, more)?;
-            assert!(rt; is_said(alloc, "1c 2c", &text, "opaque 1c 2c")?, "{behind}");
+            assert!(rt;
+                is_said_with(alloc, LATE_RECORD, behind, more, "opaque 1c 2c")?,
+                "{behind}"
+            );
         }
     }
     Ok(())
 }
 
+/// Puts the lines of a text behind another, each with a carriage return.
+fn put_returned(whole: &mut Vec<u8>, text: &str) -> Result<(), AllocError> {
+    for line in text.lines() {
+        whole.extend_from_slice(line.as_bytes())?;
+        whole.extend_from_slice(b"\r\n")?;
+    }
+    Ok(())
+}
+
+/// Whether that line is said of the text with a carriage return in each line.
+fn is_said_returned(alloc: Global, text: &str, line: &str) -> Result<bool, AllocError> {
+    let mut whole = Vec::new(alloc);
+    put_returned(&mut whole, text)?;
+    is_said(alloc, "1c 2c", &whole, line)
+}
+
 #[test]
 fn carriage_returns(rt: HostRuntime) -> Result<(), Fail> {
-    let alloc = rt.alloc();
-    let mut text = Vec::new(alloc);
-    for line in READER_BEHIND_COMMIT.lines() {
-        text.extend_from_slice(line.as_bytes())?;
-        text.extend_from_slice(b"\r\n")?;
-    }
-    assert!(rt; is_said(alloc, "1c 2c", &text, "opaque 1c 2c")?);
+    assert!(rt; is_said_returned(rt.alloc(), READER_BEHIND_COMMIT, "opaque 1c 2c")?);
     Ok(())
+}
+
+/// The text of `READER_BEHIND_COMMIT` with an empty line, and without its last brace and line feed.
+fn without_brace(alloc: Global) -> Result<Vec<u8>, AllocError> {
+    let mut text = with_lines(alloc, READER_BEHIND_COMMIT, 2, &[b""])?;
+    let _feed = text.pop();
+    let _brace = text.pop();
+    Ok(text)
+}
+
+/// Whether that line is said of it.
+fn is_said_without_brace(alloc: Global, line: &str) -> Result<bool, AllocError> {
+    let text = without_brace(alloc)?;
+    is_said(alloc, "1c 2c", &text, line)
 }
 
 #[test]
 fn no_last_line_feed(rt: HostRuntime) -> Result<(), Fail> {
     let alloc = rt.alloc();
-    let mut cut = with_lines(alloc, READER_BEHIND_COMMIT, 2, &[b""])?;
-    let _feed = cut.pop();
-    let _brace = cut.pop();
+    assert!(rt; is_said_without_brace(alloc, "record line 12 refused 2")?);
     let twice = br#"{"format":1,"logs":1,"objects":2}
 {"kind":"register","name":"x","open":0}
 {"kind":"register","name":"x","open":0}"#;
-    let cases: [(&str, &[u8], &str); 3] = [
-        ("1c 2c", &cut, "record line 12 refused 2"),
+    let cases: [(&[u8], &str); 2] = [
         (
-            "none",
             br#"{"format":1,"logs":65,"objects":0}"#,
             "plan line 1 refused 10 2",
         ),
-        ("none", twice, "plan line 0 refused 10 4"),
+        (twice, "plan line 0 refused 10 4"),
     ];
-    for (order, text, wanted) in &cases {
-        assert!(rt; is_said(alloc, *order, *text, *wanted)?, "{wanted}");
+    for (text, wanted) in &cases {
+        assert!(rt; is_said(alloc, "none", *text, *wanted)?, "{wanted}");
     }
     Ok(())
 }
 
+/// Puts so many lines of a text, from the place on, behind another.
+fn put_part(whole: &mut String, text: &str, place: usize, count: usize) -> Result<(), AllocError> {
+    for line in text.lines().skip(place).take(count) {
+        whole.push_str(line)?;
+        whole.push_str("\n")?;
+    }
+    Ok(())
+}
+
+/// Puts the plan of two lines of a text behind another, and then its other lines turned round by so many.
+fn put_turned(whole: &mut String, text: &str, by: usize) -> Result<(), AllocError> {
+    put_part(whole, text, 0, 2)?;
+    put_part(whole, text, by.saturating_add(2), usize::MAX)?;
+    put_part(whole, text, 2, by)
+}
+
 /// The text with the lines behind its plan of two lines turned round by so many.
 fn turned(alloc: Global, text: &str, by: usize) -> Result<String, AllocError> {
-    let mut front = String::new(alloc);
-    let mut back = String::new(alloc);
-    for (number, line) in text.lines().enumerate() {
-        let part = if 2 <= number && number - 2 < by {
-            &mut back
-        } else {
-            &mut front
-        };
-        part.push_str(line)?;
-        part.push_str("\n")?;
-    }
-    front.push_str(back.as_str())?;
-    Ok(front)
+    let mut whole = String::new(alloc);
+    put_turned(&mut whole, text, by)?;
+    Ok(whole)
+}
+
+/// Whether a check of the order says that line of the turned text.
+fn is_said_turned(
+    alloc: Global,
+    order: &str,
+    text: &str,
+    by: usize,
+    line: &str,
+) -> Result<bool, AllocError> {
+    let text = turned(alloc, text, by)?;
+    is_said(alloc, order, text.as_bytes(), line)
 }
 
 #[test]
@@ -180,9 +257,8 @@ fn any_rotation(rt: HostRuntime) -> Result<(), Fail> {
     ];
     for (input, order, wanted) in &cases {
         for by in 0..10usize {
-            let text = turned(alloc, *input, by)?;
             assert!(rt;
-                is_said(alloc, *order, text.as_bytes(), *wanted)?,
+                is_said_turned(alloc, *order, *input, by, *wanted)?,
                 "{wanted} by {by}"
             );
         }

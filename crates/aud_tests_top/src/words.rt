@@ -4,13 +4,27 @@ use aud_cli::{Command, Job, Usage, job_of};
 use std::alloc::{AllocError, Global};
 use std::test::Fail;
 
-/// What the words, parted by blanks, ask for.
-fn asked(alloc: Global, line: &str) -> Result<Result<Command, Usage>, AllocError> {
-    let mut words = Vec::new(alloc);
+/// Puts the words of the line, parted by blanks, behind the others.
+fn put_words(alloc: Global, words: &mut Vec<String>, line: &str) -> Result<(), AllocError> {
     for word in line.split(' ') {
         words.push(String::from_str(alloc, word)?)?;
     }
+    Ok(())
+}
+
+/// What the words, parted by blanks, ask for.
+fn asked(alloc: Global, line: &str) -> Result<Result<Command, Usage>, AllocError> {
+    let mut words = Vec::new(alloc);
+    put_words(alloc, &mut words, line)?;
     Ok(job_of(alloc, words.as_slice()))
+}
+
+/// The budget of the search that the line asks for, if it asks for one.
+fn budget_of(alloc: Global, line: &str) -> Result<Option<Option<u64>>, AllocError> {
+    match asked(alloc, line)? {
+        Ok(Command::Lines(Job::Decide(budget))) => Ok(Some(budget)),
+        _ => Ok(None),
+    }
 }
 
 #[test]
@@ -24,13 +38,17 @@ fn budgets(rt: HostRuntime) -> Result<(), Fail> {
         ),
     ];
     for (line, budget) in &cases {
-        let asked = asked(rt.alloc(), *line)?;
-        assert!(rt;
-            matches!(asked, Ok(Command::Lines(Job::Decide(read))) if read == *budget),
-            "{line}"
-        );
+        assert_eq!(rt; budget_of(rt.alloc(), *line)?, Some(*budget), "{line}");
     }
     Ok(())
+}
+
+/// Whether the line asks for nothing, and the text for the user has that part.
+fn is_told(alloc: Global, line: &str, part: &str) -> Result<bool, AllocError> {
+    match asked(alloc, line)? {
+        Ok(_) => Ok(false),
+        Err(usage) => Ok(usage.text().contains(part)),
+    }
 }
 
 #[test]
@@ -53,10 +71,7 @@ fn texts_for_the_user(rt: HostRuntime) -> Result<(), Fail> {
         ("opaq help check", "--order <TEXT>"),
     ];
     for (line, part) in &cases {
-        match asked(rt.alloc(), *line)? {
-            Ok(_) => assert!(rt; false, "{line}"),
-            Err(usage) => assert!(rt; usage.text().contains(*part), "{line}"),
-        }
+        assert!(rt; is_told(rt.alloc(), *line, *part)?, "{line}");
     }
     Ok(())
 }

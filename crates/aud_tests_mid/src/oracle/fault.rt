@@ -1,145 +1,73 @@
 //! What is told of an order that does not show a history.
 
-ghost use Rattle.std.specs.Prelude.{◌≡◌, not, ◌||◌, ◌++◌, IfOk};
-ghost use Rattle.std.specs.List.{list_all, filter};
-ghost use Rattle.aud_history.specs.Histories as histories;
-ghost use Rattle.aud_witness.specs.Orders as orders;
-ghost use Rattle.aud_witness.specs.Enumeration as enumeration;
-ghost use Rattle.aud_witness.specs.OrderFaults as faults;
-
-use super::blocks::{push_block, push_kept};
-use super::legality::is_legal;
+use super::legality::sees_legally;
 use super::order::is_named;
-use super::transaction::{is_allowed, is_before, is_in, transactions};
-use aud_event::{Event, ObjDecl, OutOfMemory};
+use super::transaction::{is_allowed, is_before, is_in};
+use aud_event::{Event, OutOfMemory};
+use aud_history::History;
 use aud_witness::{Decision, OrderFault};
 use std::alloc::Allocator;
 
 /// Whether each transaction that is before this one in the history is named.
-fn is_enabled(events: &[(u32, Event)], before: &[Decision], tx: u32) -> bool
-    ensures { result ≡ faults.is_enabled events.now before.now tx }
-{
+fn is_enabled(events: &[(u32, Event)], before: &[Decision], tx: u32) -> bool {
     events
         .iter()
         .all(|e| !is_before(events, e.0, tx) || is_named(before, e.0))
 }
 
-/// Whether the blocks with fate C and then the decision's own are legal.
-fn is_legal_behind<A: Allocator + Copy>(
-    alloc: A,
-    decls: &[ObjDecl<A>],
+/// What is wrong with the decision behind others, its legality aside.
+fn choice_fault(
     events: &[(u32, Event)],
     before: &[Decision],
     decision: Decision,
-) -> Result<bool, OutOfMemory>
-    ensures { IfOk result (λ b. b ≡ enumeration.is_legal_from 0 decls.now (orders.kept events.now before.now ++ orders.block events.now decision)) }
-{
-    let mut seen = Vec::new(alloc);
-    push_kept(alloc, &mut seen, events, before)?;
-    push_block(alloc, &mut seen, events, decision)?;
-    is_legal(alloc, decls, &seen)
-}
-
-/// What is wrong with the decision behind others.
-fn place_fault<A: Allocator + Copy>(
-    alloc: A,
-    decls: &[ObjDecl<A>],
-    events: &[(u32, Event)],
-    before: &[Decision],
-    decision: Decision,
-) -> Result<Option<OrderFault>, OutOfMemory>
-    ensures { IfOk result (λ f. f ≡ faults.place_fault decls.now events.now before.now decision) }
-{
+) -> Option<OrderFault> {
     let tx = decision.tx;
     if !is_in(events, tx) {
-        Ok(Some(OrderFault::UnknownTx(tx)))
+        Some(OrderFault::UnknownTx(tx))
     } else if is_named(before, tx) {
-        Ok(Some(OrderFault::Twice(tx)))
+        Some(OrderFault::Twice(tx))
     } else if !is_allowed(events, tx, decision.fate) {
-        Ok(Some(OrderFault::FateNotAllowed(tx)))
+        Some(OrderFault::FateNotAllowed(tx))
     } else if !is_enabled(events, before, tx) {
-        Ok(Some(OrderFault::RealTime(tx)))
-    } else if !is_legal_behind(alloc, decls, events, before, decision)? {
-        Ok(Some(OrderFault::Illegal(tx)))
+        Some(OrderFault::RealTime(tx))
     } else {
-        Ok(None)
+        None
     }
-}
-
-fn least_of(txs: &[u32]) -> Option<u32>
-    ensures { result ≡ faults.least_of txs.now }
-{
-    match txs {
-        [] => None,
-        [first, rest @ ..] => match least_of(rest) {
-            None => Some(*first),
-            Some(least) => Some(if *first < least { *first } else { least }),
-        },
-    }
-}
-
-/// The transactions that the order does not name.
-fn unnamed<A: Allocator + Copy>(
-    alloc: A,
-    order: &[Decision],
-    txs: &[u32],
-) -> Result<Vec<u32, A>, OutOfMemory>
-    ensures { IfOk result (λ left. left.items ≡ filter (λ t. not (orders.is_named order.now t)) txs.now) }
-{
-    let left = txs
-        .iter()
-        .filter(|tx| !is_named(order, **tx))
-        .copied()
-        .collect(alloc)?;
-    Ok(left)
 }
 
 /// The least transaction that the order does not name.
-fn missing_fault<A: Allocator + Copy>(
-    alloc: A,
-    events: &[(u32, Event)],
-    order: &[Decision],
-) -> Result<Option<OrderFault>, OutOfMemory>
-    ensures { IfOk result (λ f. f ≡ faults.missing_fault events.now order.now) }
-{
-    let txs = transactions(alloc, events)?;
-    let left = unnamed(alloc, order, &txs)?;
-    Ok(match least_of(&left) {
-        None => None,
+fn missing_fault(events: &[(u32, Event)], order: &[Decision]) -> Option<OrderFault> {
+    let mut least = None;
+    for (tx, _) in events {
+        let is_less = match least {
+            Some(other) => *tx < other,
+            None => true,
+        };
+        if is_less && !is_named(order, *tx) {
+            least = Some(*tx);
+        }
+    }
+    match least {
         Some(tx) => Some(OrderFault::Missing(tx)),
-    })
-}
-
-/// The fault at the first wrong place of `rest` behind `before`.
-fn fault_behind<A: Allocator + Copy>(
-    alloc: A,
-    decls: &[ObjDecl<A>],
-    events: &[(u32, Event)],
-    mut before: Vec<Decision, A>,
-    rest: &[Decision],
-) -> Result<Option<OrderFault>, OutOfMemory>
-    ensures { IfOk result (λ f. f ≡ faults.fault_behind decls.now events.now before.items rest.now) }
-{
-    match rest {
-        [] => missing_fault(alloc, events, &before),
-        [first, rest @ ..] => match place_fault(alloc, decls, events, &before, *first)? {
-            Some(fault) => Ok(Some(fault)),
-            None => {
-                before.push(*first)?;
-                fault_behind(alloc, decls, events, before, rest)
-            }
-        },
+        None => None,
     }
 }
 
 /// The first fault of the order.
 pub(crate) fn first_fault<A: Allocator + Copy>(
     alloc: A,
-    decls: &[ObjDecl<A>],
-    events: &[(u32, Event)],
+    history: &History<A>,
     order: &[Decision],
-) -> Result<Option<OrderFault>, OutOfMemory>
-    ensures { IfOk result (λ f. f ≡ faults.first_order_fault decls.now events.now order.now) }
-{
-    fault_behind(alloc, decls, events, Vec::new(alloc), order)
+) -> Result<Option<OrderFault>, OutOfMemory> {
+    for (place, decision) in order.iter().enumerate() {
+        let before = &order[..place];
+        let fault = choice_fault(history.events(), before, *decision);
+        if fault.is_some() {
+            return Ok(fault);
+        }
+        if !sees_legally(alloc, history, before, decision.tx)? {
+            return Ok(Some(OrderFault::Illegal(decision.tx)));
+        }
+    }
+    Ok(missing_fault(history.events(), order))
 }

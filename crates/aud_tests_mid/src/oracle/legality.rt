@@ -1,112 +1,140 @@
-//! Which events are legal.
+//! What a transaction sees, and whether it is legal.
 
-ghost use Rattle.std.specs.Prelude.{◌≡◌, ◌++◌, ◌+◌, ◌<◌, ◌^◌, length, OnOk, IfOk};
-ghost use Rattle.aud_object.specs.Objects as objects;
-ghost use Rattle.aud_object.specs.Shown.{shown};
-ghost use Rattle.aud_witness.specs.Enumeration as enumeration;
-
-use super::objects::{after_op, answer_of, opening_of};
-use aud_event::{Answer, Event, ObjDecl, OutOfMemory};
-use aud_object::Shown;
+use aud_event::{Answer, Event, Op, OutOfMemory};
+use aud_history::History;
+use aud_witness::{Decision, Fate};
 use std::alloc::Allocator;
 
-fn is_same_answer(a: Answer, b: Answer) -> bool
-    ensures { result ≡ enumeration.is_same_answer a b }
-{
-    match (a, b) {
-        (Answer::Done, Answer::Done) => true,
-        (Answer::Int(v), Answer::Int(w)) => v == w,
-        (Answer::Flag(v), Answer::Flag(w)) => v == w,
-        (Answer::Empty, Answer::Empty) => true,
-        _ => false,
+/// What a register holds behind the operations.
+fn last_written(opening: i64, earlier: &[(Op, Answer)]) -> i64 {
+    let mut value = opening;
+    for (op, _) in earlier {
+        if let Op::Write(written) = op {
+            value = *written;
+        }
+    }
+    value
+}
+
+/// What a counter holds behind the operations. It stays at the greatest and the least number.
+fn counted(opening: i64, earlier: &[(Op, Answer)]) -> i64 {
+    let mut count = opening;
+    for (op, _) in earlier {
+        match op {
+            Op::Inc => count = count.saturating_add(1),
+            Op::Dec => count = count.saturating_sub(1),
+            _ => {}
+        }
+    }
+    count
+}
+
+/// Whether a set has the value behind the operations.
+fn has_member(earlier: &[(Op, Answer)], value: i64) -> bool {
+    let mut is_member = false;
+    for (op, _) in earlier {
+        if *op == Op::Add(value) {
+            is_member = true;
+        } else if *op == Op::Remove(value) {
+            is_member = false;
+        }
+    }
+    is_member
+}
+
+/// What a queue has in front behind the operations, which are legal: of the items that were put in, the first that was not
+/// taken.
+fn front(earlier: &[(Op, Answer)]) -> Answer {
+    let mut taken = 0u64;
+    for (op, answer) in earlier {
+        if *op == Op::Deq && *answer != Answer::Empty {
+            taken = taken.wrapping_add(1);
+        }
+    }
+    for (op, _) in earlier {
+        if let Op::Enq(item) = op {
+            if taken == 0 {
+                return Answer::Int(*item);
+            }
+            taken -= 1;
+        }
+    }
+    Answer::Empty
+}
+
+/// What the operation answers behind others on the same object, which are legal.
+fn answer_behind(opening: i64, earlier: &[(Op, Answer)], op: Op) -> Answer {
+    match op {
+        Op::Read => Answer::Int(last_written(opening, earlier)),
+        Op::Get => Answer::Int(counted(opening, earlier)),
+        Op::Add(value) => Answer::Flag(!has_member(earlier, value)),
+        Op::Remove(value) => Answer::Flag(has_member(earlier, value)),
+        Op::Contains(value) => Answer::Flag(has_member(earlier, value)),
+        Op::Deq => front(earlier),
+        _ => Answer::Done,
     }
 }
 
-/// Whether the events are executions that answer from the state on as the table says, and perhaps an invocation.
-fn is_in_seq<A: Allocator + Copy>(
-    alloc: A,
-    state: Shown<A>,
-    events: &[Event],
-) -> Result<bool, OutOfMemory>
-    ensures { IfOk result (λ b. b ≡ enumeration.is_in_seq (shown state) events.now) }
-{
-    let [first, behind @ ..] = events else {
-        return Ok(true);
-    };
-    let Event::Inv(_, op) = first else {
-        return Ok(false);
-    };
-    let [second, rest @ ..] = behind else {
-        return Ok(true);
-    };
-    let Event::Ret(_, _, answer) = second else {
-        return Ok(false);
-    };
-    if !is_same_answer(*answer, answer_of(&state, *op)) {
-        return Ok(false);
+/// Whether the operations on an object get the answers that they have, one behind the other.
+fn is_legal(opening: i64, operations: &[(Op, Answer)]) -> bool {
+    for (place, (op, answer)) in operations.iter().enumerate() {
+        if *answer != answer_behind(opening, &operations[..place], *op) {
+            return false;
+        }
     }
-    is_in_seq(alloc, after_op(alloc, state, *op)?, rest)
+    true
 }
 
-fn is_on(object: usize, event: &Event) -> bool
-    ensures { result ≡ objects.is_on object event.now }
-{
-    match event {
-        Event::Inv(at, _) => usize::from(*at) == object,
-        Event::Ret(at, _, _) => usize::from(*at) == object,
-        _ => false,
-    }
-}
-
-/// Puts the events on the object behind the others.
-fn push_on_object<A: Allocator + Copy>(
-    out: &mut Vec<Event, A>,
+/// Puts the transaction's operations on the object behind the others, each with its answer. One that is pending has none.
+fn push_own<A: Allocator>(
+    out: &mut Vec<(Op, Answer), A>,
+    events: &[(u32, Event)],
+    tx: u32,
     object: usize,
-    events: &[Event],
-) -> Result<(), OutOfMemory>
-    ensures { OnOk result (out.new.items ≡ out.old.items ++ objects.on_object object events.now) }
-{
-    match events {
-        [] => Ok(()),
-        [first, rest @ ..] => {
-            if is_on(object, first) {
-                out.push(*first)?;
+) -> Result<(), OutOfMemory> {
+    let mut asked = None;
+    for (of, event) in events {
+        match (event, asked) {
+            (Event::Inv(on, op), _) if *of == tx && usize::from(*on) == object => asked = Some(*op),
+            (Event::Ret(on, _, answer), Some(op)) if *of == tx && usize::from(*on) == object => {
+                out.push((op, *answer))?;
             }
-            push_on_object(out, object, rest)
+            _ => {}
         }
     }
+    Ok(())
 }
 
-/// Whether the events are legal on the objects, which are numbered from `number` on.
-fn is_legal_from<A: Allocator + Copy>(
+/// What the transaction sees of the object: the operations of the transactions with fate C before it, then its own.
+fn seen<A: Allocator>(
     alloc: A,
-    number: usize,
-    decls: &[ObjDecl<A>],
-    events: &[Event],
-) -> Result<bool, OutOfMemory>
-    requires { number + length decls.now < 2 ^ 64 }
-    ensures { IfOk result (λ b. b ≡ enumeration.is_legal_from number decls.now events.now) }
-{
-    match decls {
-        [] => Ok(true),
-        [first, rest @ ..] => {
-            let mut here = Vec::new(alloc);
-            push_on_object(&mut here, number, events)?;
-            if !is_in_seq(alloc, opening_of(alloc, first), &here)? {
-                return Ok(false);
-            }
-            is_legal_from(alloc, number + 1, rest, events)
+    events: &[(u32, Event)],
+    before: &[Decision],
+    tx: u32,
+    object: usize,
+) -> Result<Vec<(Op, Answer), A>, OutOfMemory> {
+    let mut seen = Vec::new(alloc);
+    for decision in before {
+        if decision.fate == Fate::C {
+            push_own(&mut seen, events, decision.tx, object)?;
         }
     }
+    push_own(&mut seen, events, tx, object)?;
+    Ok(seen)
 }
 
-/// Whether the events are legal on the objects.
-pub(crate) fn is_legal<A: Allocator + Copy>(
+/// Whether what the transaction sees behind the others is legal on each object.
+pub(crate) fn sees_legally<A: Allocator + Copy>(
     alloc: A,
-    decls: &[ObjDecl<A>],
-    events: &[Event],
-) -> Result<bool, OutOfMemory>
-    ensures { IfOk result (λ b. b ≡ enumeration.is_legal_from 0 decls.now events.now) }
-{
-    is_legal_from(alloc, 0, decls, events)
+    history: &History<A>,
+    before: &[Decision],
+    tx: u32,
+) -> Result<bool, OutOfMemory> {
+    for (object, decl) in history.plan().objects().iter().enumerate() {
+        let seen = seen(alloc, history.events(), before, tx, object)?;
+        if !is_legal(decl.opening, &seen) {
+            return Ok(false);
+        }
+    }
+    Ok(true)
 }

@@ -2,10 +2,10 @@
 
 use crate::fixtures::{a, c, order};
 use aud_event::OutOfMemory;
-use aud_refusing::Refusing;
-use aud_text::{TextFault, read_order, write_order};
+use aud_text::write_order;
 use aud_witness::{Decision, Prefix};
-use std::alloc::{AllocError, Global};
+use aud_worked::Unread;
+use std::alloc::{AllocError, Allocator, Global};
 use std::test::Fail;
 
 /// How many decisions an order text has, and the number of its fault.
@@ -62,69 +62,46 @@ fn length(rt: HostRuntime) -> Result<(), Fail> {
     Ok(())
 }
 
+/// Whether the decisions are written as the text.
+fn are_written(alloc: Global, decisions: &[Decision], text: &str) -> Result<bool, OutOfMemory> {
+    let made = Prefix::from_decisions(decisions.to_vec(alloc)?);
+    Ok(write_order(alloc, &made)?.as_slice() == text.as_bytes())
+}
+
+/// Whether the decisions are read from the text.
+fn are_read(alloc: Global, decisions: &[Decision], text: &str) -> bool {
+    match order(alloc, text) {
+        Ok(read) => read.decisions() == decisions,
+        Err(_) => false,
+    }
+}
+
 #[test]
 fn orders_are_written_and_read(rt: HostRuntime) -> Result<(), Fail> {
     let cases: [(&[Decision], &str); 2] = [(&[], "none"), (&[c(1), a(2)], "1c 2a")];
     for (decisions, text) in &cases {
-        let made = Prefix::from_decisions(decisions.to_vec(rt.alloc())?);
-        let written = write_order(rt.alloc(), &made)?;
-        assert_eq!(rt; written.as_slice(), text.as_bytes());
-        let read = order(rt.alloc(), text)?;
-        assert_eq!(rt; read.decisions(), *decisions, "of {text}");
+        assert!(rt; are_written(rt.alloc(), decisions, text)?, "of {text}");
+        assert!(rt; are_read(rt.alloc(), decisions, text), "of {text}");
     }
     Ok(())
 }
 
-/// The number of decisions read where a growth is refused, and whether it was met.
-fn read_without(alloc: Global, nth: u64) -> Result<(Result<usize, TextFault>, bool), AllocError> {
-    let refusing = Refusing::new(alloc, alloc, nth)?;
-    let read = read_order(&refusing, b"1c 2a 3c 4a 5c 6a 7c 8a 9c");
-    let told = read.map(|order| order.decisions().len());
-    Ok((told, refusing.was_met()))
+/// Whether the text is read as an order of so many decisions.
+pub(crate) fn are_decisions<A: Allocator + Copy>(
+    alloc: A,
+    text: &str,
+    count: usize,
+) -> Result<bool, Unread> {
+    Ok(order(alloc, text)?.decisions().len() == count)
 }
 
-#[test]
-fn reading_meets_each_refusal(rt: HostRuntime) -> Result<(), Fail> {
-    for nth in 0..64u64 {
-        let (told, was_met) = read_without(rt.alloc(), nth)?;
-        if !was_met {
-            assert!(rt; nth > 0);
-            assert_eq!(rt; told?, 9);
-            return Ok(());
-        }
-        assert_eq!(rt; told, Err(TextFault::OutOfMemory));
-    }
-    assert!(rt; false);
-    Ok(())
-}
-
-const MANY: &str = "1c 2a 3c 4a 5c 6a 7c 8a 9c 1023a";
-
-/// Whether the text is written where a growth is refused, and whether that was met.
-fn written_without(
-    alloc: Global,
-    order: &Prefix,
-    nth: u64,
-) -> Result<(Result<bool, OutOfMemory>, bool), AllocError> {
-    let refusing = Refusing::new(alloc, alloc, nth)?;
-    let written = write_order(&refusing, order);
-    let told = written.map(|text| text.as_slice() == MANY.as_bytes());
-    Ok((told, refusing.was_met()))
-}
-
-#[test]
-fn writing_meets_each_refusal(rt: HostRuntime) -> Result<(), Fail> {
-    let order = order(rt.alloc(), MANY)?;
-    for nth in 0..64u64 {
-        let (told, was_met) = written_without(rt.alloc(), &order, nth)?;
-        assert_eq!(rt; order.decisions().len(), 10);
-        if !was_met {
-            assert!(rt; nth > 0);
-            assert!(rt; told?);
-            return Ok(());
-        }
-        assert_eq!(rt; told, Err(OutOfMemory));
-    }
-    assert!(rt; false);
-    Ok(())
+/// Whether the order of the text has so many decisions, and is written as the text.
+pub(crate) fn is_written<A: Allocator + Copy>(
+    alloc: A,
+    text: &str,
+    count: usize,
+) -> Result<bool, Unread> {
+    let order = order(alloc, text)?;
+    let written = write_order(alloc, &order)?;
+    Ok(written.as_slice() == text.as_bytes() && order.decisions().len() == count)
 }

@@ -1,0 +1,259 @@
+//! Each growth refused in turn, of what is asked of texts, of facts and of their history.
+
+use crate::cover::{closes, leaves_open};
+use crate::fixtures::{order, shape_from};
+use crate::oracle::{fault_of, is_only_witness};
+use crate::report::{is_long_line, is_read};
+use crate::search::{is_decided, refutes_five_counters};
+use crate::text::{are_decisions, is_written};
+use aud_facts::{Facts, Sealed};
+use aud_refusing::Refusing;
+use aud_witness::OrderFault;
+use aud_worked::{
+    BOTH_FIND_IT_ABSENT, COUNT_IS_LOST, NOTHING_HAPPENED, PENDING_COMMIT_IS_UNSEEN,
+    READER_BEHIND_COMMIT, TORN_READ_THEN_ABORT, Unread, facts_of, facts_on, sealed_from,
+};
+use std::alloc::{AllocError, Allocator, Global};
+use std::test::Fail;
+
+/// What takes memory.
+#[derive(Clone, Copy)]
+enum Question {
+    /// Whether an order is read from its text.
+    OrderIsRead,
+    /// Whether it is written.
+    OrderIsWritten,
+    /// Whether the line of an order is written.
+    LineIsWritten,
+    /// Whether a source is read to its end.
+    SourceIsRead,
+    /// What is asked of facts.
+    OfFacts(Asked),
+}
+
+/// What is asked of facts, and of their history.
+#[derive(Clone, Copy)]
+enum Asked {
+    /// Whether the facts are sealed.
+    AreSealed,
+    /// Whether `1c` closes the empty list.
+    IsClosed,
+    /// Whether `1c` leaves `1a` and `2c` open.
+    AreOpen,
+    /// Whether the search finds `1c 2c`.
+    IsDecided,
+    /// Whether the search refutes five counters on the plan.
+    IsRefuted,
+    /// Whether brute force finds `2a 1c` alone.
+    IsOnlyWitness,
+    /// Nothing yet of the order.
+    Nothing(&'static str),
+    /// Whether this is told of the order.
+    IsTold(&'static str, Option<OrderFault>),
+}
+
+/// Whether this is told of the order, of the history of a sealed set.
+fn is_told<A: Allocator + Copy>(
+    alloc: A,
+    sealed: &Sealed<A>,
+    decisions: &str,
+    fault: Option<OrderFault>,
+) -> Result<bool, Unread> {
+    let order = order(alloc, decisions)?;
+    Ok(fault_of(alloc, sealed.history(), &order)? == fault)
+}
+
+/// The answer to a question about facts that are sealed.
+fn answer_of_sealed<A: Allocator + Copy>(
+    alloc: A,
+    sealed: &Sealed<A>,
+    asked: Asked,
+) -> Result<bool, Unread> {
+    match asked {
+        Asked::IsOnlyWitness => is_only_witness(alloc, sealed.history(), "2a 1c"),
+        Asked::Nothing(decisions) => {
+            let _order = order(alloc, decisions)?;
+            Ok(true)
+        }
+        Asked::IsTold(decisions, fault) => is_told(alloc, sealed, decisions, fault),
+        _ => Ok(true),
+    }
+}
+
+/// The answer to a question about facts.
+fn answer_of<A: Allocator + Copy>(
+    alloc: A,
+    facts: &Facts<A>,
+    asked: Asked,
+) -> Result<bool, Unread> {
+    match asked {
+        Asked::IsClosed => closes(alloc, &shape_from(alloc, facts)?, "1c", "none"),
+        Asked::AreOpen => {
+            let shape = shape_from(alloc, facts)?;
+            leaves_open(alloc, &shape, "1c", &["1a", "2c"])
+        }
+        Asked::IsDecided => is_decided(alloc, &shape_from(alloc, facts)?, "1c 2c"),
+        Asked::IsRefuted => refutes_five_counters(alloc, facts),
+        _ => {
+            let sealed = sealed_from(facts)?;
+            answer_of_sealed(alloc, &sealed, asked)
+        }
+    }
+}
+
+/// The answer, where that about facts is asked of a copy of them.
+fn answer<A: Allocator + Copy>(
+    alloc: A,
+    outside: Global,
+    facts: &Facts,
+    question: Question,
+) -> Result<bool, Unread> {
+    match question {
+        Question::OrderIsRead => are_decisions(alloc, "1c 2a 3c 4a 5c 6a 7c 8a 9c", 9),
+        Question::OrderIsWritten => is_written(alloc, "1c 2a 3c 4a 5c 6a 7c 8a 9c 1023a", 10),
+        Question::LineIsWritten => is_long_line(alloc, outside),
+        Question::SourceIsRead => is_read(alloc, outside),
+        Question::OfFacts(asked) => answer_of(alloc, &facts_on(alloc, facts)?, asked),
+    }
+}
+
+/// What comes of a growth that is refused.
+#[derive(Clone, Copy, PartialEq, Eq)]
+enum Outcome {
+    /// It was not asked for, and the answer was right.
+    Unmet,
+    /// Want of memory was told.
+    Told,
+    /// The answer was right all the same.
+    Passed,
+    /// The answer was wrong, or want of memory was told where there was none.
+    Wrong,
+}
+
+/// What comes of refusing the growth.
+fn refused(
+    alloc: Global,
+    facts: &Facts,
+    question: Question,
+    nth: u64,
+) -> Result<Outcome, AllocError> {
+    let refusing = Refusing::new(alloc, alloc, nth)?;
+    let answer = answer(&refusing, alloc, facts, question);
+    Ok(match (answer, refusing.was_met()) {
+        (Ok(true), false) => Outcome::Unmet,
+        (Ok(true), true) => Outcome::Passed,
+        (Err(Unread::OutOfMemory), true) => Outcome::Told,
+        _ => Outcome::Wrong,
+    })
+}
+
+/// How often want of memory was told, and how often the answer was right all the same, where each growth is refused in turn
+/// up to the first that is not asked for; none where an outcome was wrong.
+fn outcomes(
+    alloc: Global,
+    input: &str,
+    question: Question,
+    growths: u64,
+) -> Result<Option<(u64, u64)>, Unread> {
+    let facts = facts_of(alloc, input)?;
+    let mut told = 0u64;
+    let mut passed = 0u64;
+    for nth in 0..growths {
+        match refused(alloc, &facts, question, nth)? {
+            Outcome::Unmet => break,
+            Outcome::Told => told = told.wrapping_add(1),
+            Outcome::Passed => passed = passed.wrapping_add(1),
+            Outcome::Wrong => return Ok(None),
+        }
+    }
+    Ok(Some((told, passed)))
+}
+
+#[test]
+fn each_refusal_is_told(rt: HostRuntime) -> Result<(), Fail> {
+    let cases: [(Question, &str, u64, u64); 8] = [
+        (Question::OrderIsRead, NOTHING_HAPPENED, 0, 64),
+        (Question::OrderIsWritten, NOTHING_HAPPENED, 0, 64),
+        (Question::LineIsWritten, NOTHING_HAPPENED, 0, 64),
+        (Question::SourceIsRead, NOTHING_HAPPENED, 0, 64),
+        (
+            Question::OfFacts(Asked::AreSealed),
+            TORN_READ_THEN_ABORT,
+            3,
+            200,
+        ),
+        (
+            Question::OfFacts(Asked::IsClosed),
+            TORN_READ_THEN_ABORT,
+            20,
+            200,
+        ),
+        (
+            Question::OfFacts(Asked::AreOpen),
+            PENDING_COMMIT_IS_UNSEEN,
+            20,
+            200,
+        ),
+        (
+            Question::OfFacts(Asked::IsDecided),
+            READER_BEHIND_COMMIT,
+            20,
+            200,
+        ),
+    ];
+    for (row, (question, input, over, below)) in cases.iter().enumerate() {
+        let found = outcomes(rt.alloc(), input, *question, *below)?;
+        let (told, passed) = found.ok_or("right answers")?;
+        assert!(rt;
+            *over < told && told < *below && passed == 0,
+            "in row {row}: {told} told, {passed} passed"
+        );
+    }
+    Ok(())
+}
+
+#[test]
+fn what_is_forgotten_changes_no_answer(rt: HostRuntime) -> Result<(), Fail> {
+    let question = Question::OfFacts(Asked::IsRefuted);
+    let found = outcomes(rt.alloc(), COUNT_IS_LOST, question, 200)?;
+    let (_told, passed) = found.ok_or("right answers")?;
+    assert!(rt; passed > 10, "{passed} passed");
+    Ok(())
+}
+
+/// A vector asks again for just enough where more was refused, so not each refusal is an error; none is a wrong answer.
+#[test]
+fn brute_force_meets_each_refusal(rt: HostRuntime) -> Result<(), Fail> {
+    let question = Question::OfFacts(Asked::IsOnlyWitness);
+    let found = outcomes(rt.alloc(), BOTH_FIND_IT_ABSENT, question, 4000)?;
+    let (told, passed) = found.ok_or("right answers")?;
+    assert!(rt;
+        10 < told && told.wrapping_add(passed) < 4000,
+        "{told} told, {passed} passed"
+    );
+    Ok(())
+}
+
+/// Each growth of making the history and the order, and of what is told of it, is told.
+#[test]
+fn showing_meets_each_refusal(rt: HostRuntime) -> Result<(), Fail> {
+    let cases: [(&'static str, Option<OrderFault>); 2] = [
+        ("2c 1a", None),
+        ("1c 2c", Some(OrderFault::Illegal(2))),
+    ];
+    for (decisions, fault) in &cases {
+        let making = Question::OfFacts(Asked::Nothing(decisions));
+        let telling = Question::OfFacts(Asked::IsTold(decisions, *fault));
+        let (made, _passed) = outcomes(rt.alloc(), PENDING_COMMIT_IS_UNSEEN, making, 1000)?.ok_or(
+            "no fault",
+        )?;
+        let (told, passed) = outcomes(rt.alloc(), PENDING_COMMIT_IS_UNSEEN, telling, 1000)?.ok_or(
+            "the fault",
+        )?;
+        assert!(rt;
+            told > made.wrapping_add(5) && told < 1000 && passed == 0,
+            "{decisions}"
+        );
+    }
+    Ok(())
+}
