@@ -143,6 +143,8 @@ def small():
     queued = [("q", "enq", value, "done") for value in range(1, 10)]
     yield "9 enqueues and a bad deq", at_once([q], queued + [("q", "deq", None, -1)])
     yield "14 writers of one object among 256 and a bad read", at_once(many, written + [("x", "read", None, -1)])
+    apart = [(f"y{number}", "write", 1, "done") for number in range(16)]
+    yield "16 writers of an object each among 256 and a bad read", at_once(many, apart + [("x", "read", None, -1)])
 
 
 def timed(words, text, wanted, runs=3):
