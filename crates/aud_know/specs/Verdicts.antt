@@ -26,5 +26,6 @@ OfStatus plan held status.Sealed v =
     ((stamp : _) × ((rule : _) × (IsFirstFault (hist held.facts) stamp rule × (v ≡ verdict.IllFormed stamp rule)))) ⊎
     (IsWellFormed (hist held.facts) × OfWellFormed (IsClosed plan.objects (hist held.facts) held.cover []) held.witness v)
 
+-- what is to be said of what is known, by the status of its facts
 abbrev pub IsVerdict : {X : Type 0} → KnowledgeOf → Verdict X → Type 0
 IsVerdict k v = OfStatus k.plan k.held (status_of k.plan.logs k.held.facts) v

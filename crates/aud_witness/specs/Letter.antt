@@ -21,6 +21,8 @@ is_seen_by s t e = nat_eq e.0 t || (is_committed s e.0 && is_before s e.0 t)
 abbrev pub seen_by : History → ℕ → List Event
 seen_by s t = map (λ e. e.1) (filter (is_seen_by s t) s)
 
+-- opacity by the letter of the paper: a completion of H, and a sequential history equivalent to it that keeps the real-time order and
+-- in which each transaction sees what is legal
 pub record Letter (objects : List Declared) (h : History) : Type 0 where
   pub complete : History
   pub serial : History

@@ -62,11 +62,13 @@ pub record IsFull (h : History) (p : List Decision) : Type 0 where
   pub same : (t : ℕ) → is_named p t ≡ is_in h t
   pub allowed : list_all (λ d. is_allowed h d.tx d.fate) p ≡ true
 
+-- p shows H opaque: it is full, it keeps the real-time order, and what each transaction sees is legal
 pub record Shows (objects : List Declared) (h : History) (p : List Decision) : Type 0 where
   pub full : IsFull h p
   pub real_time : (t u : ℕ) → is_before h t u ≡ true → stands_before p t u ≡ true
   pub legal : (t : ℕ) → is_named p t ≡ true → IsLegal objects (visible h p t)
 
+-- some list of decisions shows H
 abbrev pub Opaque : List Declared → History → Type 0
 Opaque objects h = (p : List Decision) × Shows objects h p
 
