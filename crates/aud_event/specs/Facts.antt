@@ -1,6 +1,5 @@
 -- Which fault is told of a fact that does not fit its plan.
 use Rattle.std.specs.Prelude.{ℕ, Bool, if◌then◌else◌, List, Option, Some, None, nat_lt, nat_le, slice_get}
-use Rattle.aud_event.specs.declared.limits.TheConstants.{PLACES, STAMPS, TRANSACTIONS}
 use Rattle.aud_event.specs.declared.object.OpName.{OpName}
 use Rattle.aud_event.specs.declared.fact.Event.{Event}
 use Rattle.aud_event.specs.declared.fact.Event.TheVariants.{Inv, Ret, TryC, TryA, Commit, Abort}
@@ -10,6 +9,7 @@ use Rattle.aud_event.specs.declared.fact.Fact.{Fact}
 use Rattle.aud_event.specs.declared.fact.Fact.TheVariants.{Rec, End}
 use Rattle.aud_event.specs.declared.fact.FactFault.{FactFault}
 use Rattle.aud_event.specs.declared.fact.FactFault.TheVariants.{LogRange, AtRange, StampRange, TxRange, NoObject, OpKind, AnswerKind}
+use Rattle.aud_event.specs.Limits.{places, stamps, transactions}
 use Rattle.aud_event.specs.Meanings.{Declared, PlanOf}
 use Rattle.aud_event.specs.Objects.{name_of, is_of_kind, is_answer_of}
 
@@ -37,16 +37,16 @@ first_event_fault objects Abort = None
 abbrev pub first_record_fault : PlanOf → Record → Option FactFault
 first_record_fault plan r =
     if nat_le plan.logs r.log then Some LogRange
-    else (if nat_le PLACES r.at then Some AtRange
-    else (if nat_le STAMPS r.stamp then Some StampRange
-    else (if nat_le TRANSACTIONS r.tx then Some TxRange
+    else (if nat_le places r.at then Some AtRange
+    else (if nat_le stamps r.stamp then Some StampRange
+    else (if nat_le transactions r.tx then Some TxRange
     else first_event_fault plan.objects r.event)))
 
 -- the first fault of an end mark
 abbrev pub first_end_mark_fault : PlanOf → EndMark → Option FactFault
 first_end_mark_fault plan e =
     if nat_le plan.logs e.log then Some LogRange
-    else (if nat_lt PLACES e.count then Some AtRange
+    else (if nat_lt places e.count then Some AtRange
     else None)
 
 abbrev pub first_fact_fault : PlanOf → Fact → Option FactFault

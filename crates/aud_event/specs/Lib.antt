@@ -5,4 +5,5 @@ pub mod Facts
 pub mod Exact
 pub mod Exactness
 pub mod Laws
+pub mod Limits
 pub mod Words

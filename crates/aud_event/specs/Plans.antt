@@ -5,10 +5,10 @@ use Rattle.std.specs.BTreeMap.{BTreeMap, get_by_text}
 use Rattle.std.specs.declared.string.String.{String}
 use Rattle.std.specs.Char.{is_ascii_alphanumeric}
 use Rattle.std.specs.Ordering.{int_eq}
-use Rattle.aud_event.specs.declared.limits.TheConstants.{LOGS_MAX, OBJECTS_MAX, NAME_MAX, COUNTER_MIN, COUNTER_MAX}
 use Rattle.aud_event.specs.declared.object.ObjKind.TheVariants.{Register, Counter, SetOf, Queue}
 use Rattle.aud_event.specs.declared.plan.PlanFault.{PlanFault}
 use Rattle.aud_event.specs.declared.plan.PlanFault.TheVariants.{NoLogs, TooManyLogs, TooManyObjects, NameTwice, OpeningRange, BadName, OutOfMemory}
+use Rattle.aud_event.specs.Limits.{most_logs, most_objects, longest_name, least_opening, greatest_opening}
 use Rattle.aud_event.specs.Meanings.{Declared}
 
 -- an ASCII letter, a digit or an underscore
@@ -16,7 +16,7 @@ abbrev pub is_name_byte : ℕ → Bool
 is_name_byte b = is_ascii_alphanumeric b || nat_eq b 95
 
 abbrev pub is_name : List ℕ → Bool
-is_name name = nat_le 1 (length name) && nat_le (length name) NAME_MAX && list_all is_name_byte name
+is_name name = nat_le 1 (length name) && nat_le (length name) longest_name && list_all is_name_byte name
 
 -- whether a declaration has the name
 abbrev pub has_name : List ℕ → Declared → Bool
@@ -30,7 +30,7 @@ names_differ (d ∷ ds) = not (list_any (has_name d.name) ds) && names_differ ds
 abbrev pub is_opening : Declared → Bool
 is_opening d = elim d.kind [
   | Register ↦ true
-  | Counter ↦ int_le COUNTER_MIN d.opening && int_le d.opening COUNTER_MAX
+  | Counter ↦ int_le least_opening d.opening && int_le d.opening greatest_opening
   | SetOf ↦ int_eq d.opening (pos 0)
   | Queue ↦ int_eq d.opening (pos 0)
 ]
@@ -46,8 +46,8 @@ first_value_fault objects =
 abbrev pub first_plan_fault : ℕ → List Declared → Option PlanFault
 first_plan_fault logs objects =
     if nat_eq logs 0 then Some NoLogs
-    else (if nat_lt LOGS_MAX logs then Some TooManyLogs
-    else (if nat_lt OBJECTS_MAX (length objects) then Some TooManyObjects
+    else (if nat_lt most_logs logs then Some TooManyLogs
+    else (if nat_lt most_objects (length objects) then Some TooManyObjects
     else (if not (names_differ objects) then Some NameTwice
     else first_value_fault objects)))
 

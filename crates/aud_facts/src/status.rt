@@ -36,7 +36,8 @@ impl Kind {
 /// What a set of facts is: the first of these that holds.
 #[derive(Clone, Copy, Debug, PartialEq, Eq)]
 pub enum FactStatus {
-    /// Two facts contradict each other: the least kind, and the least log and place of that kind.
+    /// Two facts contradict each other: the least kind, and the least log and place of that kind. Of two counts, the log
+    /// and its least count are told instead.
     Conflict(Kind, u32, u32),
     /// The least log without an end mark, or with fewer records than its count.
     Waiting(u32),

@@ -98,6 +98,14 @@ fn a_plan_is_refused_for_its_first_fault(rt: HostRuntime) {
                 Some(PlanFault::OpeningRange),
             ),
             Faults(1, "c", ObjKind::Counter, -4_611_686_018_427_387_904, None),
+            Faults(
+                1,
+                "c",
+                ObjKind::Counter,
+                4_611_686_018_427_387_905,
+                Some(PlanFault::OpeningRange),
+            ),
+            Faults(1, "c", ObjKind::Counter, 4_611_686_018_427_387_904, None),
             Faults(1, "", ObjKind::SetOf, 0, Some(PlanFault::BadName)),
             Faults(1, "a-b", ObjKind::SetOf, 0, Some(PlanFault::BadName)),
             Faults(

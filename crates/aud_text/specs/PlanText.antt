@@ -5,7 +5,7 @@ use Rattle.serde_json.specs.Find.{as_object}
 use Rattle.aud_event.specs.Meanings.{Declared, PlanOf}
 use Rattle.aud_event.specs.Plans.{first_plan_fault}
 use Rattle.aud_event.specs.Words.{kind_of_word}
-use Rattle.aud_event.specs.declared.limits.TheConstants.{LOGS_MAX, OBJECTS_MAX}
+use Rattle.aud_event.specs.Limits.{most_logs, most_objects}
 use Rattle.aud_event.specs.declared.object.ObjKind.{ObjKind}
 use Rattle.aud_event.specs.declared.object.ObjKind.TheVariants.{Register, Counter, SetOf, Queue}
 use Rattle.aud_event.specs.declared.plan.PlanFault.{PlanFault}
@@ -53,8 +53,8 @@ header_read line = header_json (json_read 4096 line)
 abbrev pub header_fault : Header → Option PlanFault
 header_fault h =
     if nat_eq h.logs 0 then Some NoLogs
-    else (if nat_lt LOGS_MAX h.logs then Some TooManyLogs
-    else (if nat_lt OBJECTS_MAX h.objects then Some TooManyObjects
+    else (if nat_lt most_logs h.logs then Some TooManyLogs
+    else (if nat_lt most_objects h.objects then Some TooManyObjects
     else None))
 
 -- ---- an object line

@@ -1,12 +1,15 @@
 //! Writing the lines of facts.
 
-ghost use Rattle.std.specs.Prelude.{◌≡◌, Ok, None, IfOk, IfSome, OnOk, FitsSigned};
+ghost use Rattle.std.specs.Prelude.{◌≡◌, ◌≤◌, Ok, None, IfOk, IfSome, OnOk, FitsSigned, length};
 ghost use Rattle.std.specs.Int.{w64};
 ghost use Rattle.serde_json.specs.Data.{string, put as with_member};
 ghost use Rattle.serde_json.specs.View.{view, members_view};
 ghost use Rattle.serde_json.specs.Written.{compact_text};
+ghost use Rattle.aud_event.specs.declared.fact.Fact.{Fact as FactOf};
+ghost use Rattle.aud_event.specs.Meanings.{PlanOf};
+ghost use Rattle.aud_event.specs.Plans.{first_plan_fault};
 ghost use Rattle.aud_event.specs.Facts.{first_fact_fault};
-ghost use Rattle.aud_text.specs.FactText.{fact_read};
+ghost use Rattle.aud_text.specs.FactText.{fact_read, judged};
 ghost use Rattle.aud_text.specs.Written.{data_of, answer_data, argument_of, object_name, small_data, headed, tailed, operated, record_members, end_members, AnswerFits, EventFits, FactFits};
 
 use aud_event::{Answer, EndMark, Event, Fact, Op, OpName, OutOfMemory, Plan, Record};
@@ -186,3 +189,11 @@ pub fn write_fact<A: Allocator>(
     let line = value.to_vec(alloc)?;
     Ok(line)
 }
+
+/// The value that is written of a fact is judged as that fact, and its text fits a line, whatever the plan.
+pub fn facts_read_back()
+    ensures judged { (plan : PlanOf) (f : FactOf) → first_plan_fault plan.logs plan.objects ≡ None → FactFits f → first_fact_fault plan f ≡ None
+        → judged plan (data_of plan f) ≡ Ok f }
+    ensures short { (plan : PlanOf) (f : FactOf) → first_plan_fault plan.logs plan.objects ≡ None → FactFits f → first_fact_fault plan f ≡ None
+        → length (compact_text (data_of plan f)) ≤ 4096 }
+{}

@@ -1,7 +1,11 @@
 -- Laws of the definitions, each the contract of a function of src/laws.rt.
 use Rattle.std.specs.Prelude.{◌≡◌, ◌↔◌, ℕ, true, List, [], None}
+use Rattle.std.specs.Ordering.{nat_cmp, ordering_then}
 use Rattle.aud_event.specs.Meanings.{Declared}
+use Rattle.aud_witness.specs.declared.decision.Fate.{Fate}
+use Rattle.aud_witness.specs.declared.decision.Fate.TheVariants.{C, A}
 use Rattle.aud_witness.specs.declared.decision.Decision.{Decision}
+use Rattle.aud_witness.specs.DecisionOrder.{decision_cmp}
 use Rattle.aud_history.specs.Histories.{History}
 use Rattle.aud_history.specs.WellFormed.{IsWellFormed}
 use Rattle.aud_witness.specs.Orders.{is_named, are_named_once, visible, Shows, Opaque, Refuted, IsFull, IsGood}
@@ -9,6 +13,15 @@ use Rattle.aud_witness.specs.Enumeration.{shows, witnesses}
 use Rattle.aud_witness.specs.OrderFaults.{first_order_fault}
 use Rattle.aud_witness.specs.Selection.{seen}
 use Rattle.aud_witness.specs.Letter.{Letter}
+
+-- the place of a fate in the order of fates: C comes first
+abbrev pub fate_place : Fate → ℕ
+fate_place C = 0
+fate_place A = 1
+
+-- decisions are ordered by the transaction's number, and of one transaction C comes before A
+abbrev pub DecisionsAreOrdered : Type 0
+DecisionsAreOrdered = (d e : Decision) → decision_cmp d e ≡ ordering_then (nat_cmp d.tx e.tx) (nat_cmp (fate_place d.fate) (fate_place e.fate))
 
 -- a list shows a history exactly if it is full and good
 abbrev pub ShowsIsFullAndGood : Type 0

@@ -91,7 +91,7 @@ impl<A: Allocator + Copy> Agenda<A> {
     }
 
     /// The ends of the transactions that ended, the earliest first.
-    pub fn ends(&self) -> &[End]
+    pub(crate) fn ends(&self) -> &[End]
         ensures ends { result.now ≡ self.now.ends }
         ensures sound { AreEnds self.now.rows self.now.ends }
     {

@@ -2,7 +2,7 @@
 
 /// When a completed transaction ended: the stamp of its last event, and the place of its row.
 #[derive(Clone, Copy, Debug, PartialEq, Eq, PartialOrd, Ord)]
-pub struct End {
+pub(crate) struct End {
     pub last: u32,
     pub row: usize,
 }

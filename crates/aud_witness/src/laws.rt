@@ -2,7 +2,12 @@
 
 ghost use Rattle.aud_witness.specs.Sameness.{InterleavingIsFree, SerialIsOpaque, NamesAreFree, NeighboursMaySwap, KeptAreSerial, AbortedIsUnseen};
 ghost use Rattle.aud_witness.specs.Walks.{WalksAreGood};
-ghost use Rattle.aud_witness.specs.Laws.{ShowsIsFullAndGood, BadIsRefuted, TestIsDefinition, EnumerationIsWhole, NoFaultIsShows, VisibleIsSelection, OpaqueIsLetter, LetterIsOpaque};
+ghost use Rattle.aud_witness.specs.Laws.{DecisionsAreOrdered, ShowsIsFullAndGood, BadIsRefuted, TestIsDefinition, EnumerationIsWhole, NoFaultIsShows, VisibleIsSelection, OpaqueIsLetter, LetterIsOpaque};
+
+/// Decisions are ordered by the transaction's number, and of one transaction `C` comes before `A`.
+pub fn decisions_are_ordered()
+    ensures { DecisionsAreOrdered }
+{}
 
 /// A list shows a history exactly where it is full and each decision in turn is good.
 pub fn shows_is_full_and_good()

@@ -12,8 +12,6 @@ mod step;
 
 pub use agenda::{Agenda, allows};
 pub use decision::{Decision, Fate, Prefix};
-pub use end::End;
 pub use fault::OrderFault;
 pub use placing::Placing;
 pub use showing::shows;
-pub use step::Step;

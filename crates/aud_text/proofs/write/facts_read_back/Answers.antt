@@ -1,0 +1,10 @@
+use Rattle.aud_event.proofs.Names.{number_of-own}
+use Rattle.aud_text.proofs.Back.{back}
+use Rattle.aud_text.proofs.Sound.{sound}
+use Rattle.aud_text.proofs.write.facts_read_back.Goals as goal
+
+pub returns-clause-judged : goal.returns-clause-judged
+returns-clause-judged c plan f s fits e = (back plan f (sound plan s) number_of-own fits e).judges
+
+pub returns-clause-short : goal.returns-clause-short
+returns-clause-short c plan f s fits e = (back plan f (sound plan s) number_of-own fits e).short
