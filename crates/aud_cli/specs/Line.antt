@@ -1,17 +1,16 @@
 -- What may be said of an input.
-use Rattle.std.specs.Prelude.{◌≡◌, ℕ, List, [], Option, Some, None, Result, Ok, Err, string_bytes}
+use Rattle.std.specs.Prelude.{◌≡◌, ℕ, List, [], Option, Some, Result, Ok, Err, string_bytes}
+use Rattle.aud_event.specs.declared.fact.Fact.{Fact}
 use Rattle.aud_event.specs.Meanings.{PlanOf}
 use Rattle.aud_history.specs.Histories.{History}
-use Rattle.aud_history.specs.WellFormed.{IsWellFormed}
-use Rattle.aud_history.specs.FirstFault.{IsFirstFault}
 use Rattle.aud_witness.specs.declared.decision.Decision.{Decision}
 use Rattle.aud_witness.specs.Orders.{Shows, Opaque}
 use Rattle.aud_witness.specs.OrderFaults.{first_order_fault}
-use Rattle.aud_facts.specs.Status.{status_of, hist}
+use Rattle.aud_facts.specs.Status.{hist}
 use Rattle.aud_event.specs.contracts.fact.FactOrd.TheImpl as fact_ord
 use Rattle.aud_lattice.specs.Sets.{inserted}
-use Rattle.aud_facts.specs.declared.status.FactStatus.{FactStatus}
-use Rattle.aud_facts.specs.declared.status.FactStatus.TheVariants as status
+use Rattle.aud_know.specs.Verdicts.{FactsTell}
+use Rattle.aud_know.specs.declared.verdict.Verdict.TheVariants as verdict
 use Rattle.aud_search.specs.Searches.{SpentBy}
 use Rattle.aud_text.specs.Orders.{order_read}
 use Rattle.aud_text.specs.declared.fault.TextFault.{TextFault}
@@ -31,16 +30,16 @@ Answers = PlanOf → History → Said → Type 0
 
 -- check: `opaque` with the order if it shows the history, else the order's fault
 abbrev pub CheckSays : List Decision → Answers
-CheckSays order plan h (said.Opaque p) = (p ≡ order) × Shows plan.objects h order
+CheckSays order plan h (said.Verdict (verdict.Opaque p)) = (p ≡ order) × Shows plan.objects h order
 CheckSays order plan h (said.OrderRefused e) = first_order_fault plan.objects h order ≡ Some e
 CheckSays order plan h _ = ⊥
 
 -- decide: `opaque` with any order that shows the history, or `not opaque` if none does; where there is a budget, or
 -- `unfinished` if it can be spent with neither found
 abbrev pub DecideSays : Option ℕ → Answers
-DecideSays budget plan h (said.Opaque p) = Shows plan.objects h p
-DecideSays budget plan h said.NotOpaque = Opaque plan.objects h → ⊥
-DecideSays (Some b) plan h said.Unfinished = SpentBy plan.objects h [] b
+DecideSays budget plan h (said.Verdict (verdict.Opaque p)) = Shows plan.objects h p
+DecideSays budget plan h (said.Verdict verdict.NotOpaque) = Opaque plan.objects h → ⊥
+DecideSays (Some b) plan h (said.Verdict verdict.Unfinished) = SpentBy plan.objects h [] b
 DecideSays budget plan h _ = ⊥
 
 -- what may be said where this is asked
@@ -48,26 +47,14 @@ abbrev pub QuestionSays : Question → Answers
 QuestionSays (question.Shows order) = CheckSays order
 QuestionSays (question.Any budget) = DecideSays budget
 
--- ill-formedness, if the history is not well-formed, else the answer
-abbrev pub HistorySays : Answers → Answers
-HistorySays A plan h (said.IllFormed rule stamp) = IsFirstFault h stamp rule
-HistorySays A plan h s = IsWellFormed h × A plan h s
-
--- what is said of facts that are not sealed
-abbrev pub status_said : FactStatus → Option Said
-status_said (status.Conflict kind log at) = Some (said.Conflict kind log at)
-status_said (status.Waiting log) = Some (said.Waiting log)
-status_said (status.Gap stamp) = Some (said.Gap stamp)
-status_said status.Sealed = None
-
--- the status, if the facts are not sealed, else what is said of their history
-abbrev pub StatusSays : Option Said → Answers → Answers
-StatusSays (Some t) A plan h s = s ≡ t
-StatusSays None A plan h s = HistorySays A plan h s
+-- of a set of facts: the status, if they are not sealed, ill-formedness, if their history is not well-formed, else the
+-- answer
+abbrev pub SetSays : Answers → PlanOf → List Fact → Said → Type 0
+SetSays A plan facts s = FactsTell said.Verdict plan.logs facts (A plan (hist facts)) s
 
 -- the same of the facts of an input, as a set
 abbrev pub FactsSay : Answers → InputOf → Said → Type 0
-FactsSay A i s = let facts = inserted fact_ord.ghosts.cmp i.facts [] in StatusSays (status_said (status_of i.plan.logs facts)) A i.plan (hist facts) s
+FactsSay A i s = SetSays A i.plan (inserted fact_ord.ghosts.cmp i.facts []) s
 
 -- the plan's or the first refused line's refusal, else what is said of the facts
 abbrev pub InputSays : Answers → Result InputOf InputFault → Said → Type 0

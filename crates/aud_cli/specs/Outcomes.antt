@@ -1,5 +1,7 @@
 -- How a run ends, and what it leaves of its source and its sink.
 use Rattle.std.specs.Prelude.{◌≡◌, ◌+◌, ◌++◌, ℕ, List}
+use Rattle.aud_know.specs.declared.verdict.Verdict.{Verdict}
+use Rattle.aud_know.specs.declared.verdict.Verdict.TheVariants as verdict
 use Rattle.aud_report.specs.Devices.{BeginsOnly}
 use Rattle.aud_report.specs.Lines.{line_of}
 use Rattle.aud_report.specs.declared.said.Said.{Said}
@@ -9,15 +11,19 @@ use Rattle.aud_cli.specs.declared.ended.Cause.TheVariants.{Memory, Input, Output
 use Rattle.aud_cli.specs.declared.ended.Ended.{Ended}
 use Rattle.aud_cli.specs.declared.ended.Ended.TheVariants as ended
 
+-- how a run ends that says this verdict
+abbrev pub verdict_ends : {X : Type 0} → Verdict X → Ended
+verdict_ends (verdict.Opaque order) = ended.Opaque
+verdict_ends verdict.NotOpaque = ended.NotOpaque
+verdict_ends verdict.Unfinished = ended.Unfinished
+verdict_ends (verdict.Conflict kind log at) = ended.Refused
+verdict_ends (verdict.Waiting log) = ended.Refused
+verdict_ends (verdict.Gap stamp) = ended.Refused
+verdict_ends (verdict.IllFormed stamp rule) = ended.Refused
+
 -- how a run ends that says this
 abbrev pub ended_by : Said → Ended
-ended_by (said.Opaque order) = ended.Opaque
-ended_by said.NotOpaque = ended.NotOpaque
-ended_by said.Unfinished = ended.Unfinished
-ended_by (said.Conflict kind log at) = ended.Refused
-ended_by (said.Waiting log) = ended.Refused
-ended_by (said.Gap stamp) = ended.Refused
-ended_by (said.IllFormed rule stamp) = ended.Refused
+ended_by (said.Verdict v) = verdict_ends v
 ended_by (said.OrderRefused e) = ended.Refused
 ended_by (said.OrderTextRefused e) = ended.Refused
 ended_by (said.PlanRefused e) = ended.Refused

@@ -1,8 +1,9 @@
 //! How a run ends.
 
 ghost use Rattle.std.specs.Prelude.{◌≡◌};
-ghost use Rattle.aud_cli.specs.Outcomes.{ended_by, status_of};
+ghost use Rattle.aud_cli.specs.Outcomes.{ended_by, status_of, verdict_ends};
 
+use aud_know::Verdict;
 use aud_report::Said;
 
 /// What a run failed for.
@@ -46,19 +47,28 @@ impl Ended {
     }
 }
 
+/// How a run ends that says this verdict.
+fn end_of_verdict(verdict: &Verdict) -> Ended
+    ensures { result ≡ verdict_ends verdict.now }
+{
+    match verdict {
+        Verdict::Opaque(_) => Ended::Opaque,
+        Verdict::NotOpaque => Ended::NotOpaque,
+        Verdict::Unfinished => Ended::Unfinished,
+        Verdict::Conflict(_, _, _)
+        | Verdict::Waiting(_)
+        | Verdict::Gap(_)
+        | Verdict::IllFormed(_, _) => Ended::Refused,
+    }
+}
+
 /// How a run ends that says this.
 pub(crate) fn end_of(said: &Said) -> Ended
     ensures { result ≡ ended_by said.now }
 {
     match said {
-        Said::Opaque(_) => Ended::Opaque,
-        Said::NotOpaque => Ended::NotOpaque,
-        Said::Unfinished => Ended::Unfinished,
-        Said::Conflict(_, _, _)
-        | Said::Waiting(_)
-        | Said::Gap(_)
-        | Said::IllFormed(_, _)
-        | Said::OrderRefused(_)
+        Said::Verdict(verdict) => end_of_verdict(verdict),
+        Said::OrderRefused(_)
         | Said::OrderTextRefused(_)
         | Said::PlanRefused(_)
         | Said::RecordRefused(_, _) => Ended::Refused,

@@ -7,6 +7,7 @@ ghost use Rattle.aud_cli.specs.Line.{CheckSays, DecideSays, QuestionSays};
 use aud_event::OutOfMemory;
 use aud_facts::Sealed;
 use aud_history::History;
+use aud_know::Verdict;
 use aud_order::Shape;
 use aud_report::Said;
 use aud_search::{Decided, Outcome, decide, explore};
@@ -28,7 +29,7 @@ fn answer_check(alloc: Global, order: Prefix, history: &History) -> Result<Said,
     ensures { IfOk result (CheckSays order history.now.plan history.now.events) }
 {
     match shows(alloc, history, &order)? {
-        Ok(()) => Ok(Said::Opaque(order)),
+        Ok(()) => Ok(Said::Verdict(Verdict::Opaque(order))),
         Err(fault) => Ok(Said::OrderRefused(fault)),
     }
 }
@@ -37,9 +38,9 @@ fn answer_explore(alloc: Global, budget: u64, shape: &Shape) -> Result<Said, Out
     ensures { IfOk result (DecideSays (Some budget) shape.now.sealed.facts.plan shape.now.sealed.history) }
 {
     match explore(alloc, shape, &Prefix::empty(alloc), budget)? {
-        Outcome::Witness(order) => Ok(Said::Opaque(order)),
-        Outcome::Refuted => Ok(Said::NotOpaque),
-        Outcome::Spent => Ok(Said::Unfinished),
+        Outcome::Witness(order) => Ok(Said::Verdict(Verdict::Opaque(order))),
+        Outcome::Refuted => Ok(Said::Verdict(Verdict::NotOpaque)),
+        Outcome::Spent => Ok(Said::Verdict(Verdict::Unfinished)),
     }
 }
 
@@ -47,8 +48,8 @@ fn answer_decide(alloc: Global, shape: &Shape) -> Result<Said, OutOfMemory>
     ensures { IfOk result (DecideSays None shape.now.sealed.facts.plan shape.now.sealed.history) }
 {
     match decide(alloc, shape)? {
-        Decided::Opaque(order) => Ok(Said::Opaque(order)),
-        Decided::NotOpaque => Ok(Said::NotOpaque),
+        Decided::Opaque(order) => Ok(Said::Verdict(Verdict::Opaque(order))),
+        Decided::NotOpaque => Ok(Said::Verdict(Verdict::NotOpaque)),
     }
 }
 

@@ -1,8 +1,7 @@
 //! Runs over the lines of an input.
 
-ghost use Rattle.std.specs.Prelude.{◌≡◌, ◌≢◌, Some, IfOk};
-ghost use Rattle.aud_facts.specs.Status.{status_of};
-ghost use Rattle.aud_cli.specs.Line.{FactsSay, HistorySays, InputSays, Line, QuestionSays, status_said};
+ghost use Rattle.std.specs.Prelude.{IfOk};
+ghost use Rattle.aud_cli.specs.Line.{FactsSay, InputSays, Line, QuestionSays, SetSays};
 ghost use Rattle.aud_cli.specs.Inputs.{input_read};
 ghost use Rattle.aud_cli.specs.Outcomes.{Outcome};
 
@@ -11,36 +10,19 @@ use crate::input::{Input, InputFault, read_input};
 use crate::job::Job;
 use crate::question::Question;
 use aud_event::OutOfMemory;
-use aud_facts::{FactStatus, Facts, Sealed};
+use aud_facts::Facts;
+use aud_know::well_formed_history;
 use aud_report::{ReadFault, Said, Sink, Source, read_all, write_all, write_line};
 use aud_text::{TextFault, read_order};
 use std::alloc::Global;
 use std::sync::Arc;
 
-/// What is said of a history that is well-formed, or where it stops being so.
-fn judge_history(
-    alloc: Global,
-    question: Question,
-    sealed: Arc<Sealed>,
-) -> Result<Said, OutOfMemory>
-    ensures { IfOk result (HistorySays (QuestionSays question) sealed.value.facts.plan sealed.value.history) }
+fn judge_facts(alloc: Global, question: Question, facts: &Facts) -> Result<Said, OutOfMemory>
+    ensures { IfOk result (SetSays (QuestionSays question) facts.now.plan facts.now.facts) }
 {
-    match sealed.history().first_fault() {
-        Some((stamp, rule)) => Ok(Said::IllFormed(rule, stamp)),
-        None => question.answer(alloc, sealed),
-    }
-}
-
-/// Why the facts have no history yet.
-fn open_status(facts: &Facts) -> Said
-    requires { status_of facts.now.plan.logs facts.now.facts ≢ FactStatus.Sealed }
-    ensures { status_said (status_of facts.now.plan.logs facts.now.facts) ≡ Some result }
-{
-    match facts.status() {
-        FactStatus::Conflict(kind, log, place) => Said::Conflict(kind, log, place),
-        FactStatus::Waiting(log) => Said::Waiting(log),
-        FactStatus::Gap(stamp) => Said::Gap(stamp),
-        FactStatus::Sealed => unreachable!(),
+    match well_formed_history(facts)? {
+        Ok(sealed) => question.answer(alloc, sealed),
+        Err(told) => Ok(Said::Verdict(told)),
     }
 }
 
@@ -50,10 +32,7 @@ fn judge_input(alloc: Global, question: Question, input: Input) -> Result<Said, 
     let (plan, list) = input.into_parts();
     let plan = Arc::new(alloc, plan)?;
     let facts = Facts::from_vec(alloc, plan, list)?;
-    match facts.seal()? {
-        Some(sealed) => judge_history(alloc, question, sealed),
-        None => Ok(open_status(&facts)),
-    }
+    judge_facts(alloc, question, &facts)
 }
 
 fn judge(alloc: Global, question: Question, text: &[u8]) -> Result<Said, OutOfMemory>

@@ -1,5 +1,5 @@
 -- What a verdict says.
-use Rattle.std.specs.Prelude.{◌≡◌, ◌↔◌, ◌⊎◌, ℕ, List, [], ◌∷◌, ◌++◌, length, Option, Some, None, Result, Ok, Err, refl}
+use Rattle.std.specs.Prelude.{◌≡◌, ◌↔◌, ◌⊎◌, ℕ, List, [], ◌∷◌, ◌++◌, length, Option, Some, None, Result, Ok, Err, MatchResult, refl}
 use Rattle.std.proofs.Common.{sym, ap, subst, ◌∙◌, inl, inr}
 use Rattle.aud_event.specs.declared.fact.Event.{Event}
 use Rattle.aud_event.specs.declared.fact.Fact.{Fact}
@@ -16,7 +16,7 @@ use Rattle.aud_facts.specs.declared.status.FactStatus.{FactStatus}
 use Rattle.aud_facts.specs.declared.status.FactStatus.TheVariants as status
 use Rattle.aud_facts.specs.Growth.{IsConflict}
 use Rattle.aud_facts.specs.Quiet.{AreQuiet, QuietIsNoConflict}
-use Rattle.aud_facts.specs.Sets.{FactsOf, SealedOf}
+use Rattle.aud_facts.specs.Sets.{FactsOf, SealedOf, IsSealedWith}
 use Rattle.aud_facts.specs.Status.{status_of, hist}
 use Rattle.aud_witness.specs.declared.decision.Decision.{Decision}
 use Rattle.aud_witness.specs.Orders.{Refuted, Shows}
@@ -25,12 +25,53 @@ use Rattle.aud_cover.specs.Closings.{IsClosed}
 use Rattle.aud_cover.specs.Laws.{ClosedIsRefuted}
 use Rattle.aud_know.specs.Known.{Held, KnowledgeOf}
 use Rattle.aud_know.specs.Truth.{AreWhole, IsKnowledge}
-use Rattle.aud_know.specs.Verdicts.{OfWellFormed, OfStatus, IsVerdict}
+use Rattle.aud_know.specs.Verdicts.{OfWellFormed, StatusTells, FactsTell, FactsTellAtOnce, status_told, IsVerdict}
 use Rattle.aud_know.specs.Laws.{VerdictIsOne, OpaqueIsShown, NotOpaqueIsRefuted}
 use Rattle.aud_know.specs.declared.verdict.Verdict.{Verdict}
 use Rattle.aud_know.specs.declared.verdict.Verdict.TheVariants as verdict
 
 -- # What is said
+
+abbrev OfStatus : {X : Type 0} → PlanOf → Held → FactStatus → Verdict X → Type 0
+OfStatus plan held s v = StatusTells (λ told. told) (hist held.facts) (OfWellFormed (IsClosed plan.objects (hist held.facts) held.cover []) held.witness) (status_told s) v
+
+-- only of sealed facts the status tells nothing
+pub tells_nothing : (X : Type 0) (s : FactStatus) → status_told {X = X} s ≡ None → s ≡ status.Sealed
+tells_nothing X (status.Conflict kind log at) e = cc
+tells_nothing X (status.Waiting log) e = cc
+tells_nothing X (status.Gap stamp) e = cc
+tells_nothing X status.Sealed e = refl
+
+-- of facts with a well-formed history the answer is told
+pub answered : {X S : Type 0} (told : Verdict X → S) (logs : ℕ) (facts : List Fact) (Answers : S → Type 0) (s : S) →
+    status_of logs facts ≡ status.Sealed → IsWellFormed (hist facts) → Answers s → FactsTell told logs facts Answers s
+answered told logs facts Answers s sealed well answer = subst (λ st. StatusTells told (hist facts) Answers (status_told st) s) (sym sealed) (inr (well, answer))
+
+-- of facts with a history the rule is told that it breaks first
+pub ill_formed : (X : Type 0) (facts : FactsOf) (h : History) (stamp : ℕ) (rule : Rule) → IsSealedWith facts h → IsFirstFault h stamp rule →
+    FactsTellAtOnce {X = X} facts.plan.logs facts.facts (verdict.IllFormed stamp rule)
+ill_formed X facts h stamp rule s fault =
+    subst (λ st. StatusTells {X = X} (λ told. told) (hist facts.facts) (λ answer. ⊥) (status_told st) (verdict.IllFormed stamp rule)) (sym s.sealed)
+    (inl (stamp, (rule, (subst (λ (e : History). IsFirstFault e stamp rule) s.events fault, refl))))
+
+-- what is read of the history of facts is read of the facts
+pub read : {X Y : Type 0} (facts : FactsOf) (v : SealedOf) (value : Y → SealedOf) (r : Result Y (Verdict X)) → v.facts ≡ facts → IsSealedWith facts v.history →
+    MatchResult r (λ s. (value s ≡ v) × IsWellFormed v.history) (λ told. FactsTellAtOnce v.facts.plan.logs v.facts.facts told) →
+    MatchResult r (λ s. ((value s).facts ≡ facts) × IsSealedWith facts (value s).history × IsWellFormed (value s).history) (λ told. FactsTellAtOnce facts.plan.logs facts.facts told)
+read facts v value (Ok s) is sealed h =
+    let both : IsSealedWith facts (value s).history × IsWellFormed (value s).history = subst (λ (w : SealedOf). IsSealedWith facts w.history × IsWellFormed w.history) (sym h.0) (sealed, h.1) in
+    (ap (λ (w : SealedOf). w.facts) h.0 ∙ is, both.0, both.1)
+read facts v value (Err told) is sealed h = subst (λ (f : FactsOf). FactsTellAtOnce f.plan.logs f.facts told) is h
+
+-- what is told at once is told whatever is asked
+pub told_at_once : {X S : Type 0} (told : Verdict X → S) (logs : ℕ) (facts : List Fact) (Answers : S → Type 0) (v : Verdict X) →
+    FactsTellAtOnce logs facts v → FactsTell told logs facts Answers (told v)
+told_at_once {X} {S} told logs facts Answers v = by_status (status_told (status_of logs facts))
+  where
+    by_status : (o : Option (Verdict X)) → StatusTells (λ w. w) (hist facts) (λ answer. ⊥) o v → StatusTells told (hist facts) Answers o (told v)
+    by_status (Some w) is = ap told is
+    by_status None (inl (stamp, (rule, (fault, is)))) = inl (stamp, (rule, (fault, ap told is)))
+    by_status None (inr both) = absurd both.1
 
 quiet_of_sealed : QuietIsNoConflict → (logs : ℕ) (facts : List Fact) → status_of logs facts ≡ status.Sealed → AreQuiet facts
 quiet_of_sealed law logs facts sealed = (law logs facts).1 (λ conflict. subst IsConflict sealed conflict)

@@ -1,13 +1,11 @@
 -- Laws of normal forms and of verdicts, each the contract of a function of src/laws.rt.
 use Rattle.std.specs.Prelude.{◌≡◌, ◌↔◌, List, [], ◌++◌}
 use Rattle.std.specs.List.{Contains}
-use Rattle.aud_facts.specs.Status.{hist}
 use Rattle.aud_witness.specs.declared.decision.Decision.{Decision}
-use Rattle.aud_witness.specs.Orders.{Refuted, Shows}
 use Rattle.aud_know.specs.Norms.{atoms_of}
 use Rattle.aud_know.specs.Known.{KnownAtom, Held, norm_of, KnowledgeOf, knowing}
 use Rattle.aud_know.specs.Members.{IsNormOf}
-use Rattle.aud_know.specs.Truth.{IsKnowledge, AreWhole}
+use Rattle.aud_know.specs.Truth.{IsKnowledge, AreShownBy, AreRefutedAt}
 use Rattle.aud_know.specs.Verdicts.{IsVerdict}
 use Rattle.aud_know.specs.declared.verdict.Verdict.{Verdict}
 use Rattle.aud_know.specs.declared.verdict.Verdict.TheVariants as verdict
@@ -34,8 +32,8 @@ VerdictIsOne X = (k : KnowledgeOf) (v w : Verdict X) → IsVerdict k v → IsVer
 
 -- Opaque is said of a sealed well-formed history only with an order that shows it
 abbrev pub OpaqueIsShown : Type 0 → Type 0
-OpaqueIsShown X = (k : KnowledgeOf) (p : List Decision) → IsKnowledge k.plan k.held → IsVerdict {X = X} k (verdict.Opaque p) → AreWhole k.plan k.held.facts × Shows k.plan.objects (hist k.held.facts) p
+OpaqueIsShown X = (k : KnowledgeOf) (p : List Decision) → IsKnowledge k.plan k.held → IsVerdict {X = X} k (verdict.Opaque p) → AreShownBy k.plan k.held.facts p
 
 -- NotOpaque is said of one only where no order shows it
 abbrev pub NotOpaqueIsRefuted : Type 0 → Type 0
-NotOpaqueIsRefuted X = (k : KnowledgeOf) → IsKnowledge k.plan k.held → IsVerdict {X = X} k verdict.NotOpaque → AreWhole k.plan k.held.facts × Refuted k.plan.objects (hist k.held.facts) []
+NotOpaqueIsRefuted X = (k : KnowledgeOf) → IsKnowledge k.plan k.held → IsVerdict {X = X} k verdict.NotOpaque → AreRefutedAt k.plan k.held.facts []

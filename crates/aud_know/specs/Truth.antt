@@ -20,11 +20,19 @@ pub record AreWhole (plan : PlanOf) (facts : List Fact) : Type 0 where
   pub sealed : status_of plan.logs facts ≡ Sealed
   pub well_formed : IsWellFormed (hist facts)
 
+-- the facts are whole, and the order shows their history
+abbrev pub AreShownBy : PlanOf → List Fact → List Decision → Type 0
+AreShownBy plan facts p = AreWhole plan facts × Shows plan.objects (hist facts) p
+
+-- the facts are whole, and no order that begins with the list shows their history
+abbrev pub AreRefutedAt : PlanOf → List Fact → List Decision → Type 0
+AreRefutedAt plan facts p = AreWhole plan facts × Refuted plan.objects (hist facts) p
+
 -- if the facts conflict nowhere, and there is any refuted list or a witness, then they are sealed, their history is
 -- well-formed, no list that begins with a refuted one shows it, and the witness does
 pub record IsTrue (plan : PlanOf) (held : Held) : Type 0 where
-  pub refuted : AreQuiet held.facts → (p : List Decision) → Contains held.cover p → AreWhole plan held.facts × Refuted plan.objects (hist held.facts) p
-  pub shown : AreQuiet held.facts → (p : List Decision) → held.witness ≡ Some p → AreWhole plan held.facts × Shows plan.objects (hist held.facts) p
+  pub refuted : AreQuiet held.facts → (p : List Decision) → Contains held.cover p → AreRefutedAt plan held.facts p
+  pub shown : AreQuiet held.facts → (p : List Decision) → held.witness ≡ Some p → AreShownBy plan held.facts p
 
 -- each part is in normal form, every fact passes the plan's check, and all is true
 pub record IsKnowledge (plan : PlanOf) (held : Held) : Type 0 where

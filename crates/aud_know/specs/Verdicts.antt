@@ -1,6 +1,7 @@
 -- The verdict on what is known.
-use Rattle.std.specs.Prelude.{◌≡◌, ◌⊎◌, List, [], Option, Some, None}
-use Rattle.aud_event.specs.Meanings.{PlanOf}
+use Rattle.std.specs.Prelude.{◌≡◌, ◌⊎◌, ℕ, List, [], Option, Some, None}
+use Rattle.aud_event.specs.declared.fact.Fact.{Fact}
+use Rattle.aud_history.specs.Histories.{History}
 use Rattle.aud_history.specs.WellFormed.{IsWellFormed}
 use Rattle.aud_history.specs.FirstFault.{IsFirstFault}
 use Rattle.aud_facts.specs.declared.status.FactStatus.{FactStatus}
@@ -8,7 +9,7 @@ use Rattle.aud_facts.specs.declared.status.FactStatus.TheVariants as status
 use Rattle.aud_facts.specs.Status.{status_of, hist}
 use Rattle.aud_witness.specs.declared.decision.Decision.{Decision}
 use Rattle.aud_cover.specs.Closings.{IsClosed}
-use Rattle.aud_know.specs.Known.{Held, KnowledgeOf}
+use Rattle.aud_know.specs.Known.{KnowledgeOf}
 use Rattle.aud_know.specs.declared.verdict.Verdict.{Verdict}
 use Rattle.aud_know.specs.declared.verdict.Verdict.TheVariants as verdict
 
@@ -17,15 +18,33 @@ abbrev pub OfWellFormed : {X : Type 0} → Type 0 → Option (List Decision) →
 OfWellFormed Closed (Some p) v = v ≡ verdict.Opaque p
 OfWellFormed Closed None v = ((v ≡ verdict.NotOpaque) × Closed) ⊎ ((v ≡ verdict.Unfinished) × (Closed → ⊥))
 
--- the first that holds: a conflict, a log that waits, a gap; the rule that the history breaks; and what is known of it
-abbrev pub OfStatus : {X : Type 0} → PlanOf → Held → FactStatus → Verdict X → Type 0
-OfStatus plan held (status.Conflict kind log at) v = v ≡ verdict.Conflict kind log at
-OfStatus plan held (status.Waiting log) v = v ≡ verdict.Waiting log
-OfStatus plan held (status.Gap stamp) v = v ≡ verdict.Gap stamp
-OfStatus plan held status.Sealed v =
-    ((stamp : _) × ((rule : _) × (IsFirstFault (hist held.facts) stamp rule × (v ≡ verdict.IllFormed stamp rule)))) ⊎
-    (IsWellFormed (hist held.facts) × OfWellFormed (IsClosed plan.objects (hist held.facts) held.cover []) held.witness v)
+-- what is told of facts by their status alone
+abbrev pub status_told : {X : Type 0} → FactStatus → Option (Verdict X)
+status_told (status.Conflict kind log at) = Some (verdict.Conflict kind log at)
+status_told (status.Waiting log) = Some (verdict.Waiting log)
+status_told (status.Gap stamp) = Some (verdict.Gap stamp)
+status_told status.Sealed = None
 
--- what is to be said of what is known, by the status of its facts
+-- of a history: the first rule that it breaks, or what is answered of it where it is well-formed
+abbrev pub HistoryTells : {X S : Type 0} → (Verdict X → S) → History → (S → Type 0) → S → Type 0
+HistoryTells told h Answers s =
+    ((stamp : _) × ((rule : _) × (IsFirstFault h stamp rule × (s ≡ told (verdict.IllFormed stamp rule))))) ⊎ (IsWellFormed h × Answers s)
+
+abbrev pub StatusTells : {X S : Type 0} → (Verdict X → S) → History → (S → Type 0) → Option (Verdict X) → S → Type 0
+StatusTells told h Answers (Some v) s = s ≡ told v
+StatusTells told h Answers None s = HistoryTells told h Answers s
+
+-- of facts: the first that holds of a conflict, a log that waits, a gap, and a rule that their history breaks, as it is
+-- told; else what is answered of the history
+abbrev pub FactsTell : {X S : Type 0} → (Verdict X → S) → ℕ → List Fact → (S → Type 0) → S → Type 0
+FactsTell told logs facts Answers s = StatusTells told (hist facts) Answers (status_told (status_of logs facts)) s
+
+-- what is told before any answer
+abbrev pub FactsTellAtOnce : {X : Type 0} → ℕ → List Fact → Verdict X → Type 0
+FactsTellAtOnce logs facts v = FactsTell (λ told. told) logs facts (λ answer. ⊥) v
+
+-- the verdict on what is known: what its facts tell, the answer being the witness, or whether the cover closes all orders
 abbrev pub IsVerdict : {X : Type 0} → KnowledgeOf → Verdict X → Type 0
-IsVerdict k v = OfStatus k.plan k.held (status_of k.plan.logs k.held.facts) v
+IsVerdict k v =
+    FactsTell (λ told. told) k.plan.logs k.held.facts
+    (OfWellFormed (IsClosed k.plan.objects (hist k.held.facts) k.held.cover []) k.held.witness) v

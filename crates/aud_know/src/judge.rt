@@ -1,18 +1,17 @@
 //! The verdict on what is known.
 
-ghost use Rattle.std.specs.Prelude.{◌≡◌, [], None, IfOk};
-ghost use Rattle.aud_facts.specs.Status.{status_of, hist};
+ghost use Rattle.std.specs.Prelude.{◌≡◌, [], None, Some, IfOk};
 ghost use Rattle.aud_history.specs.WellFormed.{IsWellFormed};
-ghost use Rattle.aud_witness.specs.Orders.{Refuted, Shows};
-ghost use Rattle.aud_know.specs.Truth.{AreWhole};
+ghost use Rattle.aud_know.specs.Truth.{AreShownBy, AreRefutedAt};
 ghost use Rattle.aud_know.specs.Verdicts.{IsVerdict};
 
 use crate::knowledge::Knowledge;
+use crate::reading::well_formed_history;
 use crate::verdict::Verdict;
 use aud_cover::{closed, closed_is_refuted};
 use aud_event::{Dup, OutOfMemory};
+use aud_facts::Sealed;
 use aud_facts::laws::quiet_is_no_conflict;
-use aud_facts::{FactStatus, Sealed};
 use aud_order::Shape;
 use aud_witness::Prefix;
 use std::alloc::Allocator;
@@ -24,8 +23,8 @@ impl<A: Allocator + Copy> Knowledge<A> {
     /// as a history, and its cover walked.
     pub fn verdict(&self) -> Result<Verdict<A>, OutOfMemory>
         ensures first { IfOk result (λ v. IsVerdict self.now v) }
-        ensures opaque { IfOk result (λ v. (p : _) → v ≡ Verdict.Opaque p → AreWhole self.now.plan self.now.held.facts × Shows self.now.plan.objects (hist self.now.held.facts) p) }
-        ensures not_opaque { IfOk result (λ v. v ≡ Verdict.NotOpaque → AreWhole self.now.plan self.now.held.facts × Refuted self.now.plan.objects (hist self.now.held.facts) []) }
+        ensures opaque { IfOk result (λ v. (p : _) → v ≡ Verdict.Opaque p → AreShownBy self.now.plan self.now.held.facts p) }
+        ensures not_opaque { IfOk result (λ v. v ≡ Verdict.NotOpaque → AreRefutedAt self.now.plan self.now.held.facts []) }
     {
         quiet_is_no_conflict();
         closed_is_refuted();
@@ -38,40 +37,35 @@ impl<A: Allocator + Copy> Knowledge<A> {
     fn judged(&self) -> Result<Verdict<A>, OutOfMemory>
         ensures { IfOk result (λ v. IsVerdict self.now v) }
     {
-        match self.facts.status() {
-            FactStatus::Conflict(kind, log, at) => Ok(Verdict::Conflict(kind, log, at)),
-            FactStatus::Waiting(log) => Ok(Verdict::Waiting(log)),
-            FactStatus::Gap(stamp) => Ok(Verdict::Gap(stamp)),
-            FactStatus::Sealed => self.of_sealed(),
+        match &self.witness {
+            Some(order) => self.with_witness(order),
+            None => self.without_witness(),
         }
     }
 
-    // Of sealed facts.
-    fn of_sealed(&self) -> Result<Verdict<A>, OutOfMemory>
-        requires { status_of self.now.plan.logs self.now.held.facts ≡ FactStatus.Sealed }
+    // Where a witness is known. It needs no history.
+    fn with_witness(&self, order: &Prefix<A>) -> Result<Verdict<A>, OutOfMemory>
+        requires { self.now.held.witness ≡ Some order.now }
         ensures { IfOk result (λ v. IsVerdict self.now v) }
     {
         quiet_is_no_conflict();
-        if let Some(order) = &self.witness {
-            let copy = order.dup()?;
-            return Ok(Verdict::Opaque(copy));
-        }
-        match self.facts.seal()? {
-            Some(sealed) => self.of_history(sealed),
-            None => Ok(Verdict::Unfinished),
+        match Verdict::of_status(self.facts.status()) {
+            Some(told) => Ok(told),
+            None => {
+                let copy = order.dup()?;
+                Ok(Verdict::Opaque(copy))
+            }
         }
     }
 
-    // Of facts with their history, where no witness is known.
-    fn of_history(&self, sealed: Arc<Sealed<A>, A>) -> Result<Verdict<A>, OutOfMemory>
-        requires facts { sealed.value.facts ≡ record { plan = self.now.plan; facts = self.now.held.facts } }
-        requires no_witness { self.now.held.witness ≡ None }
+    // Where none is known.
+    fn without_witness(&self) -> Result<Verdict<A>, OutOfMemory>
+        requires { self.now.held.witness ≡ None }
         ensures { IfOk result (λ v. IsVerdict self.now v) }
     {
-        let _facts = sealed.facts();
-        match sealed.history().first_fault() {
-            Some((stamp, rule)) => Ok(Verdict::IllFormed(stamp, rule)),
-            None => self.of_well_formed(sealed),
+        match well_formed_history(&self.facts)? {
+            Ok(sealed) => self.of_well_formed(sealed),
+            Err(told) => Ok(told),
         }
     }
 

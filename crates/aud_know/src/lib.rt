@@ -9,6 +9,7 @@ mod judge;
 mod knowledge;
 pub mod laws;
 mod parts;
+mod reading;
 mod verdict;
 
 pub use claim::Claim;
@@ -16,4 +17,5 @@ pub use fault::KnowFault;
 pub use finding::Finding;
 pub use item::Item;
 pub use knowledge::Knowledge;
+pub use reading::well_formed_history;
 pub use verdict::Verdict;

@@ -9,39 +9,40 @@ use Rattle.aud_history.specs.declared.rule.Rule.TheVariants.{AbortWithoutCause}
 use Rattle.aud_text.specs.declared.fault.TextFault.TheVariants as fault
 use Rattle.aud_witness.specs.declared.decision.Fate.TheVariants.{C, A}
 use Rattle.aud_witness.specs.declared.fault.OrderFault.TheVariants.{RealTime}
+use Rattle.aud_know.specs.declared.verdict.Verdict.TheVariants.{Opaque, NotOpaque, Unfinished, Conflict, Waiting, Gap, IllFormed}
 use Rattle.aud_report.specs.Lines.{line_of}
-use Rattle.aud_report.specs.declared.said.Said.TheVariants.{Opaque, NotOpaque, Unfinished, Conflict, Waiting, Gap, IllFormed, OrderRefused, OrderTextRefused, PlanRefused, RecordRefused}
+use Rattle.aud_report.specs.declared.said.Said.TheVariants.{Verdict, OrderRefused, OrderTextRefused, PlanRefused, RecordRefused}
 
-opaque_none : line_of (Opaque []) ≡ codes "opaque none\n"
+opaque_none : line_of (Verdict (Opaque [])) ≡ codes "opaque none\n"
 opaque_none = refl
 
-opaque_two : line_of (Opaque (record { tx = 1; fate = C } ∷ record { tx = 2; fate = A } ∷ [])) ≡ codes "opaque 1c 2a\n"
+opaque_two : line_of (Verdict (Opaque (record { tx = 1; fate = C } ∷ record { tx = 2; fate = A } ∷ []))) ≡ codes "opaque 1c 2a\n"
 unfolding digits
 opaque_two = refl
 
-not_opaque : line_of NotOpaque ≡ codes "not opaque\n"
+not_opaque : line_of (Verdict NotOpaque) ≡ codes "not opaque\n"
 not_opaque = refl
 
-unfinished : line_of Unfinished ≡ codes "unfinished\n"
+unfinished : line_of (Verdict Unfinished) ≡ codes "unfinished\n"
 unfinished = refl
 
-two_records : line_of (Conflict TwoRecords 0 0) ≡ codes "conflict 1 at log 0 place 0\n"
+two_records : line_of (Verdict (Conflict TwoRecords 0 0)) ≡ codes "conflict 1 at log 0 place 0\n"
 unfolding digits
 two_records = refl
 
-stamp_order : line_of (Conflict StampOrder 63 4095) ≡ codes "conflict 5 at log 63 place 4095\n"
+stamp_order : line_of (Verdict (Conflict StampOrder 63 4095)) ≡ codes "conflict 5 at log 63 place 4095\n"
 unfolding digits
 stamp_order = refl
 
-waiting : line_of (Waiting 1) ≡ codes "waiting for log 1\n"
+waiting : line_of (Verdict (Waiting 1)) ≡ codes "waiting for log 1\n"
 unfolding digits
 waiting = refl
 
-gap : line_of (Gap 0) ≡ codes "gap at stamp 0\n"
+gap : line_of (Verdict (Gap 0)) ≡ codes "gap at stamp 0\n"
 unfolding digits
 gap = refl
 
-ill_formed : line_of (IllFormed AbortWithoutCause 2) ≡ codes "ill-formed rule 8 at stamp 2\n"
+ill_formed : line_of (Verdict (IllFormed 2 AbortWithoutCause)) ≡ codes "ill-formed rule 8 at stamp 2\n"
 unfolding digits
 ill_formed = refl
 

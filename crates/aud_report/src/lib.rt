@@ -4,9 +4,11 @@
 mod device;
 mod faulty;
 mod memory;
+mod report;
 mod said;
 
 pub use device::{ReadFault, Sink, SinkFault, Source, SourceFault, read_all, write_all};
 pub use faulty::{ChokingSink, DrippingSource};
 pub use memory::{MemorySink, MemorySource};
+pub use report::{ReportFault, write_report};
 pub use said::{Said, write_line};

@@ -1,11 +1,13 @@
 //! What a run says, and the one line that says it.
 
 ghost use Rattle.std.specs.Prelude.{◌≡◌, ◌++◌, ℕ, List, OnOk, IfOk, codes, decimal, Option, option_map};
-ghost use Rattle.aud_report.specs.Lines.{fault_text, inner_text, words_of, line_of};
+ghost use Rattle.aud_text.specs.Orders.{order_text};
+ghost use Rattle.aud_report.specs.Lines.{fault_text, inner_text, conflict_words, ill_formed_words, verdict_words, words_of, line_of};
 
 use aud_event::OutOfMemory;
 use aud_facts::Kind;
 use aud_history::Rule;
+use aud_know::Verdict;
 use aud_text::{PlanTextFault, TextFault, write_order};
 use aud_witness::{OrderFault, Prefix};
 use itoa::{Buffer, Integer};
@@ -14,20 +16,8 @@ use std::alloc::{Allocator, Global};
 /// What a run says of its input. Each has one line.
 #[derive(Debug, Drop)]
 pub enum Said {
-    /// The order shows the history opaque.
-    Opaque(Prefix),
-    /// No order does.
-    NotOpaque,
-    /// The search ended before it knew.
-    Unfinished,
-    /// Two facts contradict each other: the kind of the conflict, with its log and its place there.
-    Conflict(Kind, u32, u32),
-    /// The log has no end mark, or fewer records than that says.
-    Waiting(u32),
-    /// No record has the stamp.
-    Gap(u32),
-    /// The history stops being well-formed: the rule that is broken, and the stamp of the event that breaks it.
-    IllFormed(Rule, u32),
+    /// The verdict on the facts. `Unfinished` is said where the search ended before it knew.
+    Verdict(Verdict),
     /// The order does not show the history.
     OrderRefused(OrderFault),
     /// The text of the order is none.
@@ -92,7 +82,7 @@ fn push_conflict<A: Allocator>(
     log: u32,
     place: u32,
 ) -> Result<(), OutOfMemory>
-    ensures { OnOk result (text.new.items ≡ text.old.items ++ words_of (Said.Conflict kind log place)) }
+    ensures { OnOk result (text.new.items ≡ text.old.items ++ conflict_words kind log place) }
 {
     let number = kind.number();
     push_two(text, "conflict ", number, " at log ", log)?;
@@ -102,10 +92,10 @@ fn push_conflict<A: Allocator>(
 
 fn push_ill_formed<A: Allocator>(
     text: &mut Vec<u8, A>,
-    rule: Rule,
     stamp: u32,
+    rule: Rule,
 ) -> Result<(), OutOfMemory>
-    ensures { OnOk result (text.new.items ≡ text.old.items ++ words_of (Said.IllFormed rule stamp)) }
+    ensures { OnOk result (text.new.items ≡ text.old.items ++ ill_formed_words stamp rule) }
 {
     let number = rule.number();
     push_two(text, "ill-formed rule ", number, " at stamp ", stamp)?;
@@ -147,17 +137,35 @@ fn push_record_fault<A: Allocator>(
     Ok(())
 }
 
-fn push_opaque<A: Allocator + Clone + Drop>(
+fn push_opaque<A: Allocator + Clone + Drop, B: Allocator>(
     alloc: A,
     text: &mut Vec<u8, A>,
-    order: &Prefix,
+    order: &Prefix<B>,
 ) -> Result<(), OutOfMemory>
-    ensures { OnOk result (text.new.items ≡ text.old.items ++ words_of (Said.Opaque order.now)) }
+    ensures { OnOk result (text.new.items ≡ text.old.items ++ (codes "opaque " ++ order_text order.now)) }
 {
     let order = write_order(alloc, order)?;
     push_words(text, "opaque ")?;
     text.extend_from_slice(order.as_slice())?;
     Ok(())
+}
+
+pub(crate) fn push_verdict<A: Allocator + Clone + Drop, B: Allocator>(
+    alloc: A,
+    text: &mut Vec<u8, A>,
+    verdict: &Verdict<B>,
+) -> Result<(), OutOfMemory>
+    ensures { OnOk result (text.new.items ≡ text.old.items ++ verdict_words verdict.now) }
+{
+    match verdict {
+        Verdict::Conflict(kind, log, place) => push_conflict(text, *kind, *log, *place),
+        Verdict::Waiting(log) => push_number(text, "waiting for log ", *log),
+        Verdict::Gap(stamp) => push_number(text, "gap at stamp ", *stamp),
+        Verdict::IllFormed(stamp, rule) => push_ill_formed(text, *stamp, *rule),
+        Verdict::Opaque(order) => push_opaque(alloc, text, order),
+        Verdict::NotOpaque => push_words(text, "not opaque"),
+        Verdict::Unfinished => push_words(text, "unfinished"),
+    }
 }
 
 fn push_said<A: Allocator + Clone + Drop>(
@@ -168,13 +176,7 @@ fn push_said<A: Allocator + Clone + Drop>(
     ensures { OnOk result (text.new.items ≡ text.old.items ++ words_of said.now) }
 {
     match said {
-        Said::Opaque(order) => push_opaque(alloc, text, order),
-        Said::NotOpaque => push_words(text, "not opaque"),
-        Said::Unfinished => push_words(text, "unfinished"),
-        Said::Conflict(kind, log, place) => push_conflict(text, *kind, *log, *place),
-        Said::Waiting(log) => push_number(text, "waiting for log ", *log),
-        Said::Gap(stamp) => push_number(text, "gap at stamp ", *stamp),
-        Said::IllFormed(rule, stamp) => push_ill_formed(text, *rule, *stamp),
+        Said::Verdict(verdict) => push_verdict(alloc, text, verdict),
         Said::OrderRefused(fault) => push_order_fault(text, *fault),
         Said::OrderTextRefused(fault) => push_fault(text, "order text refused ", *fault),
         Said::PlanRefused(refused) => push_plan_fault(text, *refused),

@@ -3,7 +3,7 @@
 use crate::cover::{closes, leaves_open};
 use crate::fixtures::{order, shape_from};
 use crate::oracle::{fault_of, is_only_witness};
-use crate::report::{is_long_line, is_read};
+use crate::report::{is_long_line, is_read, is_reported};
 use crate::search::{is_decided, refutes_five_counters};
 use crate::text::{are_decisions, is_written};
 use aud_facts::{Facts, Sealed};
@@ -25,6 +25,8 @@ enum Question {
     OrderIsWritten,
     /// Whether the line of an order is written.
     LineIsWritten,
+    /// Whether a verdict is reported.
+    VerdictIsReported,
     /// Whether a source is read to its end.
     SourceIsRead,
     /// What is asked of facts.
@@ -112,6 +114,7 @@ fn answer<A: Allocator + Copy>(
         Question::OrderIsRead => are_decisions(alloc, "1c 2a 3c 4a 5c 6a 7c 8a 9c", 9),
         Question::OrderIsWritten => is_written(alloc, "1c 2a 3c 4a 5c 6a 7c 8a 9c 1023a", 10),
         Question::LineIsWritten => is_long_line(alloc, outside),
+        Question::VerdictIsReported => is_reported(alloc, outside),
         Question::SourceIsRead => is_read(alloc, outside),
         Question::OfFacts(asked) => answer_of(alloc, &facts_on(alloc, facts)?, asked),
     }
@@ -171,10 +174,11 @@ fn outcomes(
 
 #[test]
 fn each_refusal_is_told(rt: HostRuntime) -> Result<(), Fail> {
-    let cases: [(Question, &str, u64, u64); 8] = [
+    let cases: [(Question, &str, u64, u64); 9] = [
         (Question::OrderIsRead, NOTHING_HAPPENED, 0, 64),
         (Question::OrderIsWritten, NOTHING_HAPPENED, 0, 64),
         (Question::LineIsWritten, NOTHING_HAPPENED, 0, 64),
+        (Question::VerdictIsReported, NOTHING_HAPPENED, 0, 64),
         (Question::SourceIsRead, NOTHING_HAPPENED, 0, 64),
         (
             Question::OfFacts(Asked::AreSealed),

@@ -6,10 +6,11 @@ use crate::fixtures::order;
 use aud_event::{FactFault, OutOfMemory, PlanFault};
 use aud_facts::Kind;
 use aud_history::Rule;
+use aud_know::Verdict;
 use aud_refusing::Refusing;
 use aud_report::{
-    ChokingSink, DrippingSource, MemorySink, MemorySource, ReadFault, Said, read_all, write_all,
-    write_line,
+    ChokingSink, DrippingSource, MemorySink, MemorySource, ReadFault, ReportFault, Said, read_all,
+    write_all, write_line, write_report,
 };
 use aud_text::{PlanTextFault, TextFault};
 use aud_witness::OrderFault;
@@ -24,7 +25,7 @@ fn is_line<A: Allocator + Copy>(alloc: A, said: &Said, line: &str) -> Result<boo
 
 /// What is said of the order of a text, which stands outside.
 fn opaque(outside: Global, text: &str) -> Result<Said, TextFault> {
-    Ok(Said::Opaque(order(outside, text)?))
+    Ok(Said::Verdict(Verdict::Opaque(order(outside, text)?)))
 }
 
 /// Whether the line is what is written of the order of a text.
@@ -53,8 +54,20 @@ fn answers_are_written(rt: HostRuntime) -> Result<(), Fail> {
             "{line}"
         );
     }
-    assert!(rt; is_line(rt.alloc(), &Said::NotOpaque, "not opaque\n")?);
-    assert!(rt; is_line(rt.alloc(), &Said::Unfinished, "unfinished\n")?);
+    assert!(rt;
+        is_line(
+            rt.alloc(),
+            &Said::Verdict(Verdict::NotOpaque),
+            "not opaque\n"
+        )?
+    );
+    assert!(rt;
+        is_line(
+            rt.alloc(),
+            &Said::Verdict(Verdict::Unfinished),
+            "unfinished\n"
+        )?
+    );
     Ok(())
 }
 
@@ -64,7 +77,7 @@ enum Word {
     Conflict(Kind, u32, u32),
     Waiting(u32),
     Gap(u32),
-    IllFormed(Rule, u32),
+    IllFormed(u32, Rule),
     OrderRefused(OrderFault),
     OrderTextRefused(TextFault),
     PlanRefused(usize, TextFault),
@@ -73,10 +86,10 @@ enum Word {
 
 fn said(word: Word) -> Said {
     match word {
-        Word::Conflict(kind, log, at) => Said::Conflict(kind, log, at),
-        Word::Waiting(log) => Said::Waiting(log),
-        Word::Gap(stamp) => Said::Gap(stamp),
-        Word::IllFormed(rule, stamp) => Said::IllFormed(rule, stamp),
+        Word::Conflict(kind, log, at) => Said::Verdict(Verdict::Conflict(kind, log, at)),
+        Word::Waiting(log) => Said::Verdict(Verdict::Waiting(log)),
+        Word::Gap(stamp) => Said::Verdict(Verdict::Gap(stamp)),
+        Word::IllFormed(stamp, rule) => Said::Verdict(Verdict::IllFormed(stamp, rule)),
         Word::OrderRefused(fault) => Said::OrderRefused(fault),
         Word::OrderTextRefused(fault) => Said::OrderTextRefused(fault),
         Word::PlanRefused(line, fault) => Said::PlanRefused(PlanTextFault { line, fault }),
@@ -98,7 +111,7 @@ fn lines_are_written(rt: HostRuntime) -> Result<(), Fail> {
         (Word::Waiting(1), "waiting for log 1\n"),
         (Word::Gap(0), "gap at stamp 0\n"),
         (
-            Word::IllFormed(Rule::AbortWithoutCause, 2),
+            Word::IllFormed(2, Rule::AbortWithoutCause),
             "ill-formed rule 8 at stamp 2\n",
         ),
         (
@@ -194,6 +207,44 @@ fn a_byte_a_write(rt: HostRuntime) {
             let found = choked(rt.alloc(), writes, *takes_nothing);
             assert_eq!(rt; found, (false, 1, writes as usize));
         }
+    }
+}
+
+/// How the report of a gap ends on a sink that fails behind so many bytes, and how many it took, if they begin the line.
+fn reported<A: Allocator + Copy>(
+    alloc: A,
+    outside: Global,
+    writes: u64,
+) -> (Result<(), ReportFault>, Option<u64>) {
+    let mut sink = ChokingSink {
+        bytes: Vec::new(outside),
+        writes,
+        takes_nothing: false,
+        failures: 0,
+    };
+    let verdict: Verdict = Verdict::Gap(7);
+    let ended = write_report(alloc, &verdict, &mut sink);
+    let taken = sink.bytes.as_slice();
+    let is_beginning = b"gap at stamp 7\n".starts_with(taken);
+    (ended, is_beginning.then_some(taken.len() as u64))
+}
+
+#[test]
+fn a_verdict_is_reported(rt: HostRuntime) {
+    for writes in 0..15u64 {
+        let found = reported(rt.alloc(), rt.alloc(), writes);
+        assert_eq!(rt; found, (Err(ReportFault::OutputFailed), Some(writes)));
+    }
+    let found = reported(rt.alloc(), rt.alloc(), 15);
+    assert_eq!(rt; found, (Ok(()), Some(15)));
+}
+
+/// Whether a verdict is reported. Where memory is wanted nothing goes out.
+pub(crate) fn is_reported<A: Allocator + Copy>(alloc: A, outside: Global) -> Result<bool, Unread> {
+    match reported(alloc, outside, 15) {
+        (Ok(()), taken) => Ok(taken == Some(15)),
+        (Err(ReportFault::OutOfMemory), Some(0)) => Err(Unread::OutOfMemory),
+        (Err(_), _) => Ok(false),
     }
 }
 

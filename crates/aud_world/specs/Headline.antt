@@ -3,12 +3,10 @@ use Rattle.std.specs.Prelude.{◌≡◌, ℕ, ◌<◌, List, [], ◌++◌, lengt
 use Rattle.std.specs.List.{AllByRecursion}
 use Rattle.aud_event.specs.Meanings.{PlanOf}
 use Rattle.aud_facts.specs.Quiet.{AreQuiet}
-use Rattle.aud_facts.specs.Status.{hist}
 use Rattle.aud_witness.specs.declared.decision.Decision.{Decision}
-use Rattle.aud_witness.specs.Orders.{Refuted, Shows}
 use Rattle.aud_know.specs.Norms.{facts_of}
 use Rattle.aud_know.specs.Known.{KnowledgeOf, knowing}
-use Rattle.aud_know.specs.Truth.{AreWhole}
+use Rattle.aud_know.specs.Truth.{AreShownBy, AreRefutedAt}
 use Rattle.aud_know.specs.Verdicts.{IsVerdict}
 use Rattle.aud_know.specs.declared.verdict.Verdict.{Verdict}
 use Rattle.aud_know.specs.declared.verdict.Verdict.TheVariants as verdict
@@ -35,10 +33,10 @@ pub record Headline {X : Type 0} (count : ℕ) (moves : List (Move X)) (w : Worl
       IsVerdict (held_at w.plan count moves i n) u → IsVerdict (held_at w.plan count moves j m) v → u ≡ v
   -- 'opaque' is said of sealed facts with a well-formed history, and carries an order that shows it
   pub opaque : (i n : ℕ) (p : List Decision) → IsVerdict {X = X} (held_at w.plan count moves i n) (verdict.Opaque p) →
-      AreWhole w.plan (held_at w.plan count moves i n).held.facts × Shows w.plan.objects (hist (held_at w.plan count moves i n).held.facts) p
+      AreShownBy w.plan (held_at w.plan count moves i n).held.facts p
   -- 'not opaque' is said of them only when no order shows it
   pub not_opaque : (i n : ℕ) → IsVerdict {X = X} (held_at w.plan count moves i n) verdict.NotOpaque →
-      AreWhole w.plan (held_at w.plan count moves i n).held.facts × Refuted w.plan.objects (hist (held_at w.plan count moves i n).held.facts) []
+      AreRefutedAt w.plan (held_at w.plan count moves i n).held.facts []
   -- where all facts that were ever fed or brought by findings conflict nowhere, no two nodes contradict each other
   pub agree : AreQuiet (facts_of (brought moves)) → (i n j m : ℕ) (p : List Decision) →
       IsVerdict {X = X} (held_at w.plan count moves i n) (verdict.Opaque p) → IsVerdict {X = X} (held_at w.plan count moves j m) verdict.NotOpaque → ⊥
