@@ -74,7 +74,7 @@ pub fn plan_of<A: Allocator + Copy>(alloc: A, run: &Facts) -> Result<Plan<A>, Un
     Ok(facts.plan().dup()?)
 }
 
-type SharedShape<A> = Arc<Shape<A>, A>;
+pub type SharedShape<A> = Arc<Shape<A>, A>;
 
 fn shape_of_sealed<A: Allocator + Copy>(
     alloc: A,
@@ -87,7 +87,10 @@ fn shape_of_sealed<A: Allocator + Copy>(
 }
 
 /// The shape of the run, if it is well-formed.
-fn shape_of<A: Allocator + Copy>(alloc: A, run: &Facts) -> Result<Option<SharedShape<A>>, Unread> {
+pub fn shape_of<A: Allocator + Copy>(
+    alloc: A,
+    run: &Facts,
+) -> Result<Option<SharedShape<A>>, Unread> {
     let sealed = sealed_from(&facts_on(alloc, run)?)?;
     Ok(shape_of_sealed(alloc, sealed)?)
 }

@@ -12,6 +12,8 @@ mod knowing_growth;
 #[cfg(test)]
 mod lines;
 #[cfg(test)]
+mod open;
+#[cfg(test)]
 mod threads;
 #[cfg(test)]
 mod words;
