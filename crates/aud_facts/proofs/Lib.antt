@@ -9,3 +9,4 @@ pub mod Limits
 pub mod Grown
 pub mod Quiet
 pub mod Unions
+pub mod Crosses

@@ -5,3 +5,4 @@ pub mod Keeping
 pub mod Staying
 pub mod Judging
 pub mod Exact
+pub mod Crosses

@@ -1,8 +1,11 @@
 //! What a Knowledge takes.
 
+ghost use Rattle.std.specs.Prelude.{◌↔◌, IsTrue};
+ghost use Rattle.aud_know.specs.Items.{IsOfPlan};
+
 use crate::finding::Finding;
 use crate::knowledge::Knowledge;
-use aud_event::Fact;
+use aud_event::{Fact, Plan};
 use std::alloc::{Allocator, Global};
 use std::sync::Arc;
 
@@ -12,4 +15,18 @@ pub enum Item<A: Allocator + Copy = Global> {
     Fact(Fact),
     Finding(Finding<A>),
     Known(Arc<Knowledge<A>, A>),
+}
+
+impl<A: Allocator + Copy> Item<A> {
+    /// Whether the item is of the plan: a fact that the plan does not refuse, or what was found or is known under an equal
+    /// plan. It takes no memory.
+    pub fn is_of(&self, plan: &Plan<A>) -> bool
+        ensures { IsTrue result ↔ IsOfPlan plan.now self.now }
+    {
+        match self {
+            Item::Fact(fact) => fact.check(plan).is_ok(),
+            Item::Finding(finding) => finding.facts().plan().same(plan),
+            Item::Known(known) => known.plan().same(plan),
+        }
+    }
 }

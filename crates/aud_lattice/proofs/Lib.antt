@@ -3,3 +3,4 @@ pub mod Grouped
 pub mod Places
 pub mod CoverMerging
 pub mod Turns
+pub mod Crosses

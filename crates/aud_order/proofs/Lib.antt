@@ -7,3 +7,4 @@ pub mod Gathering
 pub mod SilentRows
 pub mod Stepping
 pub mod Moves
+pub mod Crosses
