@@ -54,7 +54,7 @@ pub begins-itself : (p : List Decision) → BeginsWith p p
 begins-itself p = ([], sym (append-nil p))
 
 -- lists of which the first that differ rise
-begins-less : (p x y : List Decision) (d e : Decision) → decision_cmp d e ≡ Less → BeginsWith (p ++ d ∷ []) x → BeginsWith (p ++ e ∷ []) y → slice_cmp decision_cmp x y ≡ Less
+pub begins-less : (p x y : List Decision) (d e : Decision) → decision_cmp d e ≡ Less → BeginsWith (p ++ d ∷ []) x → BeginsWith (p ++ e ∷ []) y → slice_cmp decision_cmp x y ≡ Less
 begins-less p x y d e less (r, is) (s, so) =
     (λ i. slice_cmp decision_cmp ((is ∙ append_assoc p (d ∷ []) r) i) ((so ∙ append_assoc p (e ∷ []) s) i)) ∙ alike p
   where
@@ -73,7 +73,7 @@ below-append x [] [] all low = tt
 below-append x [] (y ∷ ys) all low = (low y (0, omega arith, refl), below-append x [] ys all (λ z (k, inside, is). low z (suc k, omega arith, is)))
 below-append x (z ∷ xs) ys all low = (all.0, below-append x xs ys all.1 low)
 
-sorted-append : (xs ys : Lists) → IsStrictlySortedBy (slice_cmp decision_cmp) xs → IsStrictlySortedBy (slice_cmp decision_cmp) ys →
+pub sorted-append : (xs ys : Lists) → IsStrictlySortedBy (slice_cmp decision_cmp) xs → IsStrictlySortedBy (slice_cmp decision_cmp) ys →
     ((x y : List Decision) → Contains xs x → Contains ys y → slice_cmp decision_cmp x y ≡ Less) → IsStrictlySortedBy (slice_cmp decision_cmp) (xs ++ ys)
 unfolding IsStrictlySortedBy
 sorted-append [] ys s t low = t
@@ -82,18 +82,18 @@ sorted-append (x ∷ xs) ys s t low = (
   sorted-append xs ys s.1 t (λ z y (k, inside, is) member. low z y (suc k, omega arith, is) member),
 )
 
-sorted-none : IsStrictlySortedBy (slice_cmp decision_cmp) []
+pub sorted-none : IsStrictlySortedBy (slice_cmp decision_cmp) []
 unfolding IsStrictlySortedBy
 sorted-none = tt
 
-sorted-one : (p : List Decision) → IsStrictlySortedBy (slice_cmp decision_cmp) (p ∷ [])
+pub sorted-one : (p : List Decision) → IsStrictlySortedBy (slice_cmp decision_cmp) (p ∷ [])
 unfolding IsStrictlySortedBy
 sorted-one p = (tt, tt)
 
 pub none_there : (q : List Decision) → Contains [] q → ⊥
 none_there q (k, inside, is) = absurd (omega arith)
 
-only_there : (p q : List Decision) → Contains (p ∷ []) q → p ≡ q
+pub only_there : (p q : List Decision) → Contains (p ∷ []) q → p ≡ q
 only_there p q (zero, inside, is) = is
 only_there p q (suc k, inside, is) = absurd (omega arith)
 

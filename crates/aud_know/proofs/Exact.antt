@@ -46,7 +46,7 @@ same_members {R = R} o ex xs ys s t f g =
 
 -- # Beginnings
 
-rest_of : (q p : List Decision) → begins decision_cmp q p ≡ true → (rest : List Decision) × (p ≡ q ++ rest)
+pub rest_of : (q p : List Decision) → begins decision_cmp q p ≡ true → (rest : List Decision) × (p ≡ q ++ rest)
 rest_of [] p e = (p, refl)
 rest_of (x ∷ q) [] e = absurd (true≢false (sym e))
 rest_of (x ∷ q) (y ∷ p) e =
@@ -54,7 +54,7 @@ rest_of (x ∷ q) (y ∷ p) e =
     let found = rest_of q p parts.1 in
     (found.0, λ i. sym (decision_exact x y ((Equal-is (decision_cmp x y)).0 parts.0)) i ∷ found.1 i)
 
-begins_with : (q rest : List Decision) → begins decision_cmp q (q ++ rest) ≡ true
+pub begins_with : (q rest : List Decision) → begins decision_cmp q (q ++ rest) ≡ true
 begins_with [] rest = refl
 begins_with (x ∷ q) rest = and_from (is_eq (decision_cmp x x)) (begins decision_cmp q (q ++ rest)) (ap is_eq (tied_itself decisions_total x)) (begins_with q rest)
 

@@ -77,7 +77,7 @@ quiet_of_sealed : QuietIsNoConflict → (logs : ℕ) (facts : List Fact) → sta
 quiet_of_sealed law logs facts sealed = (law logs facts).1 (λ conflict. subst IsConflict sealed conflict)
 
 module _ (law : QuietIsNoConflict) (k : KnowledgeOf) (truth : IsKnowledge k.plan k.held) (sealed : status_of k.plan.logs k.held.facts ≡ status.Sealed) where
-  quiet : AreQuiet k.held.facts
+  pub quiet : AreQuiet k.held.facts
   quiet = quiet_of_sealed law k.plan.logs k.held.facts sealed
 
   -- a witness shows
@@ -165,7 +165,7 @@ one_fault h s t q r one other =
     rule_of (Err x) = x
 
 -- and none where it is well-formed
-no_fault : (h : History) (s : ℕ) (q : Rule) → IsFirstFault h s q → IsWellFormed h → ⊥
+pub no_fault : (h : History) (s : ℕ) (q : Rule) → IsFirstFault h s q → IsWellFormed h → ⊥
 no_fault h s q fault well = fault.faulty (IsWellFormed-beginning (fault.before ++ fault.event ∷ []) fault.rest (subst IsWellFormed (fault.whole ∙ apart fault.before fault.event fault.rest) well))
   where
     apart : (a : History) (e : ℕ × Event) (x : History) → a ++ e ∷ x ≡ (a ++ e ∷ []) ++ x

@@ -6,6 +6,7 @@ use Rattle.aud_history.specs.Table.{RowOf, table_of}
 use Rattle.aud_witness.specs.declared.decision.Decision.{Decision}
 use Rattle.aud_witness.specs.declared.fault.OrderFault.{OrderFault}
 use Rattle.aud_witness.specs.declared.fault.OrderFault.TheVariants.{UnknownTx, Twice, FateNotAllowed, RealTime, Illegal, Missing}
+use Rattle.aud_witness.specs.Orders.{IsGood}
 use Rattle.aud_witness.specs.Spots.{Spot, first_spot, stepped}
 use Rattle.aud_witness.specs.Placings.{PlacingOf}
 use Rattle.aud_order.specs.declared.pushed.Pushed.{Pushed}
@@ -16,6 +17,11 @@ use Rattle.aud_order.specs.Shapes.{ShapeOf, plan_of, objects_of, history_of}
 pub record CursorOf : Type 0 where
   pub shape : ShapeOf
   pub path : List Decision
+
+-- a cursor at the list, which is good; or none, and it is not
+abbrev pub IsBehind : ShapeOf → List Decision → Option CursorOf → Type 0
+IsBehind shape p None = IsGood (objects_of shape) (history_of shape) p → ⊥
+IsBehind shape p (Some c) = (c ≡ record { shape = shape; path = p }) × IsGood (objects_of shape) (history_of shape) p
 
 -- what a cursor tells of a decision in which something is wrong
 abbrev pub pushed_by_fault : OrderFault → Pushed

@@ -7,7 +7,7 @@ ghost use Rattle.aud_history.specs.Table.{table_of, transactions};
 ghost use Rattle.aud_witness.specs.Orders.{is_named, kept, IsFull, IsGood, IsGoodNext};
 ghost use Rattle.aud_witness.specs.OrderFaults.{is_enabled, place_fault, is_good_next};
 ghost use Rattle.aud_order.specs.Shapes.{objects_of, history_of};
-ghost use Rattle.aud_order.specs.Cursors.{pushed_by, ArePlaced};
+ghost use Rattle.aud_order.specs.Cursors.{pushed_by, ArePlaced, IsBehind};
 ghost use Rattle.aud_order.specs.Kids.{AreKids, goods};
 
 use crate::pushed::Pushed;
@@ -63,6 +63,24 @@ impl<'a, A: Allocator + Copy> Cursor<'a, A> {
             placing,
             first_open: 0,
         })
+    }
+
+    /// A cursor at the list of decisions, where it is good.
+    pub fn behind(
+        alloc: A,
+        shape: &'a Shape<A>,
+        decisions: &[Decision],
+    ) -> Result<Option<Cursor<'a, A>>, OutOfMemory>
+        ensures { IfOk result (IsBehind shape.entry.now decisions.now) }
+    {
+        let mut cursor = Cursor::root(alloc, shape)?;
+        for decision in decisions {
+            if !cursor.push(*decision)?.is_good() {
+                return Ok(None);
+            }
+        }
+        let _ = cursor.prefix();
+        Ok(Some(cursor))
     }
 
     /// The decisions placed so far, in their order: they are good.

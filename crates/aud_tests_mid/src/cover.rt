@@ -61,7 +61,7 @@ fn prefixes_are_closed(rt: HostRuntime) -> Result<(), Fail> {
 }
 
 /// Whether the lists are these, in this order.
-fn are<A: Allocator + Copy>(
+pub(crate) fn are<A: Allocator + Copy>(
     alloc: A,
     found: &[Prefix<A>],
     wanted: &[&str],

@@ -14,6 +14,8 @@ mod report;
 #[cfg(test)]
 mod search;
 #[cfg(test)]
+mod splits;
+#[cfg(test)]
 mod text;
 #[cfg(test)]
 mod worked;

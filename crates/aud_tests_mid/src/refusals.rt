@@ -5,6 +5,7 @@ use crate::fixtures::{order, shape_from};
 use crate::oracle::{fault_of, is_only_witness};
 use crate::report::{is_long_line, is_read, is_reported};
 use crate::search::{is_decided, refutes_five_counters};
+use crate::splits::splits_into;
 use crate::text::{are_decisions, is_written};
 use aud_facts::{Facts, Sealed};
 use aud_refusing::Refusing;
@@ -42,6 +43,8 @@ enum Asked {
     IsClosed,
     /// Whether `1c` leaves `1a` and `2c` open.
     AreOpen,
+    /// Whether the tasks at depth 2 are `1c`, `1a 2c`, `2c 1c` and `2c 1a`.
+    IsSplit,
     /// Whether the search finds `1c 2c`.
     IsDecided,
     /// Whether the search refutes five counters on the plan.
@@ -93,6 +96,10 @@ fn answer_of<A: Allocator + Copy>(
         Asked::AreOpen => {
             let shape = shape_from(alloc, facts)?;
             leaves_open(alloc, &shape, "1c", &["1a", "2c"])
+        }
+        Asked::IsSplit => {
+            let shape = shape_from(alloc, facts)?;
+            splits_into(alloc, &shape, "none", 2, &["1c", "1a 2c", "2c 1c", "2c 1a"])
         }
         Asked::IsDecided => is_decided(alloc, &shape_from(alloc, facts)?, "1c 2c"),
         Asked::IsRefuted => refutes_five_counters(alloc, facts),
@@ -194,6 +201,12 @@ fn each_refusal_is_told(rt: HostRuntime) -> Result<(), Fail> {
         ),
         (
             Question::OfFacts(Asked::AreOpen),
+            PENDING_COMMIT_IS_UNSEEN,
+            20,
+            200,
+        ),
+        (
+            Question::OfFacts(Asked::IsSplit),
             PENDING_COMMIT_IS_UNSEEN,
             20,
             200,

@@ -1,0 +1,4 @@
+pub mod Tasks
+pub mod Closing
+pub mod Keeping
+pub mod Searched
