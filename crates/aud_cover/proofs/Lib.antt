@@ -4,3 +4,4 @@ pub mod Steps
 pub mod Distinct
 pub mod Opened
 pub mod Emptied
+pub mod Leads

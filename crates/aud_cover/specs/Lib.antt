@@ -1,3 +1,4 @@
 pub mod Closings
 pub mod Openings
 pub mod Laws
+pub mod Leading

@@ -1,61 +1,47 @@
 //! Whether a cover closes a list of decisions.
 
-ghost use Rattle.std.specs.Prelude.{◌≡◌, ◌↔◌, [], ◌∷◌, ◌++◌, IfOk, OnOk, IsTrue};
-ghost use Rattle.aud_witness.specs.Orders.{IsGood, IsGoodNext};
+ghost use Rattle.std.specs.Prelude.{◌≡◌, ◌↔◌, IfOk, OnOk, IsTrue};
 ghost use Rattle.aud_order.specs.Shapes.{objects_of, history_of};
 ghost use Rattle.aud_cover.specs.Closings.{IsClosed};
+ghost use Rattle.aud_cover.specs.Leading.{TellsClosed};
 
 use aud_event::OutOfMemory;
-use aud_lattice::{Cover, Mark};
+use aud_lattice::{Cover, Mark, Trie};
 use aud_order::{Cursor, Shape};
 use aud_witness::{Decision, Prefix};
 use std::alloc::Allocator;
 
-/// Whether the cursor's list is closed. The cursor comes back to it.
+/// Whether the cursor's list is closed, where it leads to the node. The cursor comes back to it.
 fn closed_here<A: Allocator + Copy>(
     alloc: A,
-    cover: &Cover<Decision, A>,
+    node: &Trie<Decision, A>,
     cursor: &mut Cursor<A>,
 ) -> Result<bool, OutOfMemory>
-    ensures closed { IfOk result (λ closed. IsTrue closed ↔ IsClosed (objects_of cursor.old.shape) (history_of cursor.old.shape) cover.now cursor.old.path) }
+    ensures closed { IfOk result (TellsClosed cursor.old node.now) }
     ensures back { OnOk result (cursor.new ≡ cursor.old) }
 {
-    let path = cursor.prefix();
-    match cover.mark(path) {
-        Mark::Covered => return Ok(true),
-        Mark::Outside => return Ok(false),
-        Mark::Inner => {}
+    let _good = cursor.prefix();
+    let Trie::Fork(next) = node else {
+        return Ok(true);
+    };
+    if next.is_empty() {
+        return Ok(false);
     }
     if cursor.full() {
         return Ok(false);
     }
     let kids = cursor.kids(alloc)?;
     for kid in &kids {
+        let Some(below) = next.get(kid) else {
+            return Ok(false);
+        };
         let _ = cursor.push(*kid)?;
-        let is_closed = closed_here(alloc, cover, cursor)?;
+        let is_closed = closed_here(alloc, below, cursor)?;
         let _ = cursor.pop();
         if !is_closed {
             return Ok(false);
         }
     }
-    Ok(true)
-}
-
-/// Places the decisions one behind the other, up to the first that is not good, and tells whether there was none.
-fn push_all<A: Allocator + Copy>(
-    cursor: &mut Cursor<A>,
-    decisions: &[Decision],
-) -> Result<bool, OutOfMemory>
-    requires { cursor.old.path ≡ [] }
-    ensures placed { IfOk result (λ good. IsTrue good → cursor.new ≡ record { shape = cursor.old.shape; path = decisions.now }) }
-    ensures good { IfOk result (λ good. IsTrue good ↔ IsGood (objects_of cursor.old.shape) (history_of cursor.old.shape) decisions.now) }
-{
-    for decision in decisions {
-        if !cursor.push(*decision)?.is_good() {
-            return Ok(false);
-        }
-    }
-    let _ = cursor.prefix();
     Ok(true)
 }
 
@@ -70,13 +56,14 @@ pub fn closed<A: Allocator + Copy>(
 ) -> Result<bool, OutOfMemory>
     ensures { IfOk result (λ closed. IsTrue closed ↔ IsClosed (objects_of shape.now) (history_of shape.now) cover.now prefix.now) }
 {
-    match cover.mark(prefix.decisions()) {
-        Mark::Covered => return Ok(true),
-        Mark::Inner | Mark::Outside => {}
-    }
-    let mut cursor = Cursor::root(alloc, shape)?;
-    if !push_all(&mut cursor, prefix.decisions())? {
+    if let Mark::Covered = cover.mark(prefix.decisions()) {
         return Ok(true);
     }
-    closed_here(alloc, cover, &mut cursor)
+    let Some(mut cursor) = Cursor::behind(alloc, shape, prefix.decisions())? else {
+        return Ok(true);
+    };
+    match cover.trie().node(prefix.decisions()) {
+        Some(node) => closed_here(alloc, node, &mut cursor),
+        None => Ok(false),
+    }
 }

@@ -3,41 +3,44 @@
 ghost use Rattle.std.specs.Prelude.{◌≡◌, ◌↔◌, [], ◌∷◌, ◌++◌, IfOk, OnOk};
 ghost use Rattle.aud_order.specs.Shapes.{objects_of, history_of};
 ghost use Rattle.aud_cover.specs.Closings.{IsClosed};
-ghost use Rattle.aud_cover.specs.Openings.{IsReached, AreAdded, AreOpen, AreWithin};
+ghost use Rattle.aud_cover.specs.Openings.{AreOpen, AreWithin};
+ghost use Rattle.aud_cover.specs.Leading.{AddsOpen};
 
 use aud_event::OutOfMemory;
-use aud_lattice::{Cover, Mark};
+use aud_lattice::{Cover, Trie};
 use aud_order::{Cursor, Shape};
 use aud_witness::{Decision, Prefix};
 use std::alloc::Allocator;
 
-/// The list with a memory of its own.
-fn copied<A: Allocator + Copy>(alloc: A, decisions: &[Decision]) -> Result<Prefix<A>, OutOfMemory>
-    ensures { IfOk result (λ prefix. prefix ≡ decisions.now) }
+/// Adds the list with a memory of its own.
+fn add<A: Allocator + Copy>(
+    alloc: A,
+    decisions: &[Decision],
+    list: &mut Vec<Prefix<A>, A>,
+) -> Result<(), OutOfMemory>
+    ensures { OnOk result (list.new.items ≡ list.old.items ++ decisions.now ∷ []) }
 {
-    let decisions = Vec::from_slice(alloc, decisions)?;
-    Ok(Prefix::from_decisions(decisions))
+    let copy = Vec::from_slice(alloc, decisions)?;
+    list.push(Prefix::from_decisions(copy))?;
+    Ok(())
 }
 
-/// Adds the open lists that begin with the cursor's, the least first. The cursor comes back to it.
+/// Adds the open lists that begin with the cursor's, the least first, where it leads to the node. The cursor comes back to it.
 fn open_here<A: Allocator + Copy>(
     alloc: A,
-    cover: &Cover<Decision, A>,
+    node: &Trie<Decision, A>,
     cursor: &mut Cursor<A>,
     list: &mut Vec<Prefix<A>, A>,
 ) -> Result<(), OutOfMemory>
-    requires { IsReached (objects_of cursor.old.shape) (history_of cursor.old.shape) cover.now cursor.old.path }
-    ensures added { OnOk result (AreAdded (objects_of cursor.old.shape) (history_of cursor.old.shape) cover.now cursor.old.path list.old.items list.new.items) }
+    ensures added { OnOk result (AddsOpen cursor.old node.now list.old.items list.new.items) }
     ensures back { OnOk result (cursor.new ≡ cursor.old) }
 {
     let path = cursor.prefix();
-    match cover.mark(path) {
-        Mark::Covered => return Ok(()),
-        Mark::Outside => {
-            list.push(copied(alloc, path)?)?;
-            return Ok(());
-        }
-        Mark::Inner => {}
+    let Trie::Fork(next) = node else {
+        return Ok(());
+    };
+    if next.is_empty() {
+        return add(alloc, path, list);
     }
     if cursor.full() {
         return Ok(());
@@ -45,7 +48,10 @@ fn open_here<A: Allocator + Copy>(
     let kids = cursor.kids(alloc)?;
     for kid in &kids {
         let _ = cursor.push(*kid)?;
-        open_here(alloc, cover, cursor, list)?;
+        match next.get(kid) {
+            Some(below) => open_here(alloc, below, cursor, list)?,
+            None => add(alloc, cursor.prefix(), list)?,
+        }
         let _ = cursor.pop();
     }
     Ok(())
@@ -65,6 +71,6 @@ pub fn open_list<A: Allocator + Copy>(
 {
     let mut list = Vec::new(alloc);
     let mut cursor = Cursor::root(alloc, shape)?;
-    open_here(alloc, cover, &mut cursor, &mut list)?;
+    open_here(alloc, cover.trie(), &mut cursor, &mut list)?;
     Ok(list)
 }

@@ -1,7 +1,7 @@
 -- A cover: lists of which none begins another, least first.
-use Rattle.std.specs.Prelude.{◌≡◌, ◌≢◌, ℕ, ◌<◌, ◌≤◌, Bool, true, false, ◌&&◌, List, [], ◌∷◌, length, slice_index_or, if◌then◌else◌}
+use Rattle.std.specs.Prelude.{◌≡◌, Bool, true, false, ◌&&◌, List, [], ◌∷◌, if◌then◌else◌}
 use Rattle.std.specs.declared.cmp.Ordering.{Ordering}
-use Rattle.std.specs.declared.cmp.Ordering.TheVariants.{Less, Equal}
+use Rattle.std.specs.declared.cmp.Ordering.TheVariants.{Equal}
 use Rattle.std.specs.Ordering.{is_eq, ordering_then}
 use Rattle.std.specs.List.{list_any, Contains}
 use Rattle.std.specs.List.Sorted.{IsStrictlySortedBy}
@@ -44,12 +44,6 @@ cover_union cmp (p ∷ ps) qs = with_list cmp p (cover_union cmp ps qs)
 -- the cover of any lists
 abbrev pub normal_form : {D : Type 0} → (D → D → Ordering) → List (List D) → List (List D)
 normal_form cmp ps = cover_union cmp ps []
-
--- the lists before the place are less than q, and none from it on is
-pub record IsPlace {D : Type 0} (cmp : D → D → Ordering) (ps : List (List D)) (q : List D) (at : ℕ) : Type 0 where
-  pub in_range : at ≤ length ps
-  pub before : (k : ℕ) (d : List D) → k < at → cover_cmp cmp (slice_index_or ps k d) q ≡ Less
-  pub from_there : (k : ℕ) (d : List D) → at ≤ k → k < length ps → cover_cmp cmp (slice_index_or ps k d) q ≢ Less
 
 -- p is one of the lists, and none of them is a proper beginning of it
 pub record IsFirst {D : Type 0} (cmp : D → D → Ordering) (ps : List (List D)) (p : List D) : Type 0 where

@@ -12,9 +12,12 @@ pub mod Least
 pub mod Leasts
 pub mod Covers
 pub mod Marks
-pub mod Stands
 pub mod Covering
 pub mod Minimal
 pub mod Norms
 pub mod Marked
 pub mod FactRank
+pub mod Walks
+pub mod Paths
+pub mod Tries
+pub mod Pathed

@@ -22,6 +22,12 @@ inner_at true c f e = absurd (f refl)
 inner_at false true f e = refl
 inner_at false false f e = absurd (true≢false (sym e))
 
+pub inner≢covered : Inner ≡ Covered → ⊥
+inner≢covered e = cc
+
+pub outside≢covered : Outside ≡ Covered → ⊥
+outside≢covered e = cc
+
 module _ {D : Type 0} (R : D → D → Ordering) (ps : List (List D)) (q : List D) where
   pub covered_is : (mark_of R ps q ≡ Covered) ↔ HasBeginning R ps q
   covered_is = (
@@ -37,3 +43,6 @@ module _ {D : Type 0} (R : D → D → Ordering) (ps : List (List D)) (q : List 
     ),
     λ h. inner_at (covers R ps q) (extends R ps q) (λ e. h.0 (some_passes (λ p. begins R p q) ps e)) (one_passes (λ p. begins R q p) ps h.1.0 h.1.1 h.1.2),
   )
+
+  pub covered_mark : covers R ps q ≡ true → mark_of R ps q ≡ Covered
+  covered_mark e = ap (λ b. if b then Covered else (if extends R ps q then Inner else Outside)) e

@@ -1,8 +1,8 @@
 //! Copies of lists.
 
-ghost use Rattle.std.specs.Prelude.{◌≡◌, IfOk, OnOk, OnErr, IsTrue, ◌↔◌, [], ◌∷◌, ◌++◌};
+ghost use Rattle.std.specs.Prelude.{◌≡◌, IfOk, OnOk, OnErr, [], ◌∷◌, ◌++◌};
 
-use aud_event::{Dup, Key, OutOfMemory};
+use aud_event::{Dup, OutOfMemory};
 use std::alloc::Allocator;
 
 /// Puts a copy of the item at the end.
@@ -23,11 +23,4 @@ pub fn copied<T: Dup, A: Allocator>(alloc: A, items: &[T]) -> Result<Vec<T, A>, 
         push_copy(&mut all, item)?;
     }
     Ok(all)
-}
-
-/// Whether both have the same items in the same order.
-pub fn same_items<T: Key>(xs: &[T], ys: &[T]) -> bool
-    ensures { IsTrue result ↔ (xs.now ≡ ys.now) }
-{
-    xs == ys
 }

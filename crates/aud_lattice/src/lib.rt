@@ -20,6 +20,7 @@ mod pair;
 mod ranked;
 mod row;
 mod tree;
+mod trie;
 mod union_set;
 
 use aud_event::OutOfMemory;
@@ -31,6 +32,7 @@ pub use mark::Mark;
 pub use pair::Pair;
 pub use ranked::Rank;
 pub use row::Row;
+pub use trie::Trie;
 pub use union_set::UnionSet;
 
 /// Values that can be joined. Generic code learns from a join what value it leaves (`join_of`), and from the laws what

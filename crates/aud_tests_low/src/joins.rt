@@ -4,7 +4,7 @@ use crate::fixtures::{Case, Trial, each_holds, end, holds, is_refused, record, r
 use aud_event::{Dup, Event, Fact, Key, OutOfMemory};
 use aud_lattice::laws::{norm_of_firsts, norm_of_union, norm_with_norm};
 use aud_lattice::{
-    Cover, Lattice, Least, Mark, Pair, Rank, Row, UnionSet, joined, joined_both_ways,
+    Cover, Lattice, Least, Mark, Pair, Rank, Row, Trie, UnionSet, joined, joined_both_ways,
 };
 use std::alloc::{Allocator, Global};
 use std::process::Abort;
@@ -235,6 +235,37 @@ fn a_cover_marks_lists(rt: HostRuntime) {
         ],
     );
     assert!(rt; Cover::<u32>::empty(rt.alloc()).mark(&[]) == Mark::Outside);
+}
+
+/// Whether the trie of the lists `1` and `2 2` leads to its members and to the node between, and nowhere behind a member.
+fn trie_leads(alloc: Global) -> Result<bool, OutOfMemory> {
+    let cover = joined_cover(alloc)?;
+    let trie = cover.trie();
+    let ends = matches!(trie.node(&[1]), Some(Trie::Member))
+        && matches!(trie.node(&[2, 2]), Some(Trie::Member));
+    let inner = matches!(trie.node(&[2]), Some(Trie::Fork(_)));
+    Ok(ends && inner && trie.node(&[1, 2]).is_none() && trie.mark(&[2]) == Mark::Inner)
+}
+
+#[test]
+fn a_trie_leads_to_its_nodes(rt: HostRuntime) {
+    holds(&rt, trie_leads(rt.alloc()));
+}
+
+/// Whether two covers that differ behind a long list join.
+fn long_lists_join(alloc: Global) -> Result<bool, OutOfMemory> {
+    let mut list = Vec::new(alloc);
+    for item in 0..1024u32 {
+        list.push(item)?;
+    }
+    let mut cover = cover_of(alloc, &[&list, &[7]])?;
+    cover.join(&cover_of(alloc, &[&list, &[8]])?)?;
+    Ok(cover.mark(&list) == Mark::Covered && cover.lists()?.len() == 3)
+}
+
+#[test]
+fn long_lists_are_kept(rt: HostRuntime) {
+    holds(&rt, long_lists_join(rt.alloc()));
 }
 
 #[test]
@@ -536,6 +567,33 @@ impl Trial for CoverInsert {
         assert!(rt; cover.mark(&[1]) == Mark::Inner);
         Ok(cover_is_refused(rt, ample, &mut cover))
     }
+}
+
+fn forked<A: Allocator + Copy>(alloc: A) -> Result<Cover<u32, A>, OutOfMemory> {
+    cover_of(alloc, &[&[1, 2, 3], &[1, 2, 4]])
+}
+
+/// An insert into a cover that shares its nodes with a copy: where it is refused, neither changes.
+struct SharedInsert;
+
+impl Trial for SharedInsert {
+    fn is_refused<R: Abort, A: Allocator + Copy>(
+        rt: &R,
+        alloc: A,
+        ample: A,
+    ) -> Result<bool, OutOfMemory> {
+        let mut cover = forked(alloc)?;
+        let copy = cover.dup()?;
+        let is_refused = cover.insert(&[1, 2, 5, 6]).is_err();
+        assert!(rt; is_same(&copy, forked(ample)));
+        assert!(rt; is_same(&cover, forked(ample)) == is_refused);
+        Ok(is_refused)
+    }
+}
+
+#[test]
+fn a_refused_insert_changes_no_shared_cover(rt: HostRuntime) {
+    refuse_each::<HostRuntime, SharedInsert>(&rt, 6);
 }
 
 #[test]

@@ -1,11 +1,19 @@
-use Rattle.std.specs.Prelude.{◌≡◌, ◌↔◌, IsTrue, IfOk, true, false}
-use Rattle.std.proofs.Common.{sym, ◌∙◌, subst}
-use Rattle.aud_witness.specs.Orders.{IsGood}
+use Rattle.std.specs.Prelude.{◌≡◌, ◌↔◌, IsTrue, IfOk, List, Some, None}
+use Rattle.std.specs.Option.{option_copied}
+use Rattle.std.proofs.Common.{sym, ◌∙◌, ap, subst}
+use Rattle.aud_lattice.specs.declared.mark.Mark.TheVariants.{Covered}
+use Rattle.aud_lattice.specs.Marks.{mark_of}
+use Rattle.aud_lattice.specs.Tries.{if_both}
+use Rattle.aud_lattice.specs.Walks.{node_at}
+use Rattle.aud_witness.specs.declared.decision.Decision.{Decision}
+use Rattle.aud_witness.specs.DecisionOrder.{decision_cmp}
 use Rattle.aud_order.specs.Shapes.{objects_of, history_of}
-use Rattle.aud_order.specs.Cursors.{CursorOf}
+use Rattle.aud_order.specs.Cursors.{CursorOf, IsBehind}
 use Rattle.aud_cover.specs.Closings.{IsCovered}
+use Rattle.aud_cover.specs.Leading.{LeadsTo, TellsClosed}
 use Rattle.aud_cover.proofs.Beginnings.{marked-covered}
-use Rattle.aud_cover.proofs.Steps.{at-covered, at-bad, cursor_at, IsClosedAt}
+use Rattle.aud_cover.proofs.Leads.{node-leads, nowhere-outside}
+use Rattle.aud_cover.proofs.Steps.{at-covered, at-bad, at-outside, IsClosedAt}
 use Rattle.aud_cover.proofs.closing.closed.Goals as goal
 
 pub returns-in-Covered : goal.returns-in-Covered
@@ -14,15 +22,31 @@ returns-in-Covered g c =
     (subst (λ l. IsCovered c.args.cover.now l) c.decisions.ensures
     (marked-covered c.args.cover.now c.decisions.result.now c.mark.result c.mark.ensures.covered c.mark.ensures.inner c.in-Covered.is))
 
-pub returns-then-not-branch : goal.returns-then-not-branch
-returns-then-not-branch g c =
-    at-bad (objects_of c.args.shape.now) (history_of c.args.shape.now) c.args.cover.now c.args.prefix.now
-    (λ good. let clash : false ≡ true = sym c.if-not-branch.true ∙ c.in_ok-push_all.ensures.good.1 (subst (λ (w : CursorOf). IsGood (objects_of w.shape) (history_of w.shape) c.decisions-2.result.now) (sym c.in_ok-cursor.ensures)
-    (subst (λ l. IsGood (objects_of c.args.shape.now) (history_of c.args.shape.now) l) (sym c.decisions-2.ensures) good)) in cc)
+pub returns-in_default-2 : goal.returns-in_default-2
+returns-in_default-2 g c =
+    let shape = c.args.shape.now in
+    let p = c.args.prefix.now in
+    let none : IsBehind shape p None = subst (IsBehind shape p) c.in_default-2.is (subst (λ (l : List Decision). IsBehind shape l c.in_ok-cursor.field-0) c.decisions-2.ensures c.in_ok-cursor.ensures) in
+    at-bad (objects_of shape) (history_of shape) c.args.cover.now p none
+
+pub returns-in-Some-node : goal.returns-in-Some-node
+returns-in-Some-node g c =
+    let shape = c.args.shape.now in
+    let p = c.args.prefix.now in
+    let cover = c.args.cover.now in
+    let node = c.in-Some-node.node.now in
+    let found : IsBehind shape p (Some c.in-Some.cursor) = subst (IsBehind shape p) c.in-Some.is (subst (λ (l : List Decision). IsBehind shape l c.in_ok-cursor.field-0) c.decisions-2.ensures c.in_ok-cursor.ensures) in
+    let at : node_at decision_cmp p c.trie.result.now ≡ Some node = ap (λ l. node_at decision_cmp l c.trie.result.now) (sym c.decisions-3.ensures) ∙ sym c.node.ensures ∙ ap option_copied c.in-Some-node.is in
+    let leads : LeadsTo cover p node = node-leads cover c.trie.result.now c.trie.ensures.good c.trie.ensures.lists p node at in
+    if_both c.closed_here.result (TellsClosed c.in-Some.cursor node) (TellsClosed c.in-Some.cursor node) (λ b. IsTrue b ↔ IsClosedAt cover (record { shape = shape; path = p }))
+    (λ b told _. subst (λ (w : CursorOf). TellsClosed w node b) found.0 told cover leads) c.closed_here.ensures.closed c.closed_here.ensures.closed
 
 pub returns : goal.returns
 returns g c =
-    let placed = c.in_ok-push_all.ensures.placed c.if-not-branch.false in
-    let is : c.push_all.new.cursor ≡ record { shape = c.args.shape.now; path = c.args.prefix.now } =
-    placed ∙ (λ i. cursor_at (c.in_ok-cursor.ensures i) (c.decisions-2.ensures i)) in
-    subst (λ (w : CursorOf). IfOk c.closed_here.result (λ b. IsTrue b ↔ IsClosedAt c.args.cover.now w)) is c.closed_here.ensures.closed
+    let shape = c.args.shape.now in
+    let p = c.args.prefix.now in
+    let cover = c.args.cover.now in
+    let found : IsBehind shape p (Some c.in-Some.cursor) = subst (IsBehind shape p) c.in-Some.is (subst (λ (l : List Decision). IsBehind shape l c.in_ok-cursor.field-0) c.decisions-2.ensures c.in_ok-cursor.ensures) in
+    let at : node_at decision_cmp p c.trie.result.now ≡ None = ap (λ l. node_at decision_cmp l c.trie.result.now) (sym c.decisions-3.ensures) ∙ sym c.node.ensures ∙ ap option_copied c.in-None.is in
+    let apart : mark_of decision_cmp cover p ≡ Covered → ⊥ = λ e. c.in_default.not-Covered (c.mark.ensures.mark ∙ ap (mark_of decision_cmp cover) c.decisions.ensures ∙ e) in
+    at-outside (objects_of shape) (history_of shape) cover p found.1 (nowhere-outside cover c.trie.result.now c.trie.ensures.good c.trie.ensures.lists p at apart)

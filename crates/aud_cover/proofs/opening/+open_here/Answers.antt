@@ -1,80 +1,116 @@
 use Rattle.std.specs.Prelude.{◌≡◌, ◌∷◌, [], ◌++◌, List}
+use Rattle.std.specs.Option.{option_copied}
 use Rattle.std.proofs.Common.{rules, sym, ◌∙◌, ap, subst, get_or}
+use mathlib.Core.Bool.{true≢false}
+use Rattle.aud_lattice.specs.declared.trie.Trie.{out-Trie}
+use Rattle.aud_lattice.specs.declared.trie.Trie.TheVariants.{outs-Member, outs-Fork}
+use Rattle.aud_lattice.specs.Tries.{on_ok, gone_node}
 use Rattle.aud_witness.specs.declared.decision.Decision.{Decision}
+use Rattle.aud_witness.specs.DecisionOrder.{decision_cmp}
+use Rattle.aud_witness.proofs.Good.{IsGood-push}
 use Rattle.aud_order.specs.Shapes.{objects_of, history_of}
 use Rattle.aud_order.specs.Cursors.{CursorOf}
 use Rattle.aud_order.specs.Kids.{AreKids}
-use Rattle.aud_cover.specs.Closings.{IsCovered, IsInside}
+use Rattle.aud_cover.specs.Leading.{LeadsTo}
 use Rattle.aud_cover.specs.Openings.{IsReached, AreAdded}
-use Rattle.aud_cover.proofs.Beginnings.{marked-covered, marked-inner, marked-outside}
-use Rattle.aud_cover.proofs.Steps.{no_decision, kid-good, cursor-back, cursor_with, falls}
+use Rattle.aud_cover.proofs.Steps.{no_decision, IsGoodAt, kid-good, cursor-back, cursor_with}
 use Rattle.aud_cover.proofs.Opened.{added-covered, added-outside, added-full, added-kids, gathered-none, gathered-more, reached-kid}
+use Rattle.aud_cover.proofs.Leads.{at-member, at-end, at-inner, pushed-leads, kid-outside, node-falls}
 use Rattle.aud_cover.proofs.opening.+open_here.Goals as goal
+use Rattle.aud_cover.proofs.opening.+open_here.Goals.{in-Some+in_ok-open_here-in-Some, in-None+in_ok-add-in-None}
 
-pub returns-in-Covered-clause-added : goal.returns-in-Covered-clause-added
-returns-in-Covered-clause-added g t c =
+pub returns-in_default-clause-added : goal.returns-in_default-clause-added
+returns-in_default-clause-added g t c =
     let start = c.args.cursor.now in
-    added-covered (objects_of start.shape) (history_of start.shape) c.args.cover.now start.path c.args.list.now.items
-    (subst (λ l. IsCovered c.args.cover.now l) c.prefix-path.ensures.prefix
-    (marked-covered c.args.cover.now c.prefix-path.result.now c.mark.result c.mark.ensures.covered c.mark.ensures.inner c.in-Covered.is))
+    let objects = objects_of start.shape in
+    let history = history_of start.shape in
+    let at = ap (out-Trie Decision g.row.A.Denot) c.in_default.is ∙ outs-Member in
+    λ cover leads reached. added-covered objects history cover start.path c.args.list.now.items (at-member cover start.path c.args.node.now leads at)
 
-pub returns-in-Outside-clause-added : goal.returns-in-Outside-clause-added
-returns-in-Outside-clause-added g t c =
+pub returns-then-is_empty-clause-added : goal.returns-then-is_empty-clause-added
+returns-then-is_empty-clause-added g t c =
     let start = c.args.cursor.now in
-    let is : c.push.new.self.items ≡ c.args.list.now.items ++ c.in_ok-copied-in-Outside.field-0 ∷ [] = search rules in
-    added-outside (objects_of start.shape) (history_of start.shape) c.args.cover.now start.path c.args.list.now.items c.push.new.self.items c.in_ok-copied-in-Outside.field-0
-    c.prefix-path.ensures.good c.requires
-    (subst (λ l. (IsCovered c.args.cover.now l → ⊥) × (IsInside c.args.cover.now l → ⊥)) c.prefix-path.ensures.prefix
-    (marked-outside c.args.cover.now c.prefix-path.result.now c.mark.result c.mark.ensures.covered c.mark.ensures.inner c.in-Outside.is))
-    (c.in_ok-copied-in-Outside.ensures ∙ c.prefix-path.ensures.prefix) is
+    let objects = objects_of start.shape in
+    let history = history_of start.shape in
+    let at = ap (out-Trie Decision g.row.A.Denot) c.in-Fork.is ∙ outs-Fork c.in-Fork.next in
+    on_ok c.add.result _ _ (λ is cover leads reached.
+      added-outside objects history cover start.path c.args.list.now.items c.add.new.list.items c.prefix-path.result.now c.prefix-path.ensures.good reached
+      (at-end cover start.path c.args.node.now leads c.in-Fork.next at (c.is_empty.ensures.0 c.if-is_empty.true)) c.prefix-path.ensures.prefix is) c.add.ensures
 
 pub returns-then-full-clause-added : goal.returns-then-full-clause-added
 returns-then-full-clause-added g t c =
     let start = c.args.cursor.now in
-    let inner = subst (λ l. (IsCovered c.args.cover.now l → ⊥) × IsInside c.args.cover.now l) c.prefix-path.ensures.prefix
-    (marked-inner c.args.cover.now c.prefix-path.result.now c.mark.result c.mark.ensures.covered c.mark.ensures.inner c.in-Inner.is) in
-    added-full (objects_of start.shape) (history_of start.shape) c.args.cover.now start.path c.args.list.now.items inner (c.full.ensures.0 c.if-full.true)
+    let objects = objects_of start.shape in
+    let history = history_of start.shape in
+    let at = ap (out-Trie Decision g.row.A.Denot) c.in-Fork.is ∙ outs-Fork c.in-Fork.next in
+    λ cover leads reached. added-full objects history cover start.path c.args.list.now.items (at-inner cover start.path c.args.node.now leads c.in-Fork.next at (λ z. true≢false (sym (c.is_empty.ensures.1 z) ∙ c.if-is_empty.false))) (c.full.ensures.0 c.if-full.true)
 
 pub loop-kid-init : goal.loop-kid-init
 loop-kid-init g t c =
-    let start = c.args.cursor.now in record {
+    let start = c.args.cursor.now in
+    let objects = objects_of start.shape in
+    let history = history_of start.shape in
+    record {
       same = search rules;
-      gathered = gathered-none (objects_of start.shape) (history_of start.shape) c.args.cover.now start.path c.deref-kid-items.result.now c.args.list.now.items;
+      gathered = λ cover leads reached. gathered-none objects history cover start.path c.deref-kid-items.result.now c.args.list.now.items;
     }
 
 pub open_here-requires : goal.open_here-requires
 open_here-requires g t c κs within =
-    let start = c.args.cursor.now in
+    let at = ap (out-Trie Decision g.row.A.Denot) c.in-Fork.is ∙ outs-Fork c.in-Fork.next in
     let kid = get_or c.deref-kid-items.result.now c.loop-kid.kid-index no_decision in
-    let inner = subst (λ l. (IsCovered c.args.cover.now l → ⊥) × IsInside c.args.cover.now l) c.prefix-path.ensures.prefix
-    (marked-inner c.args.cover.now c.prefix-path.result.now c.mark.result c.mark.ensures.covered c.mark.ensures.inner c.in-Inner.is) in
-    let next = kid-good start c.loop-kid.cursor c.in_ok-kids.kids.items c.deref-kid-items.result.now c.loop-kid.kid-index c.in_ok-kids.ensures.kids c.deref-kid-items.ensures.value c.loop-kid-test.true c.loop-kid.invariant.same in
-    let grown = c.in_ok-push.ensures.goes (c.in_ok-push.ensures.good.1 next) in
-    let reached : IsReached (objects_of c.push-in-loop-kid.new.self.shape) (history_of c.push-in-loop-kid.new.self.shape) c.args.cover.now c.push-in-loop-kid.new.self.path =
-    subst (λ (w : CursorOf). IsReached (objects_of w.shape) (history_of w.shape) c.args.cover.now w.path) (sym (grown ∙ ap (λ (w : CursorOf). cursor_with w kid) c.loop-kid.invariant.same))
-    (reached-kid (objects_of start.shape) (history_of start.shape) c.args.cover.now start.path kid c.prefix-path.ensures.good inner) in
-    (rw (← c.decreases) (falls c.args.cover.now start c.loop-kid.cursor c.push-in-loop-kid.new.self kid inner.1 c.loop-kid.invariant.same grown), search (rules, reached))
+    let small = node-falls c.args.node.now c.in-Fork.next at kid c.in-Some.below.now (sym c.get.ensures.value ∙ ap option_copied c.in-Some.is) in
+    rw c.deref.ensures (search (rules, small))
 
 pub loop-kid-preserved : goal.loop-kid-preserved
 loop-kid-preserved g t c =
     let start = c.args.cursor.now in
+    let objects = objects_of start.shape in
+    let history = history_of start.shape in
+    let at = ap (out-Trie Decision g.row.A.Denot) c.in-Fork.is ∙ outs-Fork c.in-Fork.next in
     let kid = get_or c.deref-kid-items.result.now c.loop-kid.kid-index no_decision in
-    let next = kid-good start c.loop-kid.cursor c.in_ok-kids.kids.items c.deref-kid-items.result.now c.loop-kid.kid-index c.in_ok-kids.ensures.kids c.deref-kid-items.ensures.value c.loop-kid-test.true c.loop-kid.invariant.same in
-    let grown = c.in_ok-push.ensures.goes (c.in_ok-push.ensures.good.1 next) in
-    let are = subst (λ (l : List Decision). AreKids (objects_of start.shape) (history_of start.shape) start.path l) (sym c.deref-kid-items.ensures.value) c.in_ok-kids.ensures.kids in
-    let added = subst (λ (w : CursorOf). AreAdded (objects_of w.shape) (history_of w.shape) c.args.cover.now w.path c.loop-kid.list.items c.open_here.new.list.items)
-    (grown ∙ ap (λ (w : CursorOf). cursor_with w kid) c.loop-kid.invariant.same) c.in_ok-open_here.ensures.added in record {
-      same = cursor-back start c.loop-kid.cursor c.push-in-loop-kid.new.self c.open_here.new.cursor c.pop.new.self kid c.pop.result c.loop-kid.invariant.same
-          grown c.in_ok-open_here.ensures.back c.pop.ensures.root c.pop.ensures.back;
-      gathered = gathered-more (objects_of start.shape) (history_of start.shape) c.args.cover.now start.path c.deref-kid-items.result.now c.loop-kid.kid-index
-          c.args.list.now.items c.loop-kid.list.items c.open_here.new.list.items are c.loop-kid-test.true c.loop-kid.invariant.gathered added;
-    }
+    let one = kid-good start c.loop-kid.cursor c.in_ok-kids.kids.items c.deref-kid-items.result.now c.loop-kid.kid-index c.in_ok-kids.ensures.kids c.deref-kid-items.ensures.value c.loop-kid-test.true c.loop-kid.invariant.same in
+    let grown = c.in_ok-push.ensures.goes (c.in_ok-push.ensures.good.1 one) in
+    let there : c.push.new.self ≡ cursor_with start kid = grown ∙ ap (λ (w : CursorOf). cursor_with w kid) c.loop-kid.invariant.same in
+    let are = subst (λ (l : List Decision). AreKids objects history start.path l) (sym c.deref-kid-items.ensures.value) c.in_ok-kids.ensures.kids in
+    elim c.match-get.branch [
+      | in-Some+in_ok-open_here-in-Some w ↦
+          let found = sym c.get.ensures.value ∙ ap option_copied w.in-Some.is in
+          let reached_kid : (cover : List (List Decision)) → LeadsTo cover start.path c.args.node.now → IsReached (objects_of c.push.new.self.shape) (history_of c.push.new.self.shape) cover c.push.new.self.path =
+          λ cover leads. subst (λ (w : CursorOf). IsReached (objects_of w.shape) (history_of w.shape) cover w.path) (sym there) (reached-kid objects history cover start.path kid c.prefix-path.ensures.good (at-inner cover start.path c.args.node.now leads c.in-Fork.next at (λ z. true≢false (sym (c.is_empty.ensures.1 z) ∙ c.if-is_empty.false)))) in
+          record {
+            same = cursor-back start c.loop-kid.cursor c.push.new.self c.match-get.cursor c.pop.new.self kid c.pop.result c.loop-kid.invariant.same
+                grown (w.cursor-is ∙ w.in_ok-open_here-in-Some.ensures.back) c.pop.ensures.root c.pop.ensures.back;
+            gathered = λ cover leads reached. gathered-more objects history cover start.path c.deref-kid-items.result.now c.loop-kid.kid-index
+                c.args.list.now.items c.loop-kid.list.items c.match-get.list.items are c.loop-kid-test.true (c.loop-kid.invariant.gathered cover leads reached)
+                (subst (λ (u : CursorOf). AreAdded (objects_of u.shape) (history_of u.shape) cover u.path c.loop-kid.list.items c.match-get.list.items) there
+                (subst (λ (l : List (List Decision)). AreAdded (objects_of c.push.new.self.shape) (history_of c.push.new.self.shape) cover c.push.new.self.path c.loop-kid.list.items l) (ap (λ v. v.items) (sym w.list-is))
+                (w.in_ok-open_here-in-Some.ensures.added cover
+                (pushed-leads cover start c.args.node.now leads c.in-Fork.next at kid c.loop-kid.cursor c.push.new.self w.in-Some.below.now w.deref.result.now found w.deref.ensures c.loop-kid.invariant.same grown)
+                (reached_kid cover leads))));
+          }
+      | in-None+in_ok-add-in-None w ↦
+          let gone = gone_node decision_cmp c.in-Fork.next kid (sym c.get.ensures.value ∙ ap option_copied w.in-None.is) in
+          record {
+            same = cursor-back start c.loop-kid.cursor c.push.new.self c.match-get.cursor c.pop.new.self kid c.pop.result c.loop-kid.invariant.same
+                grown w.cursor-is c.pop.ensures.root c.pop.ensures.back;
+            gathered = λ cover leads reached. gathered-more objects history cover start.path c.deref-kid-items.result.now c.loop-kid.kid-index
+                c.args.list.now.items c.loop-kid.list.items c.match-get.list.items are c.loop-kid-test.true (c.loop-kid.invariant.gathered cover leads reached)
+                (added-outside objects history cover (start.path ++ kid ∷ []) c.loop-kid.list.items c.match-get.list.items w.prefix.result.now
+                (IsGood-push objects history start.path kid c.prefix-path.ensures.good (subst (λ (u : CursorOf). IsGoodAt u kid) c.loop-kid.invariant.same one))
+                (reached-kid objects history cover start.path kid c.prefix-path.ensures.good (at-inner cover start.path c.args.node.now leads c.in-Fork.next at (λ z. true≢false (sym (c.is_empty.ensures.1 z) ∙ c.if-is_empty.false))))
+                (kid-outside cover start.path c.args.node.now leads c.in-Fork.next at kid gone)
+                (w.prefix.ensures.prefix ∙ ap (λ (u : CursorOf). u.path) there)
+                (ap (λ v. v.items) w.list-is ∙ w.in_ok-add-in-None.ensures));
+          }
+    ]
 
 pub returns-clause-added : goal.returns-clause-added
 returns-clause-added g t c =
     let start = c.args.cursor.now in
-    let inner = subst (λ l. (IsCovered c.args.cover.now l → ⊥) × IsInside c.args.cover.now l) c.prefix-path.ensures.prefix
-    (marked-inner c.args.cover.now c.prefix-path.result.now c.mark.result c.mark.ensures.covered c.mark.ensures.inner c.in-Inner.is) in
-    let are = subst (λ (l : List Decision). AreKids (objects_of start.shape) (history_of start.shape) start.path l) (sym c.deref-kid-items.ensures.value) c.in_ok-kids.ensures.kids in
-    added-kids (objects_of start.shape) (history_of start.shape) c.args.cover.now start.path c.deref-kid-items.result.now c.loop-kid.kid-index
-    c.args.list.now.items c.loop-kid.list.items inner are c.loop-kid-test.false c.loop-kid.invariant.gathered
+    let objects = objects_of start.shape in
+    let history = history_of start.shape in
+    let at = ap (out-Trie Decision g.row.A.Denot) c.in-Fork.is ∙ outs-Fork c.in-Fork.next in
+    let are = subst (λ (l : List Decision). AreKids objects history start.path l) (sym c.deref-kid-items.ensures.value) c.in_ok-kids.ensures.kids in
+    λ cover leads reached. added-kids objects history cover start.path c.deref-kid-items.result.now c.loop-kid.kid-index
+      c.args.list.now.items c.loop-kid.list.items (at-inner cover start.path c.args.node.now leads c.in-Fork.next at (λ z. true≢false (sym (c.is_empty.ensures.1 z) ∙ c.if-is_empty.false))) are c.loop-kid-test.false (c.loop-kid.invariant.gathered cover leads reached)

@@ -1,0 +1,113 @@
+-- A trie by what its walks meet.
+use Rattle.std.specs.Prelude.{◌≡◌, ◌≢◌, Bool, true, false, ◌||◌, List, [], ◌∷◌, Option, Some, None, ⊤, ◌&&◌}
+use Rattle.std.specs.Arc.{arc_value}
+use Rattle.std.specs.declared.sync.Arc.{Arc}
+use Rattle.std.specs.declared.cmp.Ordering.{Ordering}
+use Rattle.std.specs.Ordering.{is_eq}
+use Rattle.std.specs.Map.{lookup}
+use Rattle.std.specs.BTreeMap.{is_at, IsOrdered}
+use Rattle.std.specs.declared.collections.BTreeMap.{BTreeMap}
+use Rattle.aud_lattice.specs.Sets.{either}
+use Rattle.aud_lattice.specs.declared.mark.Mark.{Mark}
+use Rattle.aud_lattice.specs.declared.mark.Mark.TheVariants.{Covered, Inner, Outside}
+use Rattle.aud_lattice.specs.declared.trie.Trie.{Trie, out-Trie}
+use Rattle.aud_lattice.specs.declared.trie.Trie.TheOpen.{Trie-F, Member, Fork}
+
+-- the entries of a node, each with the node that it shares
+abbrev pub nodes_of : {D X A : Type 0} → List (D × Arc X A) → List (D × X)
+nodes_of [] = []
+nodes_of (e ∷ es) = (e.0, arc_value e.1) ∷ nodes_of es
+
+-- the node behind the element
+abbrev pub node_of : {D X A : Type 0} → (D → D → Ordering) → BTreeMap D (Arc X A) A → D → Option X
+node_of cmp next x = lookup (is_at (cmp x)) (nodes_of next.entries)
+
+-- one layer, with any kind of nodes behind it
+abbrev pub ends : {D A X : Type 0} → Trie-F D A X → Bool
+ends Member = true
+ends (Fork next) = false
+
+abbrev pub behind : {D A X : Type 0} → (D → D → Ordering) → Trie-F D A X → D → Option X
+behind cmp Member x = None
+behind cmp (Fork next) x = node_of cmp next x
+
+abbrev pub IsLayer : {D A X : Type 0} → (D → D → Ordering) → Trie-F D A X → Type 0
+IsLayer cmp Member = ⊤
+IsLayer cmp (Fork next) = IsOrdered cmp next
+
+-- whether the node is a member
+abbrev pub is_member : {D A : Type 0} → Trie D A → Bool
+is_member {D} {A} t = ends (out-Trie D A t)
+
+abbrev pub child : {D A : Type 0} → (D → D → Ordering) → Trie D A → D → Option (Trie D A)
+child {D} {A} cmp t x = behind cmp (out-Trie D A t) x
+
+abbrev pub walk_on : {X : Type 0} → (X → Bool) → Option X → Bool
+walk_on f None = false
+walk_on f (Some u) = f u
+
+-- whether a beginning of q is a member
+abbrev pub walk : {D A : Type 0} → (D → D → Ordering) → Trie D A → List D → Bool
+walk cmp t [] = is_member t
+walk cmp t (x ∷ q) = is_member t || walk_on (λ u. walk cmp u q) (child cmp t x)
+
+abbrev pub go_on : {X Y : Type 0} → (X → Option Y) → Option X → Option Y
+go_on f None = None
+go_on f (Some u) = f u
+
+-- the node that q leads to
+abbrev pub node_at : {D A : Type 0} → (D → D → Ordering) → List D → Trie D A → Option (Trie D A)
+node_at cmp [] t = Some t
+node_at cmp (x ∷ q) t = go_on (λ u. node_at cmp q u) (child cmp t x)
+
+-- some list has a beginning in it
+abbrev pub IsLive : {D A : Type 0} → (D → D → Ordering) → Trie D A → Type 0
+IsLive {D} cmp t = ((q : List D) → walk cmp t q ≡ false) → ⊥
+
+-- the keys of each node ascend, and below the root none is without a member
+pub record IsTrie {D A : Type 0} (cmp : D → D → Ordering) (t : Trie D A) : Type 0 where
+  pub at : (q : List D) (u : Trie D A) → node_at cmp q t ≡ Some u → IsLayer cmp (out-Trie D A u) × (q ≢ [] → IsLive cmp u)
+
+-- no list
+abbrev pub nothing : {D : Type 0} → List D → Bool
+nothing q = false
+
+-- whether q is x and then what passes
+abbrev pub starts : {D : Type 0} → (D → D → Ordering) → D → (List D → Bool) → List D → Bool
+starts cmp x f [] = false
+starts cmp x f (y ∷ q) = is_eq (cmp x y) && f q
+
+-- what the first passes the other passes too
+pub record IsWithin {D : Type 0} (f g : List D → Bool) : Type 0 where
+  pub at : (q : List D) → f q ≡ true → g q ≡ true
+
+-- how the list stands, by the node that its walk ends at
+abbrev pub end_mark : {D X : Type 0} → List (D × X) → Mark
+end_mark [] = Outside
+end_mark (e ∷ es) = Inner
+
+abbrev pub mark_on : {X : Type 0} → (X → Mark) → Option X → Mark
+mark_on f None = Outside
+mark_on f (Some u) = f u
+
+abbrev pub mark_here : {D A X : Type 0} → Trie-F D A X → Mark
+mark_here Member = Covered
+mark_here (Fork next) = end_mark (nodes_of next.entries)
+
+abbrev pub mark_there : {D A X : Type 0} → (D → D → Ordering) → (X → Mark) → Trie-F D A X → D → Mark
+mark_there cmp f Member x = Covered
+mark_there cmp f (Fork next) x = mark_on f (node_of cmp next x)
+
+abbrev pub walk_mark : {D A : Type 0} → (D → D → Ordering) → Trie D A → List D → Mark
+walk_mark {D} {A} cmp t [] = mark_here (out-Trie D A t)
+walk_mark {D} {A} cmp t (x ∷ q) = mark_there cmp (λ u. walk_mark cmp u q) (out-Trie D A t) x
+
+-- what there is now: the new one, or what there was
+abbrev pub now_of : {X : Type 0} → X → Option X → X
+now_of old None = old
+now_of old (Some new) = new
+
+-- behind x all that f passes passes in the node found there; or a new node is to stand there, in which it does, and what passed
+abbrev pub IsMet : {D A : Type 0} → (D → D → Ordering) → BTreeMap D (Arc (Trie D A) A) A → D → (List D → Bool) → Option (Arc (Trie D A) A) → Type 0
+IsMet {D} {A} cmp next x f None = (w : Trie D A) × ((node_of cmp next x ≡ Some w) × (walk cmp w ≡ either f (walk cmp w)))
+IsMet cmp next x f (Some a) = IsTrie cmp (arc_value a) × (walk cmp (arc_value a) ≡ either f (λ q. walk_on (λ w. walk cmp w q) (node_of cmp next x)))
