@@ -8,7 +8,7 @@ use Rattle.aud_lattice.specs.Sets.{has, with_item}
 use Rattle.aud_facts.specs.declared.status.FactStatus.{FactStatus}
 use Rattle.aud_facts.specs.declared.status.FactStatus.TheVariants.{Conflict, Waiting, Gap, Sealed}
 use Rattle.aud_facts.specs.Order.{AreOrdered}
-use Rattle.aud_facts.specs.Sets.{AreSound}
+use Rattle.aud_facts.specs.Sets.{FactsOf, AreSound}
 use Rattle.aud_facts.specs.Status.{status_of}
 
 -- it is a conflict
@@ -17,6 +17,10 @@ IsConflict (Conflict k log at) = ⊤
 IsConflict (Waiting log) = ⊥
 IsConflict (Gap stamp) = ⊥
 IsConflict Sealed = ⊥
+
+-- the status of the facts is a conflict
+abbrev pub AreInConflict : FactsOf → Type 0
+AreInConflict facts = IsConflict (status_of facts.plan.logs facts.facts)
 
 -- whatever new fact fits the plan, a sealed set that gains it is in conflict
 abbrev pub SealedIsFull : Type 0

@@ -22,7 +22,15 @@ pub record SealedOf : Type 0 where
   pub facts : FactsOf
   pub history : List (ℕ × Event)
 
+-- every log has its end mark and its records, and no stamp is missing
+abbrev pub AreSealed : FactsOf → Type 0
+AreSealed facts = status_of facts.plan.logs facts.facts ≡ Sealed
+
 -- the facts are sealed, and this is their history
 pub record IsSealedWith (facts : FactsOf) (history : List (ℕ × Event)) : Type 0 where
   pub sealed : status_of facts.plan.logs facts.facts ≡ Sealed
   pub events : history ≡ hist facts.facts
+
+-- the sealed set is that of the facts
+abbrev pub IsSealOf : FactsOf → SealedOf → Type 0
+IsSealOf facts sealed = (sealed.facts ≡ facts) × IsSealedWith facts sealed.history

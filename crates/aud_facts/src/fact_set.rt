@@ -5,10 +5,10 @@ ghost use Rattle.aud_event.specs.Facts.{first_fact_fault};
 ghost use Rattle.aud_event.specs.contracts.fact.FactOrd.TheImpl as fact_ord;
 ghost use Rattle.aud_history.specs.FirstFault.{IsWithinLimits};
 ghost use Rattle.aud_lattice.specs.Sets.{has, with_item, inserted};
-ghost use Rattle.aud_facts.specs.Growth.{IsConflict};
+ghost use Rattle.aud_facts.specs.Growth.{AreInConflict};
 ghost use Rattle.aud_facts.specs.Joins.{joined};
 ghost use Rattle.aud_facts.specs.Order.{AreOrdered};
-ghost use Rattle.aud_facts.specs.Sets.{FactsOf, AreSound, IsSealedWith};
+ghost use Rattle.aud_facts.specs.Sets.{FactsOf, AreSealed, AreSound, IsSealOf, IsSealedWith};
 ghost use Rattle.aud_facts.specs.Status.{status_of, hist, count, is_record};
 
 use crate::conflict::status_in;
@@ -76,7 +76,7 @@ fn history_of_set<A: Allocator + Copy>(
     records: usize,
 ) -> Result<History<A>, OutOfMemory>
     requires sound { AreSound plan.value set.now }
-    requires sealed { status_of plan.value.logs set.now ≡ FactStatus.Sealed }
+    requires sealed { AreSealed (record { plan = plan.value; facts = set.now }) }
     requires records { records ≡ count is_record set.now }
     ensures { IfOk result (λ h. h ≡ record { plan = plan.value; events = hist set.now }) }
 {
@@ -132,7 +132,7 @@ impl<A: Allocator + Copy> Facts<A> {
         requires { first_fact_fault self.old.plan fact.now ≡ None }
         ensures ok { OnOk result (self.new ≡ record { plan = self.old.plan; facts = with_item fact_ord.ghosts.cmp fact.now self.old.facts }) }
         ensures err { OnErr result (self.new ≡ self.old) }
-        ensures grows { status_of self.old.plan.logs self.old.facts ≡ FactStatus.Sealed → has fact_ord.ghosts.cmp self.old.facts fact.now ≡ false → OnOk result (IsConflict (status_of self.new.plan.logs self.new.facts)) }
+        ensures grows { AreSealed self.old → has fact_ord.ghosts.cmp self.old.facts fact.now ≡ false → OnOk result (AreInConflict self.new) }
     {
         let _ordered = self.set.iter();
         self.set.insert(*fact)?;
@@ -168,7 +168,7 @@ impl<A: Allocator + Copy> Facts<A> {
 
     /// The facts with their history, exactly where they are sealed.
     pub fn seal(&self) -> Result<Option<Arc<Sealed<A>, A>>, OutOfMemory>
-        ensures { IfOk result (λ o. MatchOption o (status_of self.now.plan.logs self.now.facts ≢ FactStatus.Sealed) (λ s. (s.value.facts ≡ self.now) × IsSealedWith self.now s.value.history)) }
+        ensures { IfOk result (λ o. MatchOption o (¬ (AreSealed self.now)) (λ s. IsSealOf self.now s.value)) }
     {
         let (status, records) = status_of_set(&self.plan, &self.set);
         match status {

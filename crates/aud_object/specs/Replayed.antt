@@ -1,11 +1,12 @@
 -- Executions run one after another over the states of all objects.
-use Rattle.std.specs.Prelude.{ℕ, zero, suc, Bool, true, false, not, if◌then◌else◌, List, [], ◌∷◌, Option, Some, None}
+use Rattle.std.specs.Prelude.{◌≡◌, MatchOption, ℕ, zero, suc, Bool, true, false, not, if◌then◌else◌, List, [], ◌∷◌, Option, Some, None}
 use Rattle.std.specs.Ordering.{int_eq}
 use Rattle.aud_event.specs.declared.object.Op.{Op}
 use Rattle.aud_event.specs.declared.object.Answer.{Answer}
 use Rattle.aud_event.specs.declared.object.Answer.TheVariants.{Done, Int, Flag, Empty}
 use Rattle.aud_object.specs.Objects.{ObjState, answer_of, after_op}
 use Rattle.aud_object.specs.Blocks.{BlockOf}
+use Rattle.aud_object.specs.Meanings.{StoreOf}
 use Rattle.aud_object.specs.declared.execution.Execution.{Execution}
 
 -- whether two answers are one
@@ -39,6 +40,15 @@ abbrev pub executed : List ObjState → List Execution → Option (List ObjState
 executed states [] = Some states
 executed states (x ∷ xs) = if answers (answer_at states x.object x.op) x.answer then executed (after_at states x.object x.op) xs else None
 
+-- the executions ran, or some recorded answer is not the object's
+abbrev pub Runs : List ObjState → List Execution → Bool → List ObjState → Type 0
+Runs states xs right new = MatchOption (executed states xs) (right ≡ false) (λ after. (right ≡ true) × (new ≡ after))
+
 -- the states after a block, if each recorded answer is the object's; a trailing invocation constrains nothing
 abbrev pub replayed : List ObjState → BlockOf → Option (List ObjState)
 replayed states b = executed states b.executions
+
+-- a block was replayed, and can be taken back; or some recorded answer is not the object's, and the store is as it was
+abbrev pub Replays : StoreOf → BlockOf → Bool → StoreOf → Type 0
+Replays old block right new =
+    MatchOption (replayed old.now block) ((right ≡ false) × (new ≡ old)) (λ after. (right ≡ true) × (new ≡ record { now = after; past = old.now ∷ old.past }))

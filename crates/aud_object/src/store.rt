@@ -6,7 +6,7 @@ ghost use Rattle.aud_object.specs.States.{meaning};
 ghost use Rattle.aud_object.specs.Shown.{shown};
 ghost use Rattle.aud_object.specs.Logs.{back_at};
 ghost use Rattle.aud_object.specs.Digests.{digest_states};
-ghost use Rattle.aud_object.specs.Replayed.{same_answer, after_at, answer_at, answers, executed, replayed};
+ghost use Rattle.aud_object.specs.Replayed.{same_answer, after_at, answer_at, answers, replayed, Replays, Runs};
 
 use crate::block::Block;
 use crate::change::Change;
@@ -237,7 +237,7 @@ impl<A: Allocator + Clone> Store<A> {
 
     fn run(&mut self, executions: &[Execution]) -> Result<bool, OutOfMemory>
         ensures past { self.new.past ≡ self.old.past }
-        ensures right { IfOk result (λ right. MatchOption (executed self.old.now executions.now) (right ≡ false) (λ after. (right ≡ true) × (self.new.now ≡ after))) }
+        ensures right { IfOk result (λ right. Runs self.old.now executions.now right self.new.now) }
     {
         for x in executions {
             if !self.step(x.object, x.op, x.answer)? {
@@ -250,7 +250,7 @@ impl<A: Allocator + Clone> Store<A> {
     /// Whether each recorded answer is the object's. If so the block has run, and `undo` takes it back; if not, and where
     /// memory is wanting, the store is as it was. It costs what the block touches.
     pub fn replay<B: Allocator>(&mut self, block: &Block<B>) -> Result<bool, OutOfMemory>
-        ensures right { IfOk result (λ right. MatchOption (replayed self.old.now block.now) ((right ≡ false) × (self.new ≡ self.old)) (λ after. (right ≡ true) × (self.new ≡ record { now = after; past = self.old.now ∷ self.old.past }))) }
+        ensures right { IfOk result (λ right. Replays self.old block.now right self.new) }
         ensures refused { OnErr result (self.new ≡ self.old) }
     {
         self.mark()?;

@@ -1,12 +1,13 @@
 -- A cursor over the good lists of decisions.
-use Rattle.std.specs.Prelude.{◌≡◌, ℕ, ◌<◌, Bool, true, false, List, [], ◌∷◌, ◌++◌, Option, Some, None, Ok, slice_index_or}
+use Rattle.std.specs.Prelude.{◌≡◌, ℕ, ◌<◌, ◌-◌, Bool, true, false, List, [], ◌∷◌, ◌++◌, length, take, Option, Some, None, Ok, slice_index_or}
 use Rattle.aud_history.specs.WellFormed.{IsWellFormed}
 use Rattle.aud_history.specs.FirstFault.{IsWithinLimits}
-use Rattle.aud_history.specs.Table.{RowOf, table_of}
+use Rattle.aud_history.specs.Table.{RowOf, table_of, transactions}
 use Rattle.aud_witness.specs.declared.decision.Decision.{Decision}
 use Rattle.aud_witness.specs.declared.fault.OrderFault.{OrderFault}
 use Rattle.aud_witness.specs.declared.fault.OrderFault.TheVariants.{UnknownTx, Twice, FateNotAllowed, RealTime, Illegal, Missing}
-use Rattle.aud_witness.specs.Orders.{IsGood}
+use Rattle.aud_witness.specs.OrderFaults.{is_good_next, place_fault}
+use Rattle.aud_witness.specs.Orders.{IsGood, IsGoodNext}
 use Rattle.aud_witness.specs.Spots.{Spot, first_spot, stepped}
 use Rattle.aud_witness.specs.Placings.{PlacingOf}
 use Rattle.aud_order.specs.declared.pushed.Pushed.{Pushed}
@@ -23,6 +24,26 @@ abbrev pub IsBehind : ShapeOf → List Decision → Option CursorOf → Type 0
 IsBehind shape p None = IsGood (objects_of shape) (history_of shape) p → ⊥
 IsBehind shape p (Some c) = (c ≡ record { shape = shape; path = p }) × IsGood (objects_of shape) (history_of shape) p
 
+-- the decision is good behind those of the cursor
+abbrev pub IsGoodAt : CursorOf → Decision → Type 0
+IsGoodAt c d = IsGoodNext (objects_of c.shape) (history_of c.shape) c.path d
+
+-- the same as a test
+abbrev pub is_good_at : CursorOf → Decision → Bool
+is_good_at c d = is_good_next (objects_of c.shape) (history_of c.shape) c.path d
+
+-- the cursor one decision further
+abbrev pub cursor_with : CursorOf → Decision → CursorOf
+cursor_with c d = record { shape = c.shape; path = c.path ++ d ∷ [] }
+
+-- the cursor without its last decision, if it has one
+abbrev pub cursor_back : CursorOf → CursorOf
+cursor_back c = record { shape = c.shape; path = take (length c.path - 1) c.path }
+
+-- the transaction of the row at the place
+abbrev pub transaction_at : CursorOf → ℕ → ℕ
+transaction_at c place = slice_index_or (transactions (history_of c.shape)) place 0
+
 -- what a cursor tells of a decision in which something is wrong
 abbrev pub pushed_by_fault : OrderFault → Pushed
 pushed_by_fault (UnknownTx _) = told.NotAChoice
@@ -36,6 +57,10 @@ pushed_by_fault (Missing _) = told.NotAChoice
 abbrev pub pushed_by : Option OrderFault → Pushed
 pushed_by None = told.Good
 pushed_by (Some fault) = pushed_by_fault fault
+
+-- what a cursor tells of a decision
+abbrev pub pushed_at : CursorOf → Decision → Pushed
+pushed_at c d = pushed_by (place_fault (objects_of c.shape) (history_of c.shape) c.path d)
 
 -- the decisions lead from the first spot to a spot, over the spots behind it, the last one first
 abbrev pub Leads : List RowOf → Spot → List Decision → Spot → List Spot → Type 0

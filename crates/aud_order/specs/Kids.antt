@@ -9,6 +9,8 @@ use Rattle.aud_witness.specs.declared.decision.Decision.{Decision}
 use Rattle.aud_witness.specs.DecisionOrder.{decision_cmp}
 use Rattle.aud_witness.specs.Orders.{IsGoodNext}
 use Rattle.aud_witness.specs.OrderFaults.{is_good_next, kids}
+use Rattle.aud_order.specs.Cursors.{CursorOf}
+use Rattle.aud_order.specs.Shapes.{objects_of, history_of}
 
 -- both fates of a transaction
 abbrev pub both_fates : ℕ → List Decision
@@ -17,6 +19,10 @@ both_fates t = record { tx = t; fate = C } ∷ record { tx = t; fate = A } ∷ [
 -- the decisions on some transactions that are good behind p
 abbrev pub goods : List Declared → History → List Decision → List ℕ → List Decision
 goods objects h p ts = filter (is_good_next objects h p) (flat_map both_fates ts)
+
+-- the same behind the list of a cursor
+abbrev pub goods_at : CursorOf → List ℕ → List Decision
+goods_at c ts = goods (objects_of c.shape) (history_of c.shape) c.path ts
 
 -- exactly the decisions that are good behind p, each once, the least first
 pub record AreKids (objects : List Declared) (h : History) (p : List Decision) (ks : List Decision) : Type 0 where

@@ -4,11 +4,11 @@ ghost use Rattle.std.specs.Prelude.{◌≡◌, ◌≢◌, ◌↔◌, ◌<◌, �
 ghost use Rattle.aud_object.specs.Objects.{opening_of};
 ghost use Rattle.aud_object.specs.Executions.{states_after};
 ghost use Rattle.aud_history.specs.Table.{table_of, transactions};
-ghost use Rattle.aud_witness.specs.Orders.{is_named, kept, IsFull, IsGood, IsGoodNext};
-ghost use Rattle.aud_witness.specs.OrderFaults.{is_enabled, place_fault, is_good_next};
+ghost use Rattle.aud_witness.specs.Orders.{is_named, kept, IsFull, IsGood};
+ghost use Rattle.aud_witness.specs.OrderFaults.{is_enabled};
 ghost use Rattle.aud_order.specs.Shapes.{objects_of, history_of};
-ghost use Rattle.aud_order.specs.Cursors.{pushed_by, ArePlaced, IsBehind};
-ghost use Rattle.aud_order.specs.Kids.{AreKids, goods};
+ghost use Rattle.aud_order.specs.Cursors.{cursor_back, cursor_with, is_good_at, pushed_at, transaction_at, ArePlaced, IsBehind, IsGoodAt};
+ghost use Rattle.aud_order.specs.Kids.{AreKids, goods_at};
 
 use crate::pushed::Pushed;
 use crate::shape::Shape;
@@ -125,9 +125,11 @@ impl<'a, A: Allocator + Copy> Cursor<'a, A> {
     /// Places a decision behind the others if it is good there, or tells the first thing that is wrong with it. Only where
     /// it is good the cursor changes.
     pub fn push(&mut self, decision: Decision) -> Result<Pushed, OutOfMemory>
-        ensures told { IfOk result (λ pushed. pushed ≡ pushed_by (place_fault (objects_of self.old.shape) (history_of self.old.shape) self.old.path decision)) }
-        ensures good { IfOk result (λ pushed. (pushed ≡ Pushed.Good) ↔ IsGoodNext (objects_of self.old.shape) (history_of self.old.shape) self.old.path decision) }
-        ensures goes { IfOk result (λ pushed. pushed ≡ Pushed.Good → self.new ≡ record { shape = self.old.shape; path = self.old.path ++ decision ∷ [] }) }
+        ensures told { IfOk result (λ pushed. pushed ≡ pushed_at self.old decision) }
+        ensures good { IfOk result (λ pushed. (pushed ≡ Pushed.Good) ↔ IsGoodAt self.old decision) }
+
+        // Only a good decision moves the cursor.
+        ensures goes { IfOk result (λ pushed. pushed ≡ Pushed.Good → self.new ≡ cursor_with self.old decision) }
         ensures stays { IfOk result (λ pushed. pushed ≢ Pushed.Good → self.new ≡ self.old) }
         ensures refused { OnErr result (self.new ≡ self.old) }
     {
@@ -144,7 +146,7 @@ impl<'a, A: Allocator + Copy> Cursor<'a, A> {
     /// Takes the last decision back; at the empty list it changes nothing and answers false. It takes no memory.
     pub fn pop(&mut self) -> bool
         ensures root { result ≡ false → (self.old.path ≡ []) × (self.new ≡ self.old) }
-        ensures back { result ≡ true → (self.old.path ≢ []) × (self.new ≡ record { shape = self.old.shape; path = take (length self.old.path - 1) self.old.path }) }
+        ensures back { result ≡ true → (self.old.path ≢ []) × (self.new ≡ cursor_back self.old) }
     {
         let Some(last) = self.placing.path().last().copied() else {
             return false;
@@ -157,7 +159,7 @@ impl<'a, A: Allocator + Copy> Cursor<'a, A> {
 
     /// Whether the decision is good there. The cursor stays as it is.
     fn is_good(&mut self, decision: Decision) -> Result<bool, OutOfMemory>
-        ensures good { IfOk result (λ good. good ≡ is_good_next (objects_of self.old.shape) (history_of self.old.shape) self.old.path decision) }
+        ensures good { IfOk result (λ good. good ≡ is_good_at self.old decision) }
         ensures stays { self.new ≡ self.old }
     {
         match self.placing.place(decision)? {
@@ -175,7 +177,7 @@ impl<'a, A: Allocator + Copy> Cursor<'a, A> {
         kids: &mut Vec<Decision, A>,
         decision: Decision,
     ) -> Result<(), OutOfMemory>
-        ensures added { OnOk result (kids.new.items ≡ kids.old.items ++ filter (is_good_next (objects_of self.old.shape) (history_of self.old.shape) self.old.path) (decision ∷ [])) }
+        ensures added { OnOk result (kids.new.items ≡ kids.old.items ++ filter (is_good_at self.old) (decision ∷ [])) }
         ensures stays { self.new ≡ self.old }
     {
         if self.is_good(decision)? {
@@ -192,8 +194,8 @@ impl<'a, A: Allocator + Copy> Cursor<'a, A> {
         tx: u32,
     ) -> Result<(), OutOfMemory>
         requires inside { place < length (table_of (history_of self.old.shape)) }
-        requires row { tx ≡ slice_index_or (transactions (history_of self.old.shape)) place 0 }
-        ensures added { OnOk result (kids.new.items ≡ kids.old.items ++ goods (objects_of self.old.shape) (history_of self.old.shape) self.old.path (tx ∷ [])) }
+        requires row { tx ≡ transaction_at self.old place }
+        ensures added { OnOk result (kids.new.items ≡ kids.old.items ++ goods_at self.old (tx ∷ [])) }
         ensures stays { self.new ≡ self.old }
     {
         if self.placing.has_row(place) {
@@ -209,7 +211,7 @@ impl<'a, A: Allocator + Copy> Cursor<'a, A> {
     /// Whether all that ended before the transaction of the row at the place began are placed.
     pub fn is_enabled(&self, place: usize) -> bool
         requires { place < length (table_of (history_of self.now.shape)) }
-        ensures { result ≡ is_enabled (history_of self.now.shape) self.now.path (slice_index_or (transactions (history_of self.now.shape)) place 0) }
+        ensures { result ≡ is_enabled (history_of self.now.shape) self.now.path (transaction_at self.now place) }
     {
         let row = &self.shape.table().rows()[place];
         self.placing.are_earlier_placed(row.first())
@@ -217,7 +219,7 @@ impl<'a, A: Allocator + Copy> Cursor<'a, A> {
 
     /// The first row that may be not placed.
     fn first_open(&self) -> usize
-        ensures { goods (objects_of self.now.shape) (history_of self.now.shape) self.now.path (take result (transactions (history_of self.now.shape))) ≡ [] }
+        ensures { goods_at self.now (take result (transactions (history_of self.now.shape))) ≡ [] }
     {
         self.first_open
     }

@@ -1,5 +1,5 @@
 -- What is told of an order that does not show a history, and the kids of a prefix.
-use Rattle.std.specs.Prelude.{ℕ, Bool, not, ◌&&◌, ◌||◌, if◌then◌else◌, nat_lt, List, [], ◌∷◌, ◌++◌, Option, Some, None, filter}
+use Rattle.std.specs.Prelude.{ℕ, Bool, not, ◌&&◌, ◌||◌, if◌then◌else◌, nat_lt, List, [], ◌∷◌, ◌++◌, Option, Some, None, Result, MatchResult, ◌≡◌, filter}
 use Rattle.std.specs.List.{list_all, flat_map}
 use Rattle.aud_event.specs.Meanings.{Declared}
 use Rattle.aud_witness.specs.declared.decision.Fate.TheVariants.{C, A}
@@ -42,6 +42,10 @@ fault_behind objects h before (d ∷ rest) =
 
 abbrev pub first_order_fault : List Declared → History → List Decision → Option OrderFault
 first_order_fault objects h p = fault_behind objects h [] p
+
+-- that there is no fault is told, or the first one
+abbrev pub TellsOrderFault : {T : Type 0} → List Declared → History → List Decision → Result T OrderFault → Type 0
+TellsOrderFault objects h p r = MatchResult r (λ none. first_order_fault objects h p ≡ None) (λ fault. first_order_fault objects h p ≡ Some fault)
 
 abbrev pub is_good_next : List Declared → History → List Decision → Decision → Bool
 is_good_next objects h p d =
