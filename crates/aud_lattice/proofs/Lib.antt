@@ -1,0 +1,4 @@
+pub mod Grouped
+pub mod Turns
+pub mod CoverCrosses
+pub mod Crosses

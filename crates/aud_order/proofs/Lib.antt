@@ -1,0 +1,11 @@
+pub mod Lists
+pub mod Opens
+pub mod Lengths
+pub mod KidLemmas
+pub mod Standing
+pub mod Gathering
+pub mod SilentRows
+pub mod Stepping
+pub mod Moves
+pub mod Crosses
+pub mod Placed
