@@ -186,15 +186,20 @@ pub fn other_record(event: Event) -> Fact {
 }
 
 /// What the verdict says, without its order.
-pub fn judged<A: Allocator + Copy>(known: &Knowledge<A>) -> Result<Judgement, OutOfMemory> {
-    Ok(match known.verdict()? {
-        Verdict::Conflict(kind, log, at) => Judgement::Conflict(kind, log, at),
-        Verdict::Waiting(log) => Judgement::Waiting(log),
+pub fn judgement_of<A: Allocator + Copy>(verdict: &Verdict<A>) -> Judgement {
+    match verdict {
+        Verdict::Conflict(kind, log, at) => Judgement::Conflict(*kind, *log, *at),
+        Verdict::Waiting(log) => Judgement::Waiting(*log),
         Verdict::Gap(_) | Verdict::IllFormed(_, _) => Judgement::Unsound,
         Verdict::Opaque(_) => Judgement::Opaque,
         Verdict::NotOpaque => Judgement::NotOpaque,
         Verdict::Unfinished => Judgement::Unfinished,
-    })
+    }
+}
+
+/// What the verdict on what is known says, without its order.
+pub fn judged<A: Allocator + Copy>(known: &Knowledge<A>) -> Result<Judgement, OutOfMemory> {
+    Ok(judgement_of(&known.verdict()?))
 }
 
 fn lists(known: &Knowledge) -> Result<usize, OutOfMemory> {

@@ -1,4 +1,4 @@
-//! Tests of what a node knows, of worlds of nodes, and of the program's words and runs.
+//! Tests of what a node knows, of worlds of nodes, of running nodes, and of the program's words and runs.
 #![tactic(auto)]
 
 #[cfg(test)]
@@ -12,7 +12,11 @@ mod knowing_growth;
 #[cfg(test)]
 mod lines;
 #[cfg(test)]
+mod nodes;
+#[cfg(test)]
 mod open;
+#[cfg(test)]
+mod running;
 #[cfg(test)]
 mod threads;
 #[cfg(test)]
