@@ -1,13 +1,11 @@
 -- What the node that a list leads to tells of the list.
-use Rattle.std.specs.Prelude.{◌≡◌, ◌↔◌, ◌+◌, ◌<◌, ◌≤◌, Bool, true, false, IsTrue, List, [], ◌∷◌, ◌++◌, length, Option, Some, None, refl}
-use Rattle.std.specs.List.{Contains}
+use Rattle.std.specs.Prelude.{◌≡◌, ◌↔◌, ◌<◌, false, IsTrue, List, [], ◌∷◌, ◌++◌, length, Some, None, refl}
 use Rattle.std.proofs.Common.{sym, ◌∙◌, ap, subst, append_assoc}
 use Rattle.std.proofs.lemmas.List.{append-nil}
 use Rattle.std.specs.Arc.{arc_value}
 use Rattle.std.specs.BTreeMap.{get}
 use Rattle.std.specs.declared.sync.Arc.{Arc}
 use Rattle.std.specs.declared.collections.BTreeMap.{BTreeMap}
-use Rattle.aud_lattice.specs.declared.mark.Mark.{Mark}
 use Rattle.aud_lattice.specs.declared.mark.Mark.TheVariants.{Covered, Inner, Outside}
 use Rattle.aud_lattice.specs.declared.trie.Trie.{Trie, out-Trie, size-Trie}
 use Rattle.aud_lattice.specs.declared.trie.Trie.TheOpen.{Member, Fork}

@@ -1,8 +1,8 @@
 -- Whether a list is closed, by its mark and its kids.
 use Rattle.std.specs.Prelude.{◌≡◌, ◌≢◌, ◌↔◌, ℕ, ◌+◌, ◌-◌, ◌<◌, ◌≤◌, Bool, true, false, IsTrue, List, [], ◌∷◌, ◌++◌, length, refl}
 use Rattle.std.specs.List.{Contains}
-use Rattle.std.proofs.Common.{sym, ◌∙◌, ap, subst, inl, inr, arith, get_or, take, drop, append_assoc}
-use Rattle.std.proofs.lemmas.List.{take_more, take_all, take-append-drop}
+use Rattle.std.proofs.Common.{sym, ◌∙◌, ap, subst, inl, inr, arith, get_or, take}
+use Rattle.std.proofs.lemmas.List.{take_more, take_all}
 use Rattle.std.proofs.lemmas.List.Elements.{Contains-push_cases, Contains-get_or}
 use Rattle.aud_event.specs.Meanings.{Declared}
 use Rattle.aud_event.proofs.Bools.{split}
@@ -16,7 +16,6 @@ use Rattle.aud_order.specs.Cursors.{CursorOf}
 use Rattle.aud_order.specs.Kids.{AreKids}
 use Rattle.aud_order.proofs.Lists.{length-push, take-push}
 use Rattle.aud_cover.specs.Closings.{IsCovered, IsInside, IsClosed, covered, bad, by_kids}
-use Rattle.aud_cover.proofs.Beginnings.{longest, longest-inside}
 
 abbrev pub no_decision : Decision
 no_decision = record { tx = 0; fate = C }
@@ -106,31 +105,8 @@ cursor-back start old pushed again new d r is grown same root back =
     there : again ≡ cursor_with old d
     there = same ∙ grown
 
--- the measure falls
-pub falls : (cover : List (List Decision)) (start cur pushed : CursorOf) (d : Decision) → IsInside cover start.path → cur ≡ start → pushed ≡ cursor_with cur d →
-    longest cover - length pushed.path < longest cover - length start.path
-falls cover start cur pushed d inside is grown =
-    let short : length start.path < longest cover = longest-inside cover start.path inside in
-    let longer : length pushed.path ≡ length start.path + 1 = ap (λ (c : CursorOf). length c.path) grown ∙ length-push cur.path d ∙ ap (λ (c : CursorOf). length c.path + 1) is in
-    omega (arith, short, longer)
-
 -- what is told of a kid
 pub kid-told : (cover : List (List Decision)) (start cur pushed : CursorOf) (d : Decision) (b : Bool) → cur ≡ start → pushed ≡ cursor_with cur d →
     (IsTrue b ↔ IsClosedAt cover pushed) → IsTrue b ↔ IsClosedAt cover (cursor_with start d)
 kid-told cover start cur pushed d b is grown told =
     subst (λ (c : CursorOf). IsTrue b ↔ IsClosedAt cover c) (grown ∙ ap (λ (c : CursorOf). cursor_with c d) is) told
-
--- a decision that is not good behind those before it
-pub pushed-bad : (start cur : CursorOf) (ds : List Decision) (n : ℕ) → n < length ds → cur ≡ cursor_at start (take n ds) → (IsGoodAt cur (get_or ds n no_decision) → ⊥) →
-    IsTrue false ↔ IsGood (objects_of start.shape) (history_of start.shape) ds
-pushed-bad start cur ds n inside is fails =
-    let d = get_or ds n no_decision in
-    let none : IsGoodAt (cursor_at start (take n ds)) d → ⊥ = subst (λ (c : CursorOf). IsGoodAt c d → ⊥) is fails in
-    let whole : ds ≡ take n ds ++ d ∷ drop (n + 1) ds =
-    sym (take-append-drop (n + 1) ds) ∙ ap (λ l. l ++ drop (n + 1) ds) (take_more ds n no_decision inside) ∙ append_assoc (take n ds) (d ∷ []) (drop (n + 1) ds) in
-    ((λ e. absurd (cc)), λ good. absurd (none (good (take n ds) d (drop (n + 1) ds) whole)))
-
-pub pushed-more : (start cur new : CursorOf) (ds : List Decision) (n : ℕ) → n < length ds → cur ≡ cursor_at start (take n ds) → new ≡ cursor_with cur (get_or ds n no_decision) →
-    new ≡ cursor_at start (take (n + 1) ds)
-pushed-more start cur new ds n inside is grown =
-    grown ∙ ap (λ (c : CursorOf). cursor_with c (get_or ds n no_decision)) is ∙ ap (λ l. cursor_at start l) (sym (take_more ds n no_decision inside))

@@ -276,9 +276,6 @@ module _ {D A : Type 0} (R : D → D → Ordering) where
         cases true e = h q ∙ ap (λ z. f q || walk_on (λ w. walk R w q) (child R t z)) (ex x y ((Equal-is (R x y)).0 e))
         cases false e = refl
 
-    pub set_live : (f : List D → Bool) → ((q : List D) → walk R u q ≡ (f q || walk_on (λ w. walk R w q) (child R t x))) → (((q : List D) → f q ≡ false) → ⊥) → IsLive R u
-    set_live f h live none = live (λ q. or_left (f q) (walk_on (λ w. walk R w q) (child R t x)) (sym (h q) ∙ none q))
-
   module _ (t : Trie D A) (m : BTreeMap D (Arc (Trie D A) A) A) (at : out-Trie D A t ≡ Fork m) where
     pub fork_member : is_member t ≡ false
     fork_member = ap ends at

@@ -1,5 +1,5 @@
 -- A trie by what its walks meet.
-use Rattle.std.specs.Prelude.{◌≡◌, ◌≢◌, Bool, true, false, ◌||◌, List, [], ◌∷◌, Option, Some, None, ⊤, ◌&&◌}
+use Rattle.std.specs.Prelude.{◌≡◌, ◌≢◌, Bool, true, false, ◌||◌, List, [], ◌∷◌, Option, Some, None, ⊤, ◌&&◌, cond}
 use Rattle.std.specs.Arc.{arc_value}
 use Rattle.std.specs.declared.sync.Arc.{Arc}
 use Rattle.std.specs.declared.cmp.Ordering.{Ordering}
@@ -12,6 +12,7 @@ use Rattle.aud_lattice.specs.declared.mark.Mark.{Mark}
 use Rattle.aud_lattice.specs.declared.mark.Mark.TheVariants.{Covered, Inner, Outside}
 use Rattle.aud_lattice.specs.declared.trie.Trie.{Trie, out-Trie}
 use Rattle.aud_lattice.specs.declared.trie.Trie.TheOpen.{Trie-F, Member, Fork}
+use Rattle.aud_lattice.specs.declared.trie.Trie.TheVariants.{Fork as fork}
 
 -- the entries of a node, each with the node that it shares
 abbrev pub nodes_of : {D X A : Type 0} → List (D × Arc X A) → List (D × X)
@@ -111,3 +112,15 @@ now_of old (Some new) = new
 abbrev pub IsMet : {D A : Type 0} → (D → D → Ordering) → BTreeMap D (Arc (Trie D A) A) A → D → (List D → Bool) → Option (Arc (Trie D A) A) → Type 0
 IsMet {D} {A} cmp next x f None = (w : Trie D A) × ((node_of cmp next x ≡ Some w) × (walk cmp w ≡ either f (walk cmp w)))
 IsMet cmp next x f (Some a) = IsTrie cmp (arc_value a) × (walk cmp (arc_value a) ≡ either f (λ q. walk_on (λ w. walk cmp w q) (node_of cmp next x)))
+
+-- the nodes are what they were, but that all that f passes passes behind x too
+abbrev pub PassesBehind : {D A : Type 0} → (D → D → Ordering) → D → (List D → Bool) → BTreeMap D (Arc (Trie D A) A) A → BTreeMap D (Arc (Trie D A) A) A → Type 0
+PassesBehind cmp x f old new = walk cmp (fork new) ≡ either (starts cmp x f) (walk cmp (fork old))
+
+-- the node stands behind x, and behind all else what stood there
+abbrev pub StandsBehind : {D A : Type 0} → (D → D → Ordering) → D → Arc (Trie D A) A → BTreeMap D (Arc (Trie D A) A) A → BTreeMap D (Arc (Trie D A) A) A → Type 0
+StandsBehind {D} cmp x node old new = (y : D) → node_of cmp new y ≡ cond (is_eq (cmp x y)) (Some (arc_value node)) (node_of cmp old y)
+
+-- the same nodes stand behind the same elements
+abbrev pub AreAlike : {D A : Type 0} → (D → D → Ordering) → BTreeMap D (Arc (Trie D A) A) A → BTreeMap D (Arc (Trie D A) A) A → Type 0
+AreAlike {D} cmp old new = (y : D) → node_of cmp new y ≡ node_of cmp old y

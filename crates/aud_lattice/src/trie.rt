@@ -1,12 +1,10 @@
 //! Tries of lists, whose nodes are shared: a changed trie keeps what it did not change of the old one.
 
-ghost use Rattle.std.specs.Prelude.{◌≡◌, ◌++◌, OnOk, OnErr, IfOk, IsTrue, ◌↔◌, ◌∷◌, Some, map};
+ghost use Rattle.std.specs.Prelude.{◌≡◌, ◌++◌, OnOk, OnErr, IfOk, IsTrue, ◌↔◌, ◌∷◌, map};
 ghost use Rattle.std.specs.Option.{option_copied};
 ghost use Rattle.std.specs.Arc.{arc_value};
-ghost use Rattle.std.specs.Prelude.{cond};
 ghost use Rattle.std.specs.BTreeMap.{IsOrdered};
-ghost use Rattle.std.specs.Ordering.{is_eq};
-ghost use Rattle.aud_lattice.specs.Walks.{walk, walk_mark, nothing, starts, node_at, node_of, now_of, IsTrie, IsLive, IsMet, IsWithin};
+ghost use Rattle.aud_lattice.specs.Walks.{walk, walk_mark, nothing, starts, node_at, now_of, AreAlike, IsTrie, IsLive, IsMet, IsWithin, PassesBehind, StandsBehind};
 ghost use Rattle.aud_lattice.specs.Paths.{paths};
 ghost use Rattle.aud_lattice.specs.Covers.{begins};
 ghost use Rattle.aud_lattice.specs.Sets.{either};
@@ -36,8 +34,8 @@ fn set<D: Key + Dup, A: Allocator + Copy>(
     node: Arc<Trie<D, A>, A>,
 ) -> Result<(), OutOfMemory>
     requires { IsOrdered D.Ord.cmp next.old }
-    ensures ok { OnOk result ((y : D) → node_of D.Ord.cmp next.new y ≡ cond (is_eq (D.Ord.cmp first.now y)) (Some (arc_value node)) (node_of D.Ord.cmp next.old y)) }
-    ensures err { OnErr result ((y : D) → node_of D.Ord.cmp next.new y ≡ node_of D.Ord.cmp next.old y) }
+    ensures ok { OnOk result (StandsBehind D.Ord.cmp first.now node next.old next.new) }
+    ensures err { OnErr result (AreAlike D.Ord.cmp next.old next.new) }
     ensures ordered { IsOrdered D.Ord.cmp next.new }
 {
     next.insert(first.dup()?, node)?;
@@ -50,7 +48,7 @@ fn shared_nodes<D: Key + Dup, A: Allocator + Copy>(
     alloc: &A,
 ) -> Result<BTreeMap<D, Arc<Trie<D, A>, A>, A>, OutOfMemory>
     ensures ordered { IfOk result (IsOrdered D.Ord.cmp) }
-    ensures same { IfOk result (λ all. (y : D) → node_of D.Ord.cmp all y ≡ node_of D.Ord.cmp nodes.now y) }
+    ensures same { IfOk result (AreAlike D.Ord.cmp nodes.now) }
 {
     let mut all = BTreeMap::new(*alloc);
     for (first, node) in nodes {
@@ -80,7 +78,7 @@ fn own_nodes<D: Key + Dup, A: Allocator + Copy>(
 ) -> Result<BTreeMap<D, Arc<Trie<D, A>, A>, A>, OutOfMemory>
     requires { IsOrdered D.Ord.cmp (now_of ours.now all) }
     ensures ordered { IfOk result (IsOrdered D.Ord.cmp) }
-    ensures same { IfOk result (λ nodes. (y : D) → node_of D.Ord.cmp nodes y ≡ node_of D.Ord.cmp (now_of ours.now all) y) }
+    ensures same { IfOk result (AreAlike D.Ord.cmp (now_of ours.now all)) }
 {
     match all {
         Some(nodes) => Ok(nodes),
@@ -236,7 +234,11 @@ impl<D: Key + Dup, A: Allocator + Copy> Trie<D, A> {
     /// A trie of the lists of both; none where there is a beginning of each of the other's lists already. What only one of
     /// the two has is shared.
     #[cycle(grafts)]
-    pub(crate) fn joined(&self, from: &Trie<D, A>, alloc: &A) -> Result<Option<Trie<D, A>>, OutOfMemory>
+    pub(crate) fn joined(
+        &self,
+        from: &Trie<D, A>,
+        alloc: &A,
+    ) -> Result<Option<Trie<D, A>>, OutOfMemory>
         requires from { IsTrie D.Ord.cmp from.now }
         requires into { IsTrie D.Ord.cmp self.now }
         ensures good { IfOk result (λ joined. IsTrie D.Ord.cmp (now_of self.now joined)) }
@@ -273,7 +275,7 @@ impl<D: Key + Dup, A: Allocator + Copy> Trie<D, A> {
         requires live { IsLive D.Ord.cmp (arc_value node.now) }
         requires into { IsTrie D.Ord.cmp (Fork (now_of ours.now all)) }
         ensures good { IfOk result (λ nodes. IsTrie D.Ord.cmp (Fork (now_of ours.now nodes))) }
-        ensures both { IfOk result (λ nodes. walk D.Ord.cmp (Fork (now_of ours.now nodes)) ≡ either (starts D.Ord.cmp first.now (walk D.Ord.cmp (arc_value node.now))) (walk D.Ord.cmp (Fork (now_of ours.now all)))) }
+        ensures both { IfOk result (λ nodes. PassesBehind D.Ord.cmp first.now (walk D.Ord.cmp (arc_value node.now)) (now_of ours.now all) (now_of ours.now nodes)) }
     {
         match Trie::met(nodes_now(ours, &all), first, node, alloc)? {
             None => Ok(all),

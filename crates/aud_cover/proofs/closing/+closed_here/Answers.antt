@@ -70,8 +70,8 @@ returns-then-not-is_closed-clause-closed g t c =
     let grown = c.in_ok-push.ensures.goes (c.in_ok-push.ensures.good.1 one) in
     let found = sym c.get.ensures.value ∙ ap option_copied c.in-Some.is in
     λ cover leads. at-open_kid objects history cover start.path kid c.in_ok-is_closed.is_closed c.prefix-good.ensures.good (at-inner cover start.path c.args.node.now leads c.in-Fork.next at (λ z. true≢false (sym (c.is_empty.ensures.1 z) ∙ c.if-is_empty.false))) one_here
-      (kid-told cover start c.loop-kid.cursor c.push.new.self kid c.in_ok-is_closed.is_closed c.loop-kid.invariant.same grown
-      (c.in_ok-is_closed.ensures.closed cover (pushed-leads cover start c.args.node.now leads c.in-Fork.next at kid c.loop-kid.cursor c.push.new.self c.in-Some.below.now c.deref.result.now found c.deref.ensures c.loop-kid.invariant.same grown))) c.if-not-is_closed.true
+    (kid-told cover start c.loop-kid.cursor c.push.new.self kid c.in_ok-is_closed.is_closed c.loop-kid.invariant.same grown
+    (c.in_ok-is_closed.ensures.closed cover (pushed-leads cover start c.args.node.now leads c.in-Fork.next at kid c.loop-kid.cursor c.push.new.self c.in-Some.below.now c.deref.result.now found c.deref.ensures c.loop-kid.invariant.same grown))) c.if-not-is_closed.true
 
 pub returns-then-not-is_closed-clause-back : goal.returns-then-not-is_closed-clause-back
 returns-then-not-is_closed-clause-back g t c =
@@ -99,7 +99,7 @@ loop-kid-preserved g t c =
           grown c.in_ok-is_closed.ensures.back c.pop.ensures.root c.pop.ensures.back;
       closed = λ cover leads. closed-more objects history cover start.path c.deref-kid-items.result.now c.loop-kid.kid-index c.in_ok-is_closed.is_closed
           c.loop-kid-test.true (c.loop-kid.invariant.closed cover leads) (kid-told cover start c.loop-kid.cursor c.push.new.self kid c.in_ok-is_closed.is_closed c.loop-kid.invariant.same grown
-      (c.in_ok-is_closed.ensures.closed cover (pushed-leads cover start c.args.node.now leads c.in-Fork.next at kid c.loop-kid.cursor c.push.new.self c.in-Some.below.now c.deref.result.now found c.deref.ensures c.loop-kid.invariant.same grown))) c.if-not-is_closed.false;
+          (c.in_ok-is_closed.ensures.closed cover (pushed-leads cover start c.args.node.now leads c.in-Fork.next at kid c.loop-kid.cursor c.push.new.self c.in-Some.below.now c.deref.result.now found c.deref.ensures c.loop-kid.invariant.same grown))) c.if-not-is_closed.false;
     }
 
 pub returns-clause-closed : goal.returns-clause-closed
@@ -111,4 +111,4 @@ returns-clause-closed g t c =
     let unfull : IsFull history start.path → ⊥ = λ full. absurd (let is_so = c.full.ensures.1 full in let is_not = c.if-full.false in cc) in
     let are = subst (λ (l : List Decision). AreKids objects history start.path l) (sym c.deref-kid-items.ensures.value) c.in_ok-kids.ensures.kids in
     λ cover leads. at-kids objects history cover start.path c.deref-kid-items.result.now c.loop-kid.kid-index (at-inner cover start.path c.args.node.now leads c.in-Fork.next at (λ z. true≢false (sym (c.is_empty.ensures.1 z) ∙ c.if-is_empty.false))) unfull are
-      c.loop-kid-test.false (c.loop-kid.invariant.closed cover leads)
+    c.loop-kid-test.false (c.loop-kid.invariant.closed cover leads)

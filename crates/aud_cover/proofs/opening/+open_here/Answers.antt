@@ -34,8 +34,8 @@ returns-then-is_empty-clause-added g t c =
     let history = history_of start.shape in
     let at = ap (out-Trie Decision g.row.A.Denot) c.in-Fork.is ∙ outs-Fork c.in-Fork.next in
     on_ok c.add.result _ _ (λ is cover leads reached.
-      added-outside objects history cover start.path c.args.list.now.items c.add.new.list.items c.prefix-path.result.now c.prefix-path.ensures.good reached
-      (at-end cover start.path c.args.node.now leads c.in-Fork.next at (c.is_empty.ensures.0 c.if-is_empty.true)) c.prefix-path.ensures.prefix is) c.add.ensures
+    added-outside objects history cover start.path c.args.list.now.items c.add.new.list.items c.prefix-path.result.now c.prefix-path.ensures.good reached
+    (at-end cover start.path c.args.node.now leads c.in-Fork.next at (c.is_empty.ensures.0 c.if-is_empty.true)) c.prefix-path.ensures.prefix is) c.add.ensures
 
 pub returns-then-full-clause-added : goal.returns-then-full-clause-added
 returns-then-full-clause-added g t c =
@@ -113,4 +113,4 @@ returns-clause-added g t c =
     let at = ap (out-Trie Decision g.row.A.Denot) c.in-Fork.is ∙ outs-Fork c.in-Fork.next in
     let are = subst (λ (l : List Decision). AreKids objects history start.path l) (sym c.deref-kid-items.ensures.value) c.in_ok-kids.ensures.kids in
     λ cover leads reached. added-kids objects history cover start.path c.deref-kid-items.result.now c.loop-kid.kid-index
-      c.args.list.now.items c.loop-kid.list.items (at-inner cover start.path c.args.node.now leads c.in-Fork.next at (λ z. true≢false (sym (c.is_empty.ensures.1 z) ∙ c.if-is_empty.false))) are c.loop-kid-test.false (c.loop-kid.invariant.gathered cover leads reached)
+    c.args.list.now.items c.loop-kid.list.items (at-inner cover start.path c.args.node.now leads c.in-Fork.next at (λ z. true≢false (sym (c.is_empty.ensures.1 z) ∙ c.if-is_empty.false))) are c.loop-kid-test.false (c.loop-kid.invariant.gathered cover leads reached)

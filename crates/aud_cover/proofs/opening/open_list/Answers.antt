@@ -4,7 +4,6 @@ use Rattle.aud_witness.specs.declared.decision.Decision.{Decision}
 use Rattle.aud_order.specs.Shapes.{objects_of, history_of}
 use Rattle.aud_order.specs.Cursors.{CursorOf}
 use Rattle.aud_cover.specs.Leading.{LeadsTo}
-use Rattle.aud_cover.specs.Openings.{AreOpen}
 use Rattle.aud_cover.proofs.Leads.{root-leads}
 use Rattle.aud_cover.proofs.Opened.{open-whole}
 use Rattle.aud_cover.proofs.Emptied.{empty-closed}

@@ -1,8 +1,7 @@
-use Rattle.std.proofs.Common.{◌≡◌, ◌∙◌, List, sym, subst, Contains, ◌↔◌}
+use Rattle.std.proofs.Common.{◌∙◌, List, sym, subst, Contains, ◌↔◌}
 use Rattle.aud_lattice.specs.Covers.{cover_union, IsCover}
 use Rattle.aud_lattice.specs.Minimal.{IsKept, kept, keeps}
 use Rattle.aud_lattice.specs.Norms.{norm_of_join}
-use Rattle.aud_lattice.specs.Paths.{paths}
 use Rattle.aud_lattice.specs.Tries.{on_ok}
 use Rattle.aud_lattice.proofs.cover.CoverLattice.join.Goals as goal
 
@@ -13,8 +12,8 @@ returns-clause-kept g c =
     let cover = subst (IsCover g.D.Ord.cmp) c.other.view_is c.join_with.ensures.cover in
     on_ok c.join_with.result _ _
     (λ all. subst (λ z. (p : List g.row.D.Denot) → Contains z p ↔ IsKept g.D.Ord.cmp c.args.self.now c.args.other.now p)
-      (sym (all ∙ (λ i. cover_union g.D.Ord.cmp (c.self.view_is i) (c.other.view_is i))))
-      (λ p. (kept o ex c.args.self.now c.args.other.now cover p, keeps o ex c.args.self.now c.args.other.now cover p)))
+    (sym (all ∙ (λ i. cover_union g.D.Ord.cmp (c.self.view_is i) (c.other.view_is i))))
+    (λ p. (kept o ex c.args.self.now c.args.other.now cover p, keeps o ex c.args.self.now c.args.other.now cover p)))
     c.join_with.ensures.ok
 
 pub returns-clause-norm : goal.returns-clause-norm

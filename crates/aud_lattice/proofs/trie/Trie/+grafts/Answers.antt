@@ -1,4 +1,4 @@
-use Rattle.std.proofs.Common.{rules, refl, ap, ◌∙◌, sym, ◌≡◌, Some, None, cond, subst}
+use Rattle.std.proofs.Common.{rules, ap, ◌∙◌, sym, ◌≡◌, Some, None, cond, subst}
 use Rattle.std.specs.Option.{option_copied}
 use Rattle.std.specs.Ordering.{is_eq}
 use Rattle.std.specs.List.{AllByRecursion}
@@ -128,9 +128,8 @@ met-returns-in_ok-new-in-Some-2 g t c =
     let found : node_of g.D.Ord.cmp c.args.next.now c.args.first.now ≡ Some known = found_node g.D.Ord.cmp c.args.next.now c.args.first.now c.in-Some.known.now (sym c.get.ensures.value ∙ ap option_copied c.in-Some.is) in
     let good : IsTrie g.D.Ord.cmp (now_of c.deref.result.now c.in_ok-joined-in-Some.field-0) = c.in_ok-joined-in-Some.ensures.good in
     let both : walk g.D.Ord.cmp (now_of c.deref.result.now c.in_ok-joined-in-Some.field-0) ≡ either (walk g.D.Ord.cmp c.deref-in-Some.result.now) (walk g.D.Ord.cmp c.deref.result.now) = c.in_ok-joined-in-Some.ensures.both in
-    let is : arc_value c.in_ok-new-in-Some-2.field-0 ≡ now_of c.deref.result.now c.in_ok-joined-in-Some.field-0 = c.in_ok-new-in-Some-2.ensures.ok ∙ (λ i. now_of c.deref.result.now (sym c.in-Some-2.is i)) in
-    (
+    let is : arc_value c.in_ok-new-in-Some-2.field-0 ≡ now_of c.deref.result.now c.in_ok-joined-in-Some.field-0 = c.in_ok-new-in-Some-2.ensures.ok ∙ (λ i. now_of c.deref.result.now (sym c.in-Some-2.is i)) in (
       subst (IsTrie g.D.Ord.cmp) (sym is) good,
       met_found g.D.Ord.cmp g.met.D.Ord.total g.met.D.Key.exact c.args.next.now c.requires.into c.args.first.now (walk g.D.Ord.cmp (arc_value c.args.node.now)) (arc_value c.in_ok-new-in-Some-2.field-0) known found
-      (ap (walk g.D.Ord.cmp) is ∙ both ∙ (λ i. either (walk g.D.Ord.cmp (c.deref-in-Some.ensures i)) (walk g.D.Ord.cmp (c.deref.ensures i)))),
+          (ap (walk g.D.Ord.cmp) is ∙ both ∙ (λ i. either (walk g.D.Ord.cmp (c.deref-in-Some.ensures i)) (walk g.D.Ord.cmp (c.deref.ensures i)))),
     )
