@@ -79,7 +79,7 @@ same_place : (a b : ℕ) → a / 64 ≡ b / 64 → a % 64 ≡ b % 64 → a ≡ b
 same_place a b high low = omega arith
 
 -- a word in which one bit is written
-word-written : (words : List ℕ) (place v : ℕ) (mark : Bool) → place / 64 < length words → IsBitWritten (get_or words (place / 64) 0) v (place % 64) mark → IsWritten words (set words (place / 64) v) place mark
+pub word-written : (words : List ℕ) (place v : ℕ) (mark : Bool) → place / 64 < length words → IsBitWritten (get_or words (place / 64) 0) v (place % 64) mark → IsWritten words (set words (place / 64) v) place mark
 word-written words place v mark inside (own, others) = (
   ap (λ w. nat_eq (bit_at w (place % 64)) 1) (get_or-set_same words (place / 64) v 0 inside) ∙ own,
   (λ k ne. elim (split (nat_eq (k / 64) (place / 64))) [

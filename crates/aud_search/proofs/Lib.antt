@@ -5,3 +5,6 @@ pub mod Weights
 pub mod MemoLemmas
 pub mod Steps
 pub mod Readiness
+pub mod Spotting
+pub mod Keeping
+pub mod Passing

@@ -1,17 +1,22 @@
 -- What a memo keeps true.
-use Rattle.std.specs.Prelude.{◌≡◌, ℕ, zero, suc, ◌-◌, ◌<◌, Bool, List, [], ◌∷◌, ◌++◌, map, length, take, reverse, Option, Some, None, slice_get, refl, ◌⊎◌}
+use Rattle.std.specs.Prelude.{◌≡◌, ℕ, zero, suc, ◌-◌, ◌<◌, Bool, true, false, ◌||◌, nat_eq, List, [], ◌∷◌, ◌++◌, map, length, take, reverse, Option, Some, None, slice_get, refl, ◌⊎◌}
 use Rattle.std.specs.List.{Contains}
 use Rattle.std.proofs.Common.{sym, ◌∙◌, ap, subst, inl, inr, arith, get_or, set}
-use Rattle.std.proofs.lemmas.List.{append-nil, reverse-append}
-use Rattle.aud_object.specs.Meanings.{StoreOf}
+use Rattle.std.proofs.lemmas.List.{append-nil, reverse-append, length-map}
+use Rattle.aud_event.proofs.Bools.{or_right, true_or, nat_eq-refl}
 use Rattle.aud_object.specs.Objects.{ObjState}
 use Rattle.aud_object.specs.Replayed.{replayed}
 use Rattle.aud_history.specs.WellFormed.{IsWellFormed}
 use Rattle.aud_history.specs.FirstFault.{IsWithinLimits}
-use Rattle.aud_history.specs.Table.{row_of, transactions}
+use Rattle.aud_history.specs.Histories.{History}
+use Rattle.aud_history.specs.Table.{RowOf, row_of, table_of, transactions}
+use Rattle.aud_history.proofs.Tables.{different-transactions}
 use Rattle.aud_witness.specs.declared.decision.Fate.TheVariants.{C, A}
 use Rattle.aud_witness.specs.declared.decision.Decision.{Decision}
 use Rattle.aud_witness.specs.Orders.{is_named, IsGood, Refuted}
+use Rattle.aud_witness.proofs.Beginnings.{is_named-append}
+use Rattle.aud_witness.proofs.BridgeSteps.{set-named}
+use Rattle.aud_witness.proofs.Good.{IsGood-push}
 use Rattle.aud_order.specs.Shapes.{ShapeOf, plan_of, objects_of, history_of}
 use Rattle.aud_order.specs.Cursors.{CursorOf}
 use Rattle.aud_order.specs.Silent.{silent_fate}
@@ -19,48 +24,22 @@ use Rattle.aud_order.proofs.Lists.{take-push}
 use Rattle.aud_order.proofs.Moves.{shown-same, step-states}
 use Rattle.aud_search.specs.declared.choice.Choice.{Choice}
 use Rattle.aud_search.specs.declared.memo.Lead.{Lead}
-use Rattle.aud_search.specs.Memos.{MemoOf, states_behind, Names, NameWay, EntryOf, IsDead, IsLead, IsTrueMemo, IsGrown, IsStep, now_of, no_store, IsStoreAt, IsMoreOf, AreWith}
+use Rattle.aud_search.specs.Kept.{IsMoreOf, LeadsTo}
+use Rattle.aud_search.specs.Spots.{EntryOf, AreWith}
+use Rattle.aud_search.specs.Memos.{MemoOf, states_behind, Names, NameWay, IsDead, IsLead, IsTrueMemo, IsGrown, IsStep, IsNext, IsAfter}
+use Rattle.aud_search.proofs.Refuting.{next-shown}
 
 -- # Lists
-
--- an element of a list in which one was put in the place of another
-pub put-one : {X : Type 0} (xs : List X) (i : ℕ) (x : X) → AreWith xs (set xs i x) x
-put-one [] i x y there = inl there
-put-one (e ∷ xs) zero x y (zero, inside, is) = inr (sym is)
-put-one (e ∷ xs) zero x y (suc k, inside, is) = inl (suc k, inside, is)
-put-one (e ∷ xs) (suc i) x y (zero, inside, is) = inl (0, omega arith, is)
-put-one (e ∷ xs) (suc i) x y (suc k, inside, is) =
-    elim (put-one xs i x y (k, omega arith, is)) [
-      | inl (j, within, at) ↦ inl (suc j, omega arith, at)
-      | inr same ↦ inr same
-    ]
-
-pub stores-same : (old new : List StoreOf) → new ≡ old → IsMoreOf old new
-stores-same old new same = ([], same ∙ sym (append-nil old))
 
 get-front : {X : Type 0} (xs ys : List X) (k : ℕ) (x : X) → slice_get xs k ≡ Some x → slice_get (xs ++ ys) k ≡ Some x
 get-front [] ys k x at = absurd (cc)
 get-front (y ∷ xs) ys zero x at = at
 get-front (y ∷ xs) ys (suc k) x at = get-front xs ys k x at
 
-map-front : (xs ys : List StoreOf) → map now_of (xs ++ ys) ≡ map now_of xs ++ map now_of ys
-map-front [] ys = refl
-map-front (x ∷ xs) ys = ap (λ l. x.now ∷ l) (map-front xs ys)
-
 one-at : {X : Type 0} (x y : X) (o : Option X) → o ≡ Some x → o ≡ Some y → x ≡ y
 one-at x y o is same = cc
 
 -- # Numbers
-
-names-at : (stores : List StoreOf) (k : ℕ) (states : List ObjState) → k < length stores → (get_or stores k no_store).now ≡ states → slice_get (map now_of stores) k ≡ Some states
-names-at [] k states inside is = absurd (omega arith)
-names-at (s ∷ stores) zero states inside is = ap (λ l. Some l) is
-names-at (s ∷ stores) (suc k) states inside is = names-at stores k states (omega arith) is
-
--- a store with the states gives them its number
-pub names-store : (stores : List StoreOf) (n : Option ℕ) (held states : List ObjState) → IsStoreAt stores n held → held ≡ states → Names (map now_of stores) n states
-names-store stores None held states at is = tt
-names-store stores (Some k) held states at is = names-at stores k states at.0 (at.1 ∙ is)
 
 -- a number stays when others come
 pub names-more : (all more : List (List ObjState)) (n : Option ℕ) (states : List ObjState) → Names all n states → Names (all ++ more) n states
@@ -103,20 +82,26 @@ true-more shape all more entries leads sound = record {
   true_leads = λ l there. let t = sound.true_leads l there in record { before = t.before; after = t.after; from = get-front all more l.from t.before t.from; to = get-front all more l.to t.after t.to; runs = t.runs };
 }
 
--- once stores came behind the others
-pub true-stores : (shape : ShapeOf) (old new : List StoreOf) (entries : List EntryOf) (leads : List Lead) → IsMoreOf old new → IsTrueMemo shape (map now_of old) entries leads → IsTrueMemo shape (map now_of new) entries leads
-true-stores shape old new entries leads (more, grown) sound =
-    subst (λ l. IsTrueMemo shape l entries leads) (sym (ap (map now_of) grown ∙ map-front old more)) (true-more shape (map now_of old) (map now_of more) entries leads sound)
+-- once states came behind the others
+pub true-states : (shape : ShapeOf) (old new : List (List ObjState)) (entries : List EntryOf) (leads : List Lead) → IsMoreOf old new → IsTrueMemo shape old entries leads → IsTrueMemo shape new entries leads
+true-states shape old new entries leads (more, grown) sound = subst (λ l. IsTrueMemo shape l entries leads) (sym grown) (true-more shape old more entries leads sound)
 
-pub grown-stores : (shape : ShapeOf) (seen : MemoOf) (old new : List StoreOf) → record { shape = shape; states = map now_of old } ≡ seen → IsMoreOf old new → IsGrown seen (record { shape = shape; states = map now_of new })
-grown-stores shape seen old new is (more, grown) = record {
+pub grown-states : (shape : ShapeOf) (seen : MemoOf) (old new : List (List ObjState)) → record { shape = shape; states = old } ≡ seen → IsMoreOf old new → IsGrown seen (record { shape = shape; states = new })
+grown-states shape seen old new is (more, grown) = record {
   shape = ap (λ (m : MemoOf). m.shape) is;
-  more = map now_of more;
-  states = ap (map now_of) grown ∙ map-front old more ∙ ap (λ (m : MemoOf). m.states ++ map now_of more) is;
+  more = more;
+  states = grown ∙ ap (λ (m : MemoOf). m.states ++ more) is;
 }
 
 pub grown-itself : (m : MemoOf) → IsGrown m m
 grown-itself m = record { shape = refl; more = []; states = sym (append-nil m.states) }
+
+-- once the entries are forgotten
+pub true-forgotten : (shape : ShapeOf) (all : List (List ObjState)) (old new : List EntryOf) (leads : List Lead) → new ≡ [] → IsTrueMemo shape all old leads → IsTrueMemo shape all new leads
+true-forgotten shape all old new leads none sound = record {
+  dead = λ e there. let (k, inside, is) = subst (λ (l : List EntryOf). Contains l e) none there in absurd (omega arith);
+  true_leads = sound.true_leads;
+}
 
 -- once an entry came
 pub true-entry : (shape : ShapeOf) (all : List (List ObjState)) (old new : List EntryOf) (leads : List Lead) (e : EntryOf) → AreWith old new e → IsDead shape all e → IsTrueMemo shape all old leads → IsTrueMemo shape all new leads
@@ -172,14 +157,36 @@ step-lead memo new n to c at fine within good s commits grown names =
       runs = ap (λ (x : ShapeOf). replayed (states_behind at.shape s.path) (row_of (history_of x) c.decision.tx).block) (sym same) ∙ ran;
     }
 
+-- where a step leads, if it is known
+pub after-names : (memo : MemoOf) (n to : ℕ) (c : Choice) (at : CursorOf) → IsWellFormed (history_of at.shape) → IsWithinLimits (plan_of at.shape) (history_of at.shape) → IsGood (objects_of at.shape) (history_of at.shape) at.path → (s : IsStep memo (Some n) c at) →
+    IsAfter memo n c to → Names memo.states (Some to) (states_behind at.shape at.path)
+after-names memo n to c at fine within good s (inl (inl aborts, same)) = subst (λ m. Names memo.states (Some m) (states_behind at.shape at.path)) (sym same) (step-stays memo n c at fine within good s (inl aborts))
+after-names memo n to c at fine within good s (inl (inr quiet, same)) = subst (λ m. Names memo.states (Some m) (states_behind at.shape at.path)) (sym same) (step-stays memo n c at fine within good s (inr (s.silent quiet)))
+after-names memo n to c at fine within good s (inr (commits, lead)) = step-known memo n to c at fine within good s commits lead
+
+-- the block of a step leads to the states there
+pub step-leads : (memo : MemoOf) (n : ℕ) (c : Choice) (at : CursorOf) → IsWellFormed (history_of at.shape) → IsWithinLimits (plan_of at.shape) (history_of at.shape) → IsGood (objects_of at.shape) (history_of at.shape) at.path → (s : IsStep memo (Some n) c at) →
+    c.decision.fate ≡ C → LeadsTo (history_of memo.shape) memo.states (Some (record { from = n; tx = c.decision.tx })) (states_behind at.shape at.path)
+step-leads memo n c at fine within good s commits = (
+  states_behind at.shape s.path,
+  (
+    s.names,
+    ap (λ (x : ShapeOf). replayed (states_behind at.shape s.path) (row_of (history_of x) c.decision.tx).block) s.shape ∙ (leads-on memo n c at fine within good s).0 commits,
+  ),
+)
+
 -- # Refuted lists
 
 -- the entry of a refuted list
-pub dead-here : (shape : ShapeOf) (all : List (List ObjState)) (placed marks : List Bool) (n : ℕ) (at : CursorOf) → shape ≡ at.shape → IsGood (objects_of at.shape) (history_of at.shape) at.path → Refuted (objects_of at.shape) (history_of at.shape) at.path →
-    marks ≡ placed → placed ≡ map (is_named at.path) (transactions (history_of at.shape)) → Names all (Some n) (states_behind at.shape at.path) → IsDead shape all (record { placed = marks; states = n })
-dead-here shape all placed marks n at same good refuted copied is names =
-    subst (λ (x : ShapeOf). IsDead x all (record { placed = marks; states = n })) (sym same)
-    (record { path = at.path; good = good; refuted = refuted; placed = copied ∙ is; states = names })
+pub dead-here : (shape : ShapeOf) (all : List (List ObjState)) (placed : List Bool) (n : ℕ) (at : CursorOf) → shape ≡ at.shape → IsGood (objects_of at.shape) (history_of at.shape) at.path → Refuted (objects_of at.shape) (history_of at.shape) at.path →
+    placed ≡ map (is_named at.path) (transactions (history_of at.shape)) → Names all (Some n) (states_behind at.shape at.path) → IsDead shape all (record { placed = placed; states = n })
+dead-here shape all placed n at same good refuted is names =
+    subst (λ (x : ShapeOf). IsDead x all (record { placed = placed; states = n })) (sym same)
+    (record { path = at.path; good = good; refuted = refuted; placed = is; states = names })
+
+-- as many marks as rows
+pub rows-placed : (shape : ShapeOf) (placed : List Bool) (at : CursorOf) → shape ≡ at.shape → placed ≡ map (is_named at.path) (transactions (history_of at.shape)) → length placed ≡ length (transactions (history_of shape))
+rows-placed shape placed at same is = ap length is ∙ length-map (transactions (history_of at.shape)) (is_named at.path) ∙ ap (λ (x : ShapeOf). length (transactions (history_of x))) (sym same)
 
 -- a list of which an entry is there is refuted
 pub dead-refuted : (shape : ShapeOf) (all : List (List ObjState)) (placed : List Bool) (n : ℕ) (at : CursorOf) → shape ≡ at.shape → IsWellFormed (history_of at.shape) → IsWithinLimits (plan_of at.shape) (history_of at.shape) →
@@ -189,3 +196,47 @@ dead-refuted shape all placed n at same fine within good is names dead rest show
     let d = subst (λ (x : ShapeOf). IsDead x all (record { placed = placed; states = n })) same dead in
     d.refuted rest (shown-same (plan_of at.shape) (history_of at.shape) at.path d.path rest fine within good d.good (sym is ∙ d.placed)
     (one-at (states_behind at.shape at.path) (states_behind at.shape d.path) (slice_get all n) names d.states) shown)
+
+-- # The choice behind a list
+
+named-own : (p : List Decision) (d : Decision) → is_named (p ++ d ∷ []) d.tx ≡ true
+named-own p d = is_named-append p (d ∷ []) d.tx ∙ or_right (is_named p d.tx) (nat_eq d.tx d.tx || false) (true_or (nat_eq d.tx d.tx) false (nat_eq-refl d.tx))
+
+or_nothing : (a : Bool) → (a || false) ≡ a
+or_nothing true = refl
+or_nothing false = refl
+
+named-others : (p : List Decision) (d : Decision) (u : ℕ) → nat_eq d.tx u ≡ false → is_named (p ++ d ∷ []) u ≡ is_named p u
+named-others p d u other = is_named-append p (d ∷ []) u ∙ ap (λ b. is_named p u || (b || false)) other ∙ or_nothing (is_named p u)
+
+-- the row at a place is of the transaction there
+row-tx : (h : History) (ts : List ℕ) (k : ℕ) (r : RowOf) → slice_get (map (row_of h) ts) k ≡ Some r → (k < length ts) × (get_or ts k 0 ≡ r.tx)
+row-tx h [] k r at = absurd (cc)
+row-tx h (t ∷ ts) zero r at = (omega arith, (let same : row_of h t ≡ r = cc in ap (λ (x : RowOf). x.tx) same))
+row-tx h (t ∷ ts) (suc k) r at = let rest = row-tx h ts k r at in (omega (arith, rest.0), rest.1)
+
+-- the row of the choice is marked too
+placed-with : (h : History) (p : List Decision) (c : Choice) (r : RowOf) → slice_get (table_of h) c.place ≡ Some r → r.tx ≡ c.decision.tx →
+    set (map (is_named p) (transactions h)) c.place true ≡ map (is_named (p ++ c.decision ∷ [])) (transactions h)
+placed-with h p c r at own =
+    let (inside, tx) = row-tx h (transactions h) c.place r at in
+    set-named (is_named p) (is_named (p ++ c.decision ∷ [])) (transactions h) c.place c.decision.tx 0 (different-transactions h) inside (tx ∙ own) (named-own p c.decision) (named-others p c.decision)
+
+pub place-there : (shape : ShapeOf) (memo : MemoOf) (n : Option ℕ) (c : Choice) (at : CursorOf) (placed : List Bool) → IsNext memo n c at → placed ≡ map (is_named at.path) (transactions (history_of at.shape)) → c.place < length placed
+place-there shape memo n c at placed next is =
+    let inside = (row-tx (history_of at.shape) (transactions (history_of at.shape)) c.place next.row.0 next.row.1.0).0 in
+    subst (λ m. c.place < m) (sym (ap length is ∙ length-map (transactions (history_of at.shape)) (is_named at.path))) inside
+
+-- a choice that leads to a spot that is known is refuted
+pub known-behind : (memo : MemoOf) (n after : ℕ) (c : Choice) (at : CursorOf) (placed : List Bool) → IsWellFormed (history_of at.shape) → IsWithinLimits (plan_of at.shape) (history_of at.shape) → IsGood (objects_of at.shape) (history_of at.shape) at.path →
+    IsNext memo (Some n) c at → placed ≡ map (is_named at.path) (transactions (history_of at.shape)) → IsAfter memo n c after →
+    IsDead memo.shape memo.states (record { placed = set placed c.place true; states = after }) → Refuted (objects_of at.shape) (history_of at.shape) (at.path ++ c.decision ∷ [])
+known-behind memo n after c at placed fine within good next is leads dead rest shown =
+    let longer : IsGood (objects_of at.shape) (history_of at.shape) (at.path ++ c.decision ∷ []) =
+    IsGood-push (objects_of at.shape) (history_of at.shape) at.path c.decision good (next-shown (objects_of at.shape) (history_of at.shape) at.path c.decision rest shown) in
+    dead-refuted memo.shape memo.states (set placed c.place true) after further next.shape fine within longer
+    (ap (λ l. set l c.place true) is ∙ placed-with (history_of at.shape) at.path c next.row.0 next.row.1.0 next.row.1.1)
+    (after-names memo n after c further fine within longer (record { shape = next.shape; path = at.path; on = refl; names = next.names; silent = next.silent }) leads) dead rest shown
+  where
+    further : CursorOf
+    further = record { shape = at.shape; path = at.path ++ c.decision ∷ [] }

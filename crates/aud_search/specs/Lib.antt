@@ -4,3 +4,5 @@ pub mod Levels
 pub mod Tried
 pub mod Memos
 pub mod Readiness
+pub mod Spots
+pub mod Kept

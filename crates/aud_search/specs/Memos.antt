@@ -1,11 +1,11 @@
 -- What a search remembers: states, where blocks lead from them, and spots of lists that it refuted.
-use Rattle.std.specs.Prelude.{◌≡◌, ℕ, ◌<◌, Bool, true, false, List, [], ◌∷◌, ◌++◌, map, length, Option, Some, None, slice_get, slice_index_or, take, ◌-◌, ◌⊎◌}
+use Rattle.std.specs.Prelude.{◌≡◌, ℕ, Bool, true, false, List, [], ◌∷◌, ◌++◌, map, length, Option, Some, None, slice_get, take, ◌-◌, ◌⊎◌}
 use Rattle.std.specs.List.{Contains}
 use Rattle.aud_object.specs.Objects.{ObjState, opening_of}
 use Rattle.aud_object.specs.Executions.{states_after}
-use Rattle.aud_object.specs.Meanings.{StoreOf}
 use Rattle.aud_object.specs.Replayed.{replayed}
-use Rattle.aud_history.specs.Table.{transactions, row_of}
+use Rattle.aud_history.specs.Histories.{History}
+use Rattle.aud_history.specs.Table.{RowOf, table_of, transactions, row_of}
 use Rattle.aud_witness.specs.declared.decision.Fate.TheVariants.{C, A}
 use Rattle.aud_witness.specs.declared.decision.Decision.{Decision}
 use Rattle.aud_witness.specs.Orders.{is_named, kept, IsGood, Refuted}
@@ -15,6 +15,7 @@ use Rattle.aud_order.specs.Silent.{silent_fate}
 use Rattle.aud_search.specs.declared.choice.Effect.TheVariants.{Silent}
 use Rattle.aud_search.specs.declared.choice.Choice.{Choice}
 use Rattle.aud_search.specs.declared.memo.Lead.{Lead}
+use Rattle.aud_search.specs.Spots.{EntryOf, entry_of}
 
 -- how contracts see a memo: the shape of the search, and the states that it numbered
 pub record MemoOf : Type 0 where
@@ -35,10 +36,9 @@ abbrev pub NameWay : ShapeOf → List (List ObjState) → List (Option ℕ) → 
 NameWay shape all [] p = Unit {0}
 NameWay shape all (n ∷ ns) p = Names all n (states_behind shape p) × NameWay shape all ns (take (length p - 1) p)
 
--- which rows were placed behind a refuted list, and the number of the states there
-pub record EntryOf : Type 0 where
-  pub placed : List Bool
-  pub states : ℕ
+-- the spots of a history, by their words
+abbrev pub entries_of : History → List (List ℕ) → List EntryOf
+entries_of h spots = map (entry_of (length (transactions h))) spots
 
 -- an entry is of a good list that is refuted
 pub record IsDead (shape : ShapeOf) (all : List (List ObjState)) (e : EntryOf) : Type 0 where
@@ -75,27 +75,18 @@ pub record IsStep (memo : MemoOf) (from : Option ℕ) (c : Choice) (at : CursorO
   pub names : Names memo.states from (states_behind at.shape path)
   pub silent : c.effect ≡ Silent → silent_fate (history_of at.shape) c.decision.tx ≡ Some c.decision.fate
 
+-- behind the cursor's list, where the states have the number, the choice is one of its row's transaction
+pub record IsNext (memo : MemoOf) (states : Option ℕ) (c : Choice) (at : CursorOf) : Type 0 where
+  pub shape : memo.shape ≡ at.shape
+  pub names : Names memo.states states (states_behind at.shape at.path)
+  pub silent : c.effect ≡ Silent → silent_fate (history_of at.shape) c.decision.tx ≡ Some c.decision.fate
+  pub row : (r : RowOf) × ((slice_get (table_of (history_of at.shape)) c.place ≡ Some r) × (r.tx ≡ c.decision.tx))
+
 -- a choice to abort leaves the states, and one marked as silent; what is left is one to commit
 abbrev pub LeavesStates : Choice → Bool → Type 0
 LeavesStates c true = (c.decision.fate ≡ A) ⊎ (c.effect ≡ Silent)
 LeavesStates c false = c.decision.fate ≡ C
 
--- the states of a store
-abbrev pub now_of : StoreOf → List ObjState
-now_of s = s.now
-
-abbrev pub no_store : StoreOf
-no_store = record { now = []; past = [] }
-
--- a store with the states is at the place, where there is one
-abbrev pub IsStoreAt : List StoreOf → Option ℕ → List ObjState → Type 0
-IsStoreAt stores None states = Unit {0}
-IsStoreAt stores (Some k) states = (k < length stores) × ((slice_index_or stores k no_store).now ≡ states)
-
--- some more stores behind the others
-abbrev pub IsMoreOf : List StoreOf → List StoreOf → Type 0
-IsMoreOf old new = (more : List StoreOf) × (new ≡ old ++ more)
-
--- nothing came but perhaps one
-abbrev pub AreWith : {X : Type 0} → List X → List X → X → Type 0
-AreWith {X} old new x = (y : X) → Contains new y → Contains old y ⊎ (y ≡ x)
+-- behind the choice the states have the number: it leaves them, or a lead of its block is known
+abbrev pub IsAfter : MemoOf → ℕ → Choice → ℕ → Type 0
+IsAfter memo n c to = (LeavesStates c true × (to ≡ n)) ⊎ ((c.decision.fate ≡ C) × IsLead memo.shape memo.states (record { from = n; tx = c.decision.tx; to = to }))

@@ -35,6 +35,10 @@ IsFound old new cs from (Some k) =
     (c : Choice) × ((from ≤ k) × (k < length cs) × (slice_get cs k ≡ Some c) × IsGoodAt old c.decision × (new ≡ cursor_with old c.decision)
     × ((j : ℕ) (e : Choice) → from ≤ j → j < k → slice_get cs j ≡ Some e → IsGoodAt old e.decision → ⊥))
 
+-- the choices from one place up to another are refuted
+abbrev pub ArePassed : CursorOf → List Choice → ℕ → ℕ → Type 0
+ArePassed at cs from to = (from ≤ to) × ((j : ℕ) (c : Choice) → from ≤ j → j < to → slice_get cs j ≡ Some c → Refuted (objects_of at.shape) (history_of at.shape) (at.path ++ c.decision ∷ []))
+
 -- the place of the next choice once the one at k is refuted: behind one of a silent transaction it may be any
 pub record IsBehind (cs : List Choice) (k g : ℕ) : Type 0 where
   pub past : k < g

@@ -6,11 +6,11 @@
 use aud_event::OutOfMemory;
 use std::alloc::{Allocator, Global};
 
-/// A hash and a place, counted from 1; the place 0 says that the slot is free.
+/// The upper half of a hash and a place, counted from 1; the place 0 says that the slot is free.
 #[derive(Clone, Copy, Debug)]
 struct Slot {
-    hash: u64,
-    place: usize,
+    hash: u32,
+    place: u32,
 }
 
 /// What stands in a slot.
@@ -50,18 +50,23 @@ pub(crate) fn hash_words(start: u64, words: &[u64]) -> u64 {
     hash
 }
 
-/// The slot of the hash, so many steps behind its first.
-fn slot_of(hash: u64, step: usize, count: usize) -> usize {
+/// The half of a hash that a slot keeps.
+fn half_of(hash: u64) -> u32 {
+    (hash >> 32) as u32
+}
+
+/// The slot of the half hash, so many steps behind its first.
+fn slot_of(hash: u32, step: usize, count: usize) -> usize {
     (hash as usize).wrapping_add(step) & count.saturating_sub(1)
 }
 
-/// Puts the place into the first free slot of the hash.
-fn put_into(slots: &mut [Slot], hash: u64, place: usize) {
+/// Puts the hash and the place into the first free slot of the hash.
+fn put_into(slots: &mut [Slot], taken: Slot) {
     let count = slots.len();
     for step in 0..count {
-        if let Some(slot) = slots.get_mut(slot_of(hash, step, count)) {
+        if let Some(slot) = slots.get_mut(slot_of(taken.hash, step, count)) {
             if slot.place == 0 {
-                *slot = Slot { hash, place };
+                *slot = taken;
                 return;
             }
         }
@@ -80,13 +85,14 @@ impl<A: Allocator + Copy> Index<A> {
 
     /// What stands so many steps behind the first slot of the hash.
     pub(crate) fn look(&self, hash: u64, step: usize) -> Look {
-        match self.slots.get(slot_of(hash, step, self.slots.len())) {
+        let half = half_of(hash);
+        match self.slots.get(slot_of(half, step, self.slots.len())) {
             None => Look::Free,
             Some(slot) => {
                 if slot.place == 0 {
                     Look::Free
-                } else if slot.hash == hash {
-                    Look::At(slot.place.wrapping_sub(1))
+                } else if slot.hash == half {
+                    Look::At((slot.place as usize).wrapping_sub(1))
                 } else {
                     Look::Other
                 }
@@ -101,35 +107,24 @@ impl<A: Allocator + Copy> Index<A> {
         let mut slots = vec![in self.alloc; free; count]?;
         for slot in &self.slots {
             if slot.place != 0 {
-                put_into(&mut slots, slot.hash, slot.place);
+                put_into(&mut slots, *slot);
             }
         }
         self.slots = slots;
         Ok(())
     }
 
-    /// Puts the place under the hash.
+    /// Puts the place under the hash. It holds places below 2^32 - 1; any other is as memory that is wanting.
     pub(crate) fn put(&mut self, hash: u64, place: usize) -> Result<(), OutOfMemory> {
+        let Ok(place) = u32::try_from(place.wrapping_add(1)) else {
+            return Err(OutOfMemory);
+        };
         if self.taken >= self.slots.len() / 2 {
             self.grow()?;
         }
-        put_into(&mut self.slots, hash, place.wrapping_add(1));
+        let hash = half_of(hash);
+        put_into(&mut self.slots, Slot { hash, place });
         self.taken = self.taken.wrapping_add(1);
         Ok(())
-    }
-
-    /// Puts a place that stands in the first slot of the hash under the hash, if one stands there.
-    pub(crate) fn take_over(&mut self, hash: u64) -> Option<usize> {
-        let count = self.slots.len();
-        match self.slots.get_mut(slot_of(hash, 0, count)) {
-            None => None,
-            Some(slot) => {
-                if slot.place == 0 {
-                    return None;
-                }
-                slot.hash = hash;
-                Some(slot.place.wrapping_sub(1))
-            }
-        }
     }
 }

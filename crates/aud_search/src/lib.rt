@@ -3,10 +3,13 @@
 
 mod choice;
 mod index;
+mod kept;
 mod memo;
 mod outcome;
 mod ready;
+mod room;
 mod search;
+mod spots;
 
 pub use outcome::{Decided, Outcome};
 pub use search::{decide, explore};

@@ -1,36 +1,25 @@
 //! What a search remembers of the lists that it refuted: which transactions were placed, and the states of all objects.
 //! Behind two lists of which these are the same, the same shows.
 
-ghost use Rattle.std.specs.Prelude.{◌≡◌, [], IsTrue, MatchOption, map};
+ghost use Rattle.std.specs.Prelude.{◌≡◌, ◌++◌, [], ◌∷◌, Some, IsTrue, MatchOption};
 ghost use Rattle.std.specs.List.{Contains};
+ghost use Rattle.aud_witness.specs.declared.decision.Fate.TheVariants.{C};
 ghost use Rattle.aud_witness.specs.Orders.{Refuted};
 ghost use Rattle.aud_order.specs.Shapes.{objects_of, history_of};
-ghost use Rattle.aud_search.specs.Memos.{states_behind, Names, now_of, IsLead, IsGrown, IsStep, LeavesStates, IsStoreAt, IsMoreOf, AreWith};
+ghost use Rattle.aud_search.specs.Kept.{LeadsTo};
+ghost use Rattle.aud_search.specs.Memos.{states_behind, Names, IsLead, IsGrown, IsStep, IsNext, IsAfter, LeavesStates};
+ghost use Rattle.aud_search.specs.Spots.{AreWith};
 
 use crate::choice::{Choice, Effect};
-use crate::index::{Index, Look, hash_of, hash_words};
-use aud_event::{Dup, OutOfMemory};
-use aud_marks::Marks;
-use aud_object::Store;
+use crate::index::{Index, Look, hash_of};
+use crate::kept::{Kept, Step, keep_states};
+use crate::room::takes;
+use crate::spots::Spots;
+use aud_event::OutOfMemory;
 use aud_order::{Cursor, Shape};
 use aud_witness::Fate;
 use std::alloc::{Allocator, Global};
 use std::marker::Model;
-
-/// Which rows were placed behind a refuted list, and the number of the states there.
-#[derive(Drop)]
-struct Entry<A: Allocator = Global> {
-    placed: Marks<A>,
-    states: usize,
-}
-
-impl<A: Allocator> Model for Entry<A> {
-    ghost use Rattle.aud_search.specs.Memos.{EntryOf};
-
-    ghost Value = { EntryOf };
-
-    ghost view = { λ e. record { placed = e.placed; states = e.states } };
-}
 
 /// The block of the transaction leads from the states of one number to those of another.
 #[derive(Clone, Copy, Debug, PartialEq, Eq)]
@@ -42,29 +31,32 @@ pub(crate) struct Lead {
 
 /// Spots of refuted lists of one shape, and where blocks lead. States that many spots share are kept once, under a number.
 ///
-/// When its room is full, a new spot takes the place of an older one; where memory is wanting it is forgotten.
+/// A spot is kept as words: the number of the states, then the marks of the rows that were placed. When its room is full,
+/// the spots are forgotten and others come; where memory is wanting a new one is.
 #[derive(Drop)]
 pub(crate) struct Memo<'a, A: Allocator + Copy = Global> {
     alloc: A,
     shape: &'a Shape<A>,
-    stores: Vec<Store<A>, A>,
-    stores_by_digest: Index<A>,
+    kept: Vec<Kept<A>, A>,
+    kept_by_digest: Index<A>,
+    way: Vec<u32, A>,
     leads: Vec<Lead, A>,
     leads_by_hash: Index<A>,
-    entries: Vec<Entry<A>, A>,
-    entries_by_hash: Index<A>,
+    spots: Spots<A>,
     room: usize,
+    spots_room: usize,
 }
 
 impl<'a, A: Allocator + Copy> Model for Memo<'a, A> {
-    ghost use Rattle.std.specs.Prelude.{map};
-    ghost use Rattle.aud_search.specs.Memos.{MemoOf, now_of, IsTrueMemo};
+    ghost use Rattle.aud_order.specs.Shapes.{history_of};
+    ghost use Rattle.aud_search.specs.Kept.{states_of};
+    ghost use Rattle.aud_search.specs.Memos.{MemoOf, entries_of, IsTrueMemo};
 
     ghost Value = { MemoOf };
 
-    ghost view = { λ m. record { shape = m.shape.now; states = map now_of m.stores.items } };
+    ghost view = { λ m. record { shape = m.shape.now; states = states_of (history_of m.shape.now) m.kept.items } };
 
-    ghost invariant = { λ m. IsTrueMemo m.shape.now (map now_of m.stores.items) m.entries.items m.leads.items };
+    ghost invariant = { λ m. IsTrueMemo m.shape.now (states_of (history_of m.shape.now) m.kept.items) (entries_of (history_of m.shape.now) m.spots) m.leads.items };
 }
 
 /// How much memory a memo takes, about, in bytes.
@@ -73,34 +65,8 @@ const ROOM: usize = 1 << 30;
 /// How many slots are looked at before something counts as not found.
 const LOOKS: usize = 64;
 
-/// What a store takes for each number that it keeps, about, in bytes, and beside them.
-const STORE: (usize, usize) = (40, 128);
-
-/// What a lead and an entry take beside the marks, about, in bytes.
-const ITEM: usize = 96;
-
-/// The place of a store with the same states.
-fn find_store<A: Allocator + Copy>(
-    stores: &[Store<A>],
-    by_digest: &Index<A>,
-    digest: u64,
-    store: &Store<A>,
-) -> Option<usize>
-    ensures { IsStoreAt stores.now result store.now.now }
-{
-    for step in 0..LOOKS {
-        match by_digest.look(digest, step) {
-            Look::Free => return None,
-            Look::Other => {}
-            Look::At(place) => {
-                if place < stores.len() && stores[place].same(store) {
-                    return Some(place);
-                }
-            }
-        }
-    }
-    None
-}
+/// What a lead and a spot take beside the marks, about, in bytes.
+const ITEM: usize = 48;
 
 /// Where the transaction's block leads from the states of the number, if that is known.
 fn find_lead<A: Allocator + Copy>(
@@ -126,36 +92,6 @@ fn find_lead<A: Allocator + Copy>(
     None
 }
 
-/// Whether the rows are placed and the states have the number in one of the entries.
-fn has_entry<A: Allocator + Copy>(
-    entries: &[Entry<A>],
-    by_hash: &Index<A>,
-    placed: &Marks<A>,
-    states: usize,
-) -> bool
-    ensures { IsTrue result → Contains entries.now (record { placed = placed.now; states = states }) }
-{
-    let hash = hash_words(states as u64, placed.words());
-    for step in 0..LOOKS {
-        match by_hash.look(hash, step) {
-            Look::Free => return false,
-            Look::Other => {}
-            Look::At(place) => {
-                if place < entries.len() && is_entry(&entries[place], placed, states) {
-                    return true;
-                }
-            }
-        }
-    }
-    false
-}
-
-fn is_entry<A: Allocator + Drop>(entry: &Entry<A>, placed: &Marks<A>, states: usize) -> bool
-    ensures { IsTrue result → entry.now ≡ record { placed = placed.now; states = states } }
-{
-    entry.states == states && entry.placed.same(placed)
-}
-
 /// Whether the choice leaves the states of all objects.
 fn leaves_states(choice: &Choice) -> bool
     ensures { LeavesStates choice.now result }
@@ -166,68 +102,16 @@ fn leaves_states(choice: &Choice) -> bool
     }
 }
 
-/// Takes as much of what is left, if there is so much.
-fn takes(room: &mut usize, size: usize) -> bool {
-    if size <= *room {
-        *room -= size;
-        true
-    } else {
-        false
-    }
-}
-
-/// The place of a store with the states of this one, which may come behind the others, if there is room and memory for it.
-fn keep_store<A: Allocator + Copy>(
-    stores: &mut Vec<Store<A>, A>,
-    by_digest: &mut Index<A>,
-    room: &mut usize,
-    store: &Store<A>,
-) -> Option<usize>
-    ensures grown { IsMoreOf stores.old.items stores.new.items }
-    ensures there { IsStoreAt stores.new.items result store.now.now }
-{
-    let digest = store.digest();
-    if let Some(place) = find_store(stores, by_digest, digest, store) {
-        return Some(place);
-    }
-    if !takes(
-        room,
-        store.size().saturating_mul(STORE.0).saturating_add(STORE.1),
-    ) {
-        return None;
-    }
-    let place = stores.len();
-    let Ok(copy) = store.present() else {
-        return None;
-    };
-    if by_digest.put(digest, place).is_err() {
-        return None;
-    }
-    let Ok(()) = stores.push(copy) else {
-        return None;
-    };
-    Some(place)
-}
-
-/// Puts an item behind the others, or, where there is no room for it, in the place of one.
-fn keep_item<T: Drop, A: Allocator + Copy>(
-    items: &mut Vec<T, A>,
+/// A lead comes behind the others, if there is memory for it.
+fn keep_lead<A: Allocator + Copy>(
+    leads: &mut Vec<Lead, A>,
     by_hash: &mut Index<A>,
-    room: &mut usize,
-    size: usize,
-    hash: u64,
-    item: T,
+    lead: Lead,
 ) -> Result<(), OutOfMemory>
-    ensures { AreWith items.old.items items.new.items item }
+    ensures { AreWith leads.old.items leads.new.items lead }
 {
-    if takes(room, size) {
-        by_hash.put(hash, items.len())?;
-        items.push(item)?;
-    } else if let Some(place) = by_hash.take_over(hash) {
-        if place < items.len() {
-            items[place] = item;
-        }
-    }
+    by_hash.put(hash_of(lead.from as u64, lead.tx as u64), leads.len())?;
+    leads.push(lead)?;
     Ok(())
 }
 
@@ -239,25 +123,30 @@ impl<'a, A: Allocator + Copy> Memo<'a, A> {
         Memo {
             alloc,
             shape,
-            stores: Vec::new(alloc),
-            stores_by_digest: Index::new(alloc),
+            kept: Vec::new(alloc),
+            kept_by_digest: Index::new(alloc),
+            way: Vec::new(alloc),
             leads: Vec::new(alloc),
             leads_by_hash: Index::new(alloc),
-            entries: Vec::new(alloc),
-            entries_by_hash: Index::new(alloc),
+            spots: Spots::new(alloc),
             room: ROOM,
+            spots_room: 0,
         }
     }
 
     /// The number of the states where the cursor stands, which may be a new one, if there is room and memory for it.
-    fn number(&mut self, cursor: &Cursor<A>) -> Option<usize>
+    fn number(&mut self, step: Option<Step>, cursor: &Cursor<A>) -> Option<usize>
+        requires { LeadsTo (history_of self.old.shape) self.old.states step (states_behind cursor.now.shape cursor.now.path) }
         ensures grown { IsGrown self.old self.new }
         ensures named { Names self.new.states result (states_behind cursor.now.shape cursor.now.path) }
     {
-        keep_store(
-            &mut self.stores,
-            &mut self.stores_by_digest,
+        keep_states(
+            &mut self.kept,
+            &mut self.kept_by_digest,
+            self.shape,
+            &mut self.way,
             &mut self.room,
+            step,
             cursor.store(),
         )
     }
@@ -269,20 +158,25 @@ impl<'a, A: Allocator + Copy> Memo<'a, A> {
         find_lead(&self.leads, &self.leads_by_hash, from, tx)
     }
 
-    /// Remembers where a block leads, if memory is there for it.
-    fn keep_lead(&mut self, lead: Lead)
+    /// The number of the states behind a choice that is good where the states have the number, if that is known.
+    fn after(&self, before: usize, choice: &Choice) -> Option<usize>
+        ensures { MatchOption result (choice.now.decision.fate ≡ C) (λ to. IsAfter self.now before choice.now to) }
+    {
+        if leaves_states(choice) {
+            Some(before)
+        } else {
+            self.lead(before, choice.decision.tx)
+        }
+    }
+
+    /// Remembers where a block leads, if there is room and memory for it.
+    fn remember_lead(&mut self, lead: Lead)
         requires { IsLead self.old.shape self.old.states lead }
         ensures { self.new ≡ self.old }
     {
-        let hash = hash_of(lead.from as u64, lead.tx as u64);
-        let _ = keep_item(
-            &mut self.leads,
-            &mut self.leads_by_hash,
-            &mut self.room,
-            ITEM,
-            hash,
-            lead,
-        );
+        if takes(&mut self.room, ITEM) {
+            let _ = keep_lead(&mut self.leads, &mut self.leads_by_hash, lead);
+        }
     }
 
     /// The number of the states where the cursor stands, behind a choice that was good where the states have the number
@@ -300,24 +194,21 @@ impl<'a, A: Allocator + Copy> Memo<'a, A> {
         let _ = self.shape.history();
         let _ = self.shape.plan();
         let _ = cursor.prefix();
-        if self.entries.is_empty() {
+        if self.spots.is_empty() {
             return None;
         }
         let Some(before) = from else {
-            return self.number(cursor);
+            return self.number(None, cursor);
         };
-        if leaves_states(choice) {
-            return Some(before);
-        }
-        let tx = choice.decision.tx;
-        if let Some(to) = self.lead(before, tx) {
+        if let Some(to) = self.after(before, choice) {
             return Some(to);
         }
-        let known = self.stores.len();
-        let to = self.number(cursor)?;
+        let tx = choice.decision.tx;
+        let known = self.kept.len();
+        let to = self.number(Some(Step { from: before, tx }), cursor)?;
         // To states that are met for the first time few ways lead.
         if to < known {
-            self.keep_lead(Lead {
+            self.remember_lead(Lead {
                 from: before,
                 tx,
                 to,
@@ -338,12 +229,30 @@ impl<'a, A: Allocator + Copy> Memo<'a, A> {
         let _ = cursor.prefix();
         match states {
             None => false,
-            Some(states) => has_entry(
-                &self.entries,
-                &self.entries_by_hash,
-                cursor.placed(),
-                states,
-            ),
+            Some(states) => self.spots.has(states, cursor.placed(), None),
+        }
+    }
+
+    /// Whether the cursor's list with the choice behind it is known to be refuted, by where its block leads. No block runs,
+    /// and it takes no memory.
+    pub(crate) fn knows_behind(
+        &self,
+        states: Option<usize>,
+        choice: &Choice,
+        cursor: &Cursor<A>,
+    ) -> bool
+        requires { IsNext self.now states choice.now cursor.now }
+        ensures { IsTrue result → Refuted (objects_of cursor.now.shape) (history_of cursor.now.shape) (cursor.now.path ++ choice.now.decision ∷ []) }
+    {
+        let _ = self.shape.history();
+        let _ = self.shape.plan();
+        let _ = cursor.prefix();
+        let Some(before) = states else {
+            return false;
+        };
+        match self.after(before, choice) {
+            None => false,
+            Some(after) => self.spots.has(after, cursor.placed(), Some(choice.place)),
         }
     }
 
@@ -356,34 +265,37 @@ impl<'a, A: Allocator + Copy> Memo<'a, A> {
     {
         let number = match states {
             Some(number) => Some(number),
-            None => self.number(cursor),
+            None => self.number(None, cursor),
         };
         if let Some(number) = number {
-            self.keep_entry(number, cursor);
+            self.keep_refuted(number, cursor);
         }
     }
 
-    /// Puts an entry for the cursor's list, which is refuted, and whose states have the number.
-    fn keep_entry(&mut self, states: usize, cursor: &Cursor<A>)
+    /// Forgets the spots, and has their room again.
+    fn forget_spots(&mut self)
+        ensures { self.new ≡ self.old }
+    {
+        self.spots = Spots::new(self.alloc);
+        self.room = self.room.saturating_add(self.spots_room);
+        self.spots_room = 0;
+    }
+
+    /// Keeps the spot of the cursor's list, which is refuted, and whose states have the number.
+    fn keep_refuted(&mut self, states: usize, cursor: &Cursor<A>)
         requires shape { self.old.shape ≡ cursor.now.shape }
         requires named { Names self.old.states (Some states) (states_behind cursor.now.shape cursor.now.path) }
         requires refuted { Refuted (objects_of cursor.now.shape) (history_of cursor.now.shape) cursor.now.path }
         ensures { self.new ≡ self.old }
     {
         let _ = cursor.prefix();
-        let Ok(placed) = cursor.placed().dup() else {
-            return;
-        };
-        let hash = hash_words(states as u64, placed.words());
+        let placed = cursor.placed();
         let size = placed.words().len().saturating_mul(8).saturating_add(ITEM);
-        let entry = Entry { placed, states };
-        let _ = keep_item(
-            &mut self.entries,
-            &mut self.entries_by_hash,
-            &mut self.room,
-            size,
-            hash,
-            entry,
-        );
+        if !takes(&mut self.room, size) {
+            self.forget_spots();
+            return;
+        }
+        self.spots_room = self.spots_room.saturating_add(size);
+        self.spots.keep(states, placed);
     }
 }

@@ -1,7 +1,7 @@
 //! The search over one cursor: each good list of decisions is expanded at most once, and so is each spot, which is the
 //! transactions placed and the states of all objects. Where a silent transaction is good, only its choice is followed.
 
-ghost use Rattle.std.specs.Prelude.{◌≡◌, ◌↔◌, ◌<◌, ◌≤◌, Some, None, length, true, IfOk, MatchOption};
+ghost use Rattle.std.specs.Prelude.{◌≡◌, ◌↔◌, ◌<◌, ◌≤◌, Some, None, length, true, IfOk, MatchOption, ◌++◌, ◌∷◌, []};
 ghost use Rattle.aud_witness.specs.Orders.{IsFull, Opaque};
 ghost use Rattle.aud_history.specs.WellFormed.{IsWellFormed};
 ghost use Rattle.aud_history.specs.FirstFault.{IsWithinLimits};
@@ -10,7 +10,8 @@ ghost use Rattle.aud_search.specs.Choices.{AreChoices};
 ghost use Rattle.aud_search.specs.Levels.{IsOneLess};
 ghost use Rattle.aud_search.specs.Readiness.{IsReady};
 ghost use Rattle.aud_search.specs.Searches.{Tells, Decides};
-ghost use Rattle.aud_search.specs.Tried.{IsTried, IsFound, IsBehind, ArePushed, TellsFrom, cursor_back};
+ghost use Rattle.aud_search.specs.Tried.{IsTried, IsFound, IsBehind, ArePassed, ArePushed, TellsFrom, cursor_back};
+ghost use Rattle.aud_search.specs.Memos.{Names, states_behind};
 
 use crate::choice::{Choice, Effect, choices_of};
 use crate::memo::Memo;
@@ -88,6 +89,31 @@ fn try_from<A: Allocator + Copy>(
     Ok(None)
 }
 
+/// Passes over choices that are known to be refuted, from a place on, and tells where the others begin.
+fn pass_known<A: Allocator + Copy>(
+    memo: &Memo<A>,
+    cursor: &Cursor<A>,
+    choices: &[Choice],
+    ready: &Ready<A>,
+    here: Turn,
+) -> usize
+    requires choices { AreChoices (history_of cursor.now.shape) choices.now }
+    requires same { ready.now.choices ≡ choices.now }
+    requires ready { IsReady ready.now cursor.now }
+    requires shape { memo.now.shape ≡ cursor.now.shape }
+    requires named { Names memo.now.states here.states (states_behind cursor.now.shape cursor.now.path) }
+    ensures { ArePassed cursor.now choices.now here.next result }
+{
+    let mut from = here.next;
+    while let Some(place) = ready.next(from) {
+        if !memo.knows_behind(here.states, &choices[place], cursor) {
+            return from;
+        }
+        from = place + 1;
+    }
+    from
+}
+
 /// Takes the last decision back.
 fn go_back<A: Allocator + Copy>(cursor: &mut Cursor<A>, ready: &mut Ready<A>)
     requires { IsReady ready.old cursor.old }
@@ -151,7 +177,8 @@ fn search_from<'a, A: Allocator + Copy>(
     let mut here = Turn::new(None);
     let _ = cursor.prefix();
     'search: loop {
-        let Some(place) = try_from(cursor, choices, &ready, here.next)? else {
+        let from = pass_known(&memo, cursor, choices, &ready, here);
+        let Some(place) = try_from(cursor, choices, &ready, from)? else {
             let Some(turn) = turns.pop() else {
                 return Ok(Outcome::Refuted);
             };

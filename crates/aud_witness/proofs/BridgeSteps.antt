@@ -247,7 +247,7 @@ apart t u ts none there =
     is_false (nat_eq t u) (λ same. let clash : list_any (nat_eq u) ts ≡ false = subst (λ n. list_any (nat_eq n) ts ≡ false) (nat_eq-is t u same) none in cc)
 
 -- one more transaction placed, of those that stand once each
-set-named : (f g : ℕ → Bool) (ts : List ℕ) (k : ℕ) (t : ℕ) (d : ℕ) → are_different ts ≡ true → k < length ts → get_or ts k d ≡ t → g t ≡ true →
+pub set-named : (f g : ℕ → Bool) (ts : List ℕ) (k : ℕ) (t : ℕ) (d : ℕ) → are_different ts ≡ true → k < length ts → get_or ts k d ≡ t → g t ≡ true →
     ((u : ℕ) → nat_eq t u ≡ false → g u ≡ f u) → set (map f ts) k true ≡ map g ts
 set-named f g [] k t d differ inside at placed others = absurd (omega arith)
 set-named f g (x ∷ ts) zero t d differ inside at placed others =

@@ -9,8 +9,9 @@ use Rattle.aud_search.proofs.Levels.{search-start}
 use Rattle.aud_search.specs.declared.search.Turn.{Turn}
 use Rattle.aud_search.specs.Memos.{MemoOf, states_behind, Names, NameWay}
 use Rattle.aud_search.proofs.MemoLemmas.{way-grown, way-deeper, way-back}
+use Rattle.aud_search.proofs.Passing.{passed-search, passed-follows}
 use Rattle.aud_search.proofs.Readiness.{ready-on, ready-still}
-use Rattle.aud_search.proofs.Steps.{weight, next_of, states_of, more-turns, Grounds, follows, went-back, loop-known, loop-known-lighter, loop-refuted, step-at, spends-start, spends-more, spent-from, loop-witness, loop-spent, loop-deeper, loop-deeper-lighter, loop-over, loop-back, loop-back-lighter, back-same}
+use Rattle.aud_search.proofs.Steps.{weight, next_of, states_of, more-turns, Grounds, went-back, loop-known, loop-known-lighter, loop-refuted, step-at, spends-start, spends-more, spent-from, loop-witness, loop-spent, loop-deeper, loop-deeper-lighter, loop-over, loop-back, loop-back-lighter, back-same}
 use Rattle.aud_search.proofs.search.search_from.Goals as goal
 
 pub search-init : goal.search-init
@@ -34,7 +35,8 @@ returns-in_default-pop g c =
     let at = c.search in
     let empty = rw c.in_default-pop.is at c.pop.ensures.cases in
     let none : at.turns.items ≡ [] = nil_from_length at.turns.items (omega (arith, empty.0, at.turns.ok.0)) in
-    loop-over c.args.cursor.now at.cursor c.try_from.new.cursor c.args.choices.now at.invariant.used at.here.next (map next_of at.turns.items) at.invariant.same c.requires.choices at.invariant.searching
+    let searching = passed-search c.args.cursor.now at.cursor c.args.choices.now at.invariant.used at.here.next c.pass_known-from.result (reverse (map next_of at.turns.items)) at.invariant.same at.invariant.searching c.pass_known-from.ensures in
+    loop-over c.args.cursor.now at.cursor c.try_from.new.cursor c.args.choices.now at.invariant.used c.pass_known-from.result (map next_of at.turns.items) at.invariant.same c.requires.choices searching
     (rw c.in_default.is at c.in_ok-place.ensures) (ap (map next_of) none)
 
 pub learn-requires-clause-refuted : goal.learn-requires-clause-refuted
@@ -42,7 +44,8 @@ learn-requires-clause-refuted g c =
     let at = c.search in
     let start = c.args.cursor.now in
     let found = rw c.in_default.is at c.in_ok-place.ensures in
-    let refuted = loop-refuted start at.cursor c.try_from.new.cursor c.args.choices.now at.invariant.used at.here.next (reverse (map next_of at.turns.items)) at.invariant.same c.requires.choices at.invariant.searching found in
+    let searching = passed-search start at.cursor c.args.choices.now at.invariant.used at.here.next c.pass_known-from.result (reverse (map next_of at.turns.items)) at.invariant.same at.invariant.searching c.pass_known-from.ensures in
+    let refuted = loop-refuted start at.cursor c.try_from.new.cursor c.args.choices.now at.invariant.used c.pass_known-from.result (reverse (map next_of at.turns.items)) at.invariant.same c.requires.choices searching found in
     subst (λ (v : CursorOf). Refuted (objects_of v.shape) (history_of v.shape) v.path) (sym found.0)
     (subst (λ (s : ShapeOf). Refuted (objects_of s) (history_of s) at.cursor.path) (sym at.invariant.same) refuted)
 
@@ -61,8 +64,9 @@ search-preserved-in_default g c =
     let start = c.args.cursor.now in
     let found = rw c.in_default.is at c.in_ok-place.ensures in
     let shorter = rw c.in-Some-pop.is at c.pop.ensures.items in
-    let back = loop-back start at.cursor c.try_from.new.cursor c.go_back.new.cursor c.args.choices.now at.invariant.used at.here.next c.in-Some-pop.turn.next (map next_of at.turns.items) (map next_of c.pop.new.self.items) at.invariant.same
-    c.requires.choices at.invariant.searching found (more-turns next_of c.pop.new.self.items at.turns.items c.in-Some-pop.turn shorter) c.go_back.ensures.back in
+    let searching = passed-search start at.cursor c.args.choices.now at.invariant.used at.here.next c.pass_known-from.result (reverse (map next_of at.turns.items)) at.invariant.same at.invariant.searching c.pass_known-from.ensures in
+    let back = loop-back start at.cursor c.try_from.new.cursor c.go_back.new.cursor c.args.choices.now at.invariant.used c.pass_known-from.result c.in-Some-pop.turn.next (map next_of at.turns.items) (map next_of c.pop.new.self.items) at.invariant.same
+    c.requires.choices searching found (more-turns next_of c.pop.new.self.items at.turns.items c.in-Some-pop.turn shorter) c.go_back.ensures.back in
     record {
       same = back.0;
       used = at.invariant.used;
@@ -80,7 +84,7 @@ search-preserved-in_default g c =
 pub returns-then-full : goal.returns-then-full
 returns-then-full g c =
     let at = c.search in
-    let f = follows c.args.cursor.now at.cursor c.try_from.new.cursor c.args.choices.now at.invariant.used at.here.next c.in-Some.place (reverse (map next_of at.turns.items)) at.invariant.same at.invariant.searching (rw c.in-Some.is at c.in_ok-place.ensures) in
+    let f = passed-follows c.args.cursor.now at.cursor c.try_from.new.cursor c.args.choices.now at.invariant.used at.here.next c.pass_known-from.result c.in-Some.place (reverse (map next_of at.turns.items)) at.invariant.same at.invariant.searching c.pass_known-from.ensures (rw c.in-Some.is at c.in_ok-place.ensures) in
     loop-witness c.args.cursor.now at.cursor c.try_from.new.cursor c.args.choices.now at.invariant.used at.here.next c.in-Some.place (reverse (map next_of at.turns.items)) c.in_ok-witness.witness at.invariant.searching f
     (c.full.ensures.0 c.if-full.true) (c.in_ok-witness.ensures ∙ c.prefix-then-full.ensures.prefix)
 
@@ -88,14 +92,14 @@ pub follow-states-requires : goal.follow-states-requires
 follow-states-requires g c =
     let at = c.search in
     let start = c.args.cursor.now in
-    let f = follows start at.cursor c.try_from.new.cursor c.args.choices.now at.invariant.used at.here.next c.in-Some.place (reverse (map next_of at.turns.items)) at.invariant.same at.invariant.searching (rw c.in-Some.is at c.in_ok-place.ensures) in
+    let f = passed-follows start at.cursor c.try_from.new.cursor c.args.choices.now at.invariant.used at.here.next c.pass_known-from.result c.in-Some.place (reverse (map next_of at.turns.items)) at.invariant.same at.invariant.searching c.pass_known-from.ensures (rw c.in-Some.is at c.in_ok-place.ensures) in
     step-at start at.cursor c.try_from.new.cursor c.args.choices.now at.here.next c.in-Some.place at.memo at.here.states (reverse (map states_of at.turns.items)) (record { fine = c.requires.fine; within = c.requires.within; choices = c.requires.choices }) f at.invariant.memo at.invariant.way
 
 pub search-smaller-then-knows : goal.search-smaller-then-knows
 search-smaller-then-knows g c =
     let at = c.search in
     let start = c.args.cursor.now in
-    let f = follows start at.cursor c.try_from.new.cursor c.args.choices.now at.invariant.used at.here.next c.in-Some.place (reverse (map next_of at.turns.items)) at.invariant.same at.invariant.searching (rw c.in-Some.is at c.in_ok-place.ensures) in
+    let f = passed-follows start at.cursor c.try_from.new.cursor c.args.choices.now at.invariant.used at.here.next c.pass_known-from.result c.in-Some.place (reverse (map next_of at.turns.items)) at.invariant.same at.invariant.searching c.pass_known-from.ensures (rw c.in-Some.is at c.in_ok-place.ensures) in
     loop-known-lighter start at.cursor c.try_from.new.cursor c.pop-known.new.self c.args.choices.now at.here.next c.in-Some.place c.place_behind.result (map next_of at.turns.items) f c.place_behind.ensures.past
     (back-same c.try_from.new.cursor c.pop-known.new.self c.pop-known.result c.pop-known.ensures.root c.pop-known.ensures.back)
 
@@ -104,7 +108,7 @@ search-preserved-then-knows g c =
     let at = c.search in
     let start = c.args.cursor.now in
     let new = c.try_from.new.cursor in
-    let f = follows start at.cursor new c.args.choices.now at.invariant.used at.here.next c.in-Some.place (reverse (map next_of at.turns.items)) at.invariant.same at.invariant.searching (rw c.in-Some.is at c.in_ok-place.ensures) in
+    let f = passed-follows start at.cursor new c.args.choices.now at.invariant.used at.here.next c.pass_known-from.result c.in-Some.place (reverse (map next_of at.turns.items)) at.invariant.same at.invariant.searching c.pass_known-from.ensures (rw c.in-Some.is at c.in_ok-place.ensures) in
     let popped = back-same new c.pop-known.new.self c.pop-known.result c.pop-known.ensures.root c.pop-known.ensures.back in
     record {
       same = (went-back start at.cursor new c.pop-known.new.self c.args.choices.now at.here.next c.in-Some.place f popped).0;
@@ -123,7 +127,7 @@ pub returns-in_default-spend : goal.returns-in_default-spend
 returns-in_default-spend g c =
     let at = c.search in
     let start = c.args.cursor.now in
-    let f = follows start at.cursor c.try_from.new.cursor c.args.choices.now at.invariant.used at.here.next c.in-Some.place (reverse (map next_of at.turns.items)) at.invariant.same at.invariant.searching (rw c.in-Some.is at c.in_ok-place.ensures) in
+    let f = passed-follows start at.cursor c.try_from.new.cursor c.args.choices.now at.invariant.used at.here.next c.pass_known-from.result c.in-Some.place (reverse (map next_of at.turns.items)) at.invariant.same at.invariant.searching c.pass_known-from.ensures (rw c.in-Some.is at c.in_ok-place.ensures) in
     let unfull : IsFull (history_of c.try_from.new.cursor.shape) c.try_from.new.cursor.path → ⊥ = λ full. absurd (let is_so = c.full.ensures.1 full in let is_not = c.if-full.false in cc) in
     spent-from g.row.A.Denot (objects_of start.shape) (history_of start.shape) start.path c.args.budget at.left at.invariant.used at.invariant.spends (rw c.in_default-spend.is at c.spend.ensures)
     (loop-spent start at.cursor c.try_from.new.cursor c.args.choices.now at.invariant.used at.here.next c.in-Some.place (reverse (map next_of at.turns.items)) at.invariant.searching f unfull)
@@ -132,7 +136,7 @@ pub go_on-requires : goal.go_on-requires
 go_on-requires g c =
     let at = c.search in
     let start = c.args.cursor.now in
-    let f = follows start at.cursor c.try_from.new.cursor c.args.choices.now at.invariant.used at.here.next c.in-Some.place (reverse (map next_of at.turns.items)) at.invariant.same at.invariant.searching (rw c.in-Some.is at c.in_ok-place.ensures) in
+    let f = passed-follows start at.cursor c.try_from.new.cursor c.args.choices.now at.invariant.used at.here.next c.pass_known-from.result c.in-Some.place (reverse (map next_of at.turns.items)) at.invariant.same at.invariant.searching c.pass_known-from.ensures (rw c.in-Some.is at c.in_ok-place.ensures) in
     ready-on start at.cursor c.try_from.new.cursor c.args.choices.now at.here.next c.in-Some.place at.ready f at.invariant.same at.invariant.ready
 
 pub search-smaller : goal.search-smaller
@@ -140,7 +144,7 @@ search-smaller g c =
     let at = c.search in
     let start = c.args.cursor.now in
     let turn : Turn = record { next = c.place_behind.result; states = at.here.states } in
-    let f = follows start at.cursor c.try_from.new.cursor c.args.choices.now at.invariant.used at.here.next c.in-Some.place (reverse (map next_of at.turns.items)) at.invariant.same at.invariant.searching (rw c.in-Some.is at c.in_ok-place.ensures) in
+    let f = passed-follows start at.cursor c.try_from.new.cursor c.args.choices.now at.invariant.used at.here.next c.pass_known-from.result c.in-Some.place (reverse (map next_of at.turns.items)) at.invariant.same at.invariant.searching c.pass_known-from.ensures (rw c.in-Some.is at c.in_ok-place.ensures) in
     subst (λ (t : Turn). weight start.shape c.args.choices.now c.try_from.new.cursor.path t.next (map next_of c.push.new.self.items) < weight start.shape c.args.choices.now at.cursor.path at.here.next (map next_of at.turns.items)) (sym c.new-here-in-search.ensures)
     (loop-deeper-lighter start at.cursor c.try_from.new.cursor c.args.choices.now at.here.next c.in-Some.place c.place_behind.result (map next_of at.turns.items) (map next_of c.push.new.self.items) f c.place_behind.ensures.past
     (more-turns next_of at.turns.items c.push.new.self.items turn c.in_ok-push.ensures.items))
@@ -151,7 +155,7 @@ search-preserved g c =
     let start = c.args.cursor.now in
     let turn : Turn = record { next = c.place_behind.result; states = at.here.states } in
     let on : Grounds start.shape c.args.choices.now = record { fine = c.requires.fine; within = c.requires.within; choices = c.requires.choices } in
-    let f = follows start at.cursor c.try_from.new.cursor c.args.choices.now at.invariant.used at.here.next c.in-Some.place (reverse (map next_of at.turns.items)) at.invariant.same at.invariant.searching (rw c.in-Some.is at c.in_ok-place.ensures) in
+    let f = passed-follows start at.cursor c.try_from.new.cursor c.args.choices.now at.invariant.used at.here.next c.pass_known-from.result c.in-Some.place (reverse (map next_of at.turns.items)) at.invariant.same at.invariant.searching c.pass_known-from.ensures (rw c.in-Some.is at c.in_ok-place.ensures) in
     let unfull : IsFull (history_of c.try_from.new.cursor.shape) c.try_from.new.cursor.path → ⊥ = λ full. absurd (let is_so = c.full.ensures.1 full in let is_not = c.if-full.false in cc) in
     record {
       same = f.shape;

@@ -1,9 +1,9 @@
 use Rattle.std.proofs.Common.{sym, subst}
 use Rattle.aud_search.specs.Memos.{MemoOf, IsLead}
 use Rattle.aud_search.proofs.MemoLemmas.{true-lead}
-use Rattle.aud_search.proofs.memo.Memo.keep_lead.Goals as goal
+use Rattle.aud_search.proofs.memo.Memo.remember_lead.Goals as goal
 
 pub invariant_of-self : goal.invariant_of-self
 invariant_of-self g c =
-    true-lead _ _ c.self.inside.entries.items c.self.inside.leads.items c.keep_item.new.items.items c.args.lead c.keep_item.ensures
+    true-lead _ _ _ c.self.inside.leads.items c.keep_lead.new.leads.items c.args.lead c.keep_lead.ensures
     (subst (λ (m : MemoOf). IsLead m.shape m.states c.args.lead) (sym c.self.view_is) c.requires) c.self.invariant

@@ -1,0 +1,24 @@
+use Rattle.std.specs.Prelude.{◌+◌, ◌/◌, true}
+use Rattle.std.proofs.Common.{sym, ◌∙◌, ap, arith, get_or}
+use Rattle.aud_event.proofs.Bools.{nat_eq-is}
+use Rattle.aud_search.proofs.Spotting.{set-between, rest-all}
+use Rattle.aud_search.proofs.spots.is_with.Goals as goal
+use Rattle.aud_search.proofs.spots.is_with.Goals.{then-words-at, else-words-at}
+
+pub returns-then-is_same : goal.returns-then-is_same
+returns-then-is_same c =
+    let words = c.args.words.now in
+    let others = c.args.others.now in
+    let at = c.args.place / 64 in
+    λ it. elim c.if-words-at.branch [
+      | then-words-at w ↦ (
+        c.with_mark.result,
+        (
+          omega arith,
+          c.with_mark.ensures,
+          set-between others words at c.with_mark.result (omega arith) (omega arith) w.if-words-at.true (w.is_same.ensures (sym w.value-is ∙ c.if-is_same.true))
+              (sym (rest-all words (at + 1)) ∙ c.is_same-then-is_same.ensures it ∙ rest-all others (at + 1)),
+        ),
+      )
+      | else-words-at w ↦ absurd (w.if-words-at.false (nat_eq-is (get_or words at 0) c.with_mark.result (sym w.value-is ∙ c.if-is_same.true)))
+    ]

@@ -1,0 +1,190 @@
+//! Spots as words, all in one memory.
+
+ghost use Rattle.std.specs.Prelude.{◌≡◌, ◌+◌, ◌<◌, ◌≤◌, ◌++◌, [], ◌∷◌, true, nat_eq, IsTrue, MatchOption, map, length, take, drop, slice_index_or, if◌then◌else◌, ◌⊎◌};
+ghost use Rattle.std.specs.List.{Contains};
+ghost use Rattle.aud_marks.specs.Marked.{IsBitWritten};
+ghost use Rattle.aud_search.specs.Spots.{AreWith, entry_of, with_place, WithPlace, IsSpot};
+
+use crate::index::{Index, Look, hash_of};
+use aud_marks::Marks;
+use std::alloc::{Allocator, Global};
+use std::marker::Model;
+
+/// Spots: the number of the states, then the marks of the rows that are placed, in as many words each.
+#[derive(Drop)]
+pub(crate) struct Spots<A: Allocator + Copy = Global> {
+    words: Vec<u64, A>,
+    width: usize,
+    count: usize,
+    by_hash: Index<A>,
+}
+
+impl<A: Allocator + Copy> Model for Spots<A> {
+    ghost use Rattle.std.specs.Prelude.{◌≡◌, ◌<◌, ◌*◌, List, ℕ, length};
+    ghost use Rattle.aud_search.specs.Spots.{chunks};
+
+    ghost Value = { List (List ℕ) };
+
+    ghost view = { λ s. chunks s.width s.words.items s.count };
+
+    ghost invariant = { λ s. (0 < s.width) × (length s.words.items ≡ s.count * s.width) };
+}
+
+/// How many rows a word marks.
+const WIDTH: usize = 64;
+
+/// How many slots are looked at before a spot counts as not found.
+const LOOKS: usize = 64;
+
+/// The word with a mark at its place.
+fn with_mark(word: u64, place: usize) -> u64
+    requires { place < 64 }
+    ensures { IsBitWritten word result place true }
+{
+    word | (1 << place)
+}
+
+/// A hash of a spot: the states have the number, and the rows are placed, with one further where there is one.
+fn hash_spot(states: usize, placed: &[u64], further: Option<usize>) -> u64 {
+    let mut hash = hash_of(0x2545_F491_4F6C_DD1D, states as u64);
+    for (at, word) in placed.iter().enumerate() {
+        let word = match further {
+            Some(place) if place / WIDTH == at => with_mark(*word, place % WIDTH),
+            _ => *word,
+        };
+        hash = hash_of(hash, word);
+    }
+    hash
+}
+
+fn is_same(a: &[u64], b: &[u64]) -> bool
+    ensures { IsTrue result → a.now ≡ b.now }
+{
+    a == b
+}
+
+/// Whether the words mark what others mark, and the place.
+fn is_with(words: &[u64], others: &[u64], place: usize) -> bool
+    ensures { IsTrue result → WithPlace others.now words.now place }
+{
+    let at = place / WIDTH;
+    if at >= others.len() || at >= words.len() {
+        return false;
+    }
+    words[at] == with_mark(others[at], place % WIDTH)
+        && is_same(&words[..at], &others[..at])
+        && is_same(&words[at + 1..], &others[at + 1..])
+}
+
+/// Whether the words are of a spot: the states have the number, and the rows are placed, with one further where there is one.
+fn is_spot(words: &[u64], states: usize, placed: &[u64], further: Option<usize>) -> bool
+    ensures { IsTrue result → IsSpot words.now states placed.now further }
+{
+    let Some((first, marks)) = words.split_first() else {
+        return false;
+    };
+    if *first != states as u64 {
+        return false;
+    }
+    match further {
+        None => is_same(marks, placed),
+        Some(place) => is_with(marks, placed, place),
+    }
+}
+
+/// Whether spots of the width can come behind so many of another.
+fn is_width(count: usize, other: usize, width: usize) -> bool
+    ensures { IsTrue result → (count ≡ 0) ⊎ (other ≡ width) }
+{
+    count == 0 || other == width
+}
+
+/// So many words from a place on.
+fn part(words: &[u64], from: usize, width: usize) -> &[u64]
+    requires { from + width ≤ length words.now }
+    ensures { result.now ≡ take width (drop from words.now) }
+{
+    &words[from..from + width]
+}
+
+/// Puts the number and the marks behind the words, if there is memory for them.
+fn append<A: Allocator>(words: &mut Vec<u64, A>, states: usize, marks: &[u64]) -> bool
+    ensures { words.new.items ≡ (if result then words.old.items ++ states ∷ marks.now else words.old.items) }
+{
+    let before = words.len();
+    if words.push(states as u64).is_ok() && words.extend_from_slice(marks).is_ok() {
+        return true;
+    }
+    words.truncate(before);
+    false
+}
+
+impl<A: Allocator + Copy> Spots<A> {
+    /// No spots. It takes no memory.
+    pub(crate) fn new(alloc: A) -> Spots<A>
+        ensures { result ≡ [] }
+    {
+        Spots {
+            words: Vec::new(alloc),
+            width: 1,
+            count: 0,
+            by_hash: Index::new(alloc),
+        }
+    }
+
+    /// Whether there are none.
+    pub(crate) fn is_empty(&self) -> bool
+        ensures { result ≡ nat_eq (length self.now) 0 }
+    {
+        self.count == 0
+    }
+
+    /// The words of the spot at the place.
+    fn get(&self, place: usize) -> &[u64]
+        requires { place < length self.now }
+        ensures { result.now ≡ slice_index_or self.now place [] }
+    {
+        let words: &[u64] = &self.words;
+        part(words, place * self.width, self.width)
+    }
+
+    /// Whether one of the spots has the number of the states, and the rows placed, with one further where there is one.
+    pub(crate) fn has(&self, states: usize, placed: &Marks<A>, further: Option<usize>) -> bool
+        requires { MatchOption further (Unit {0}) (λ k. k < length placed.now) }
+        ensures { IsTrue result → Contains (map (entry_of (length placed.now)) self.now) (record { placed = with_place placed.now further; states = states }) }
+    {
+        let words = placed.words();
+        let hash = hash_spot(states, words, further);
+        for step in 0..LOOKS {
+            match self.by_hash.look(hash, step) {
+                Look::Free => return false,
+                Look::Other => {}
+                Look::At(place) => {
+                    if place < self.count && is_spot(self.get(place), states, words, further) {
+                        return true;
+                    }
+                }
+            }
+        }
+        false
+    }
+
+    /// Puts a spot behind the others, if it has as many words as they have and there is memory for it.
+    pub(crate) fn keep(&mut self, states: usize, placed: &Marks<A>)
+        ensures { AreWith (map (entry_of (length placed.now)) self.old) (map (entry_of (length placed.now)) self.new) (record { placed = placed.now; states = states }) }
+    {
+        let marks = placed.words();
+        let width = marks.len() + 1;
+        if !is_width(self.count, self.width, width) {
+            return;
+        }
+        let hash = hash_spot(states, marks, None);
+        if self.by_hash.put(hash, self.count).is_err() {
+            return;
+        }
+        if append(&mut self.words, states, marks) {
+            self.width = width;
+            self.count += 1;
+        }
+    }
+}
