@@ -1,12 +1,12 @@
 -- Spots as words.
-use Rattle.std.specs.Prelude.{◌≡◌, ℕ, zero, suc, ◌+◌, ◌-◌, ◌*◌, ◌/◌, ◌%◌, ◌<◌, ◌≤◌, Bool, true, false, nat_lt, List, [], ◌∷◌, ◌++◌, map, length, take, drop, Option, Some, None, MatchOption, slice_get, refl, ◌⊎◌}
+use Rattle.std.specs.Prelude.{◌≡◌, ℕ, zero, suc, ◌+◌, ◌-◌, ◌*◌, ◌/◌, ◌<◌, ◌≤◌, Bool, true, List, [], ◌∷◌, ◌++◌, map, length, take, drop, Option, Some, None, MatchOption, refl, ◌⊎◌}
 use Rattle.std.specs.List.{Contains}
 use Rattle.std.proofs.Common.{sym, ◌∙◌, ap, subst, inl, inr, arith, get_or, set}
 use Rattle.std.proofs.Math.Nat.{zero-mul, suc-mul, mul-le-mul_right}
 use Rattle.std.proofs.Math.Seq.{take-length, drop-nil}
 use Rattle.std.proofs.lemmas.List.{nil_from_length, length-append, take-append-le, take_all, drop-append-le, length-drop, map-append}
-use Rattle.aud_marks.specs.Marked.{marks_of, IsBitWritten}
-use Rattle.aud_marks.proofs.Marking.{length-marks_from, marks-written, word-written}
+use Rattle.aud_marks.specs.Marked.{marks_of}
+use Rattle.aud_marks.proofs.Marking.{marks-written, word-written}
 use Rattle.aud_search.specs.Spots.{EntryOf, chunks, entry_of, with_place, WithPlace, IsSpot, AreWith}
 
 -- # Lists of one length

@@ -1,5 +1,5 @@
 -- Spots of refuted lists, as words.
-use Rattle.std.specs.Prelude.{◌≡◌, ℕ, zero, suc, ◌/◌, ◌%◌, ◌<◌, Bool, true, List, [], ◌∷◌, map, length, take, drop, Option, Some, None, slice_index_or, slice_set, ◌⊎◌}
+use Rattle.std.specs.Prelude.{◌≡◌, ℕ, zero, suc, ◌/◌, ◌%◌, ◌<◌, Bool, true, List, [], ◌∷◌, length, take, drop, Option, Some, None, slice_index_or, slice_set, ◌⊎◌}
 use Rattle.std.specs.List.{Contains}
 use Rattle.aud_marks.specs.Marked.{marks_of, IsBitWritten}
 

@@ -1,5 +1,5 @@
 use Rattle.std.specs.Prelude.{reverse}
-use Rattle.std.proofs.Common.{ap, subst, List, ℕ}
+use Rattle.std.proofs.Common.{subst, List, ℕ}
 use Rattle.aud_order.specs.Shapes.{history_of}
 use Rattle.aud_search.specs.Kept.{LeadsFrom, IsWay, states_of}
 use Rattle.aud_search.proofs.Keeping.{leads-way}

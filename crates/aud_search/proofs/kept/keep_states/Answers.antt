@@ -1,4 +1,4 @@
-use Rattle.std.specs.Prelude.{◌≡◌, ◌++◌, ◌∷◌, [], length}
+use Rattle.std.specs.Prelude.{◌++◌, ◌∷◌, [], length}
 use Rattle.std.proofs.Common.{sym, ◌∙◌, ap, arith}
 use Rattle.aud_order.specs.Shapes.{history_of}
 use Rattle.aud_search.specs.Kept.{state_from, states_of}

@@ -1,5 +1,5 @@
 use Rattle.std.specs.Prelude.{◌<◌, length}
-use Rattle.std.proofs.Common.{subst, arith}
+use Rattle.std.proofs.Common.{subst}
 use Rattle.aud_search.proofs.Passing.{next-at, passed-more}
 use Rattle.aud_search.proofs.search.pass_known.Goals as goal
 

@@ -1,5 +1,5 @@
-use Rattle.std.specs.Prelude.{◌+◌, ◌/◌, true}
-use Rattle.std.proofs.Common.{sym, ◌∙◌, ap, arith, get_or}
+use Rattle.std.specs.Prelude.{◌+◌, ◌/◌}
+use Rattle.std.proofs.Common.{sym, ◌∙◌, arith, get_or}
 use Rattle.aud_event.proofs.Bools.{nat_eq-is}
 use Rattle.aud_search.proofs.Spotting.{set-between, rest-all}
 use Rattle.aud_search.proofs.spots.is_with.Goals as goal
