@@ -11,6 +11,7 @@ use Rattle.aud_history.specs.Table.{row_of}
 use Rattle.aud_search.specs.declared.kept.Kept.{Kept}
 use Rattle.aud_search.specs.declared.kept.Kept.TheVariants.{Whole, Behind}
 use Rattle.aud_search.specs.declared.kept.Step.{Step}
+use Rattle.aud_search.specs.declared.kept.Cost.{Cost}
 use Rattle.aud_search.specs.Kept.{state_from, states_on, states_of, run_way, IsWay, LeadsFrom, IsMoreOf}
 
 -- # The states of a list
@@ -70,7 +71,7 @@ get-take (x ∷ xs) (suc n) zero d inside = refl
 get-take (x ∷ xs) (suc n) (suc k) d inside = get-take xs n k d (omega arith)
 
 -- what is kept behind others
-behind-at : {A : Type 0} (h : History) (ks : List (Kept A)) (k : ℕ) (d kept : Kept A) (step : Step) (cost : ℕ) → k < length ks → kept ≡ get_or ks k d → kept ≡ Behind step cost → step.from < k →
+behind-at : {A : Type 0} (h : History) (ks : List (Kept A)) (k : ℕ) (d kept : Kept A) (step : Step) (cost : Cost) → k < length ks → kept ≡ get_or ks k d → kept ≡ Behind step cost → step.from < k →
     slice_get (states_of h ks) k ≡ Some (unwrap_or (replayed (get_or (states_of h ks) step.from []) (row_of h step.tx).block) [])
 behind-at h ks k d kept step cost inside is behind before =
     states-at h ks k d inside ∙ ap (λ (x : Kept _). Some (state_from h (take k (states_of h ks)) x)) (sym is ∙ behind)
@@ -92,7 +93,7 @@ ran-first : (h : History) (way : List ℕ) (o : Option (List ObjState)) (states 
 ran-first h way None states is = absurd (cc)
 ran-first h way (Some next) states is = (next, (refl, is))
 
-pub way-back : {A : Type 0} (h : History) (ks : List (Kept A)) (at last : ℕ) (d kept : Kept A) (step : Step) (cost : ℕ) (way more : List ℕ) → at < length ks → kept ≡ get_or ks at d → kept ≡ Behind step cost → step.from < at → more ≡ way ++ step.tx ∷ [] →
+pub way-back : {A : Type 0} (h : History) (ks : List (Kept A)) (at last : ℕ) (d kept : Kept A) (step : Step) (cost : Cost) (way more : List ℕ) → at < length ks → kept ≡ get_or ks at d → kept ≡ Behind step cost → step.from < at → more ≡ way ++ step.tx ∷ [] →
     IsWayFrom h ks at way last → IsWayFrom h ks step.from more last
 way-back h ks at last d kept step cost way more inside is behind before grown known earlier states ran =
     let turned : reverse more ≡ step.tx ∷ reverse way = ap reverse grown ∙ reverse-append way (step.tx ∷ []) in

@@ -17,8 +17,8 @@ use std::alloc::{Allocator, Global};
 #[derive(Drop)]
 pub(crate) enum Kept<A: Allocator = Global> {
     Whole(Store<A>),
-    /// By the step that leads to them; and about how many operations run from whole ones on.
-    Behind(Step, usize),
+    /// By the step that leads to them, and what runs from whole ones on.
+    Behind(Step, Cost),
 }
 
 /// From the states under a number by the block of a transaction.
@@ -28,10 +28,17 @@ pub(crate) struct Step {
     pub tx: u32,
 }
 
+/// How many blocks run, and how many operations are in them.
+#[derive(Clone, Copy, Debug, PartialEq, Eq)]
+pub(crate) struct Cost {
+    pub blocks: usize,
+    pub operations: usize,
+}
+
 /// How many slots are looked at before states count as not found.
 const LOOKS: usize = 64;
 
-/// The most blocks that run from whole states on, about.
+/// The most blocks that run from whole states on.
 const LONGEST: usize = 64;
 
 /// What whole states take for each number that they keep, about, in bytes, and what any states take.
@@ -160,27 +167,24 @@ fn find_states<A: Allocator + Copy>(
     None
 }
 
-/// About how many operations would run from whole states on, where the block of the step runs last; many where that is not
-/// known.
-fn cost_of<A: Allocator + Copy>(
-    kept: &[Kept<A>],
-    shape: &Shape<A>,
-    step: Step,
-    size: usize,
-) -> usize {
-    let before = match kept.get(step.from) {
-        Some(Kept::Behind(_, cost)) => *cost,
-        Some(Kept::Whole(_)) => 0,
-        None => size,
+/// What would run from whole states on, the block of the step last.
+fn cost_of<A: Allocator + Copy>(kept: &[Kept<A>], shape: &Shape<A>, step: Step) -> Cost {
+    let (blocks, operations) = match kept.get(step.from) {
+        Some(Kept::Behind(_, cost)) => (cost.blocks, cost.operations),
+        _ => (0, 0),
     };
     let own = match block_of(shape, step.tx) {
         Some(block) => block.executions().len(),
-        None => size,
+        None => 0,
     };
-    before.saturating_add(own.max(size / LONGEST).max(1))
+    Cost {
+        blocks: blocks.saturating_add(1),
+        operations: operations.saturating_add(own),
+    }
 }
 
-/// How the store's states are kept: behind others, where less runs from whole ones on than a copy costs, or whole.
+/// How the store's states are kept: behind others, where few blocks run from whole ones on, with no more operations than a copy
+/// has numbers, or whole.
 fn kept_as<A: Allocator + Copy>(
     kept: &[Kept<A>],
     shape: &Shape<A>,
@@ -191,9 +195,8 @@ fn kept_as<A: Allocator + Copy>(
     ensures { MatchOption result (Unit {0}) (λ fresh. state_from (history_of shape.now) (states_of (history_of shape.now) kept.now) fresh ≡ store.now.now) }
 {
     if let Some(step) = step {
-        let size = store.size();
-        let cost = cost_of(kept, shape, step, size);
-        if cost <= size {
+        let cost = cost_of(kept, shape, step);
+        if cost.blocks <= LONGEST && cost.operations <= store.size() {
             return Some(Kept::Behind(step, cost));
         }
     }
