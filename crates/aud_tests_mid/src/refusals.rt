@@ -181,7 +181,7 @@ fn outcomes(
 
 #[test]
 fn each_refusal_is_told(rt: HostRuntime) -> Result<(), Fail> {
-    let cases: [(Question, &str, u64, u64); 9] = [
+    let cases: [(Question, &str, u64, u64); 10] = [
         (Question::OrderIsRead, NOTHING_HAPPENED, 0, 64),
         (Question::OrderIsWritten, NOTHING_HAPPENED, 0, 64),
         (Question::LineIsWritten, NOTHING_HAPPENED, 0, 64),
