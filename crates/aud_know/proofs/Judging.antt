@@ -32,7 +32,7 @@ use Rattle.aud_know.specs.declared.verdict.Verdict.TheVariants as verdict
 
 -- # What is said
 
-abbrev OfStatus : {X : Type 0} → PlanOf → Held → FactStatus → Verdict X → Type 0
+abbrev pub OfStatus : {X : Type 0} → PlanOf → Held → FactStatus → Verdict X → Type 0
 OfStatus plan held s v = StatusTells (λ told. told) (hist held.facts) (OfWellFormed (IsClosed plan.objects (hist held.facts) held.cover []) held.witness) (status_told s) v
 
 -- only of sealed facts the status tells nothing

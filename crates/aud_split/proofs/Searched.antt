@@ -18,9 +18,9 @@ use Rattle.aud_cover.specs.Closings.{IsCovered, IsClosed}
 use Rattle.aud_cover.proofs.Refuting.{closed-refuted}
 use Rattle.aud_know.specs.Known.{KnownAtom, Held, KnowledgeOf, norm_of}
 use Rattle.aud_know.specs.Truth.{IsKnowledge}
-use Rattle.aud_know.specs.Verdicts.{OfWellFormed, OfStatus, IsVerdict}
+use Rattle.aud_know.specs.Verdicts.{OfWellFormed, IsVerdict}
 use Rattle.aud_know.specs.declared.verdict.Verdict.{Verdict}
-use Rattle.aud_know.proofs.Judging.{quiet, witness_shows, closed_refutes, no_fault}
+use Rattle.aud_know.proofs.Judging.{OfStatus, quiet, witness_shows, closed_refutes, no_fault}
 use Rattle.aud_split.specs.Tasks.{AreTasks}
 use Rattle.aud_split.specs.Searched.{HasWitness, IsEndedBy, IsSearched, AreUnfinished, Says, IsUnsealed}
 use Rattle.aud_split.specs.Laws.{SearchIsSaid}
