@@ -6,6 +6,8 @@ mod devices;
 #[cfg(test)]
 mod fixtures;
 #[cfg(test)]
+mod gossip;
+#[cfg(test)]
 mod knowing;
 #[cfg(test)]
 mod knowing_growth;

@@ -51,7 +51,7 @@ pub fn listed(alloc: Global, run: &Facts) -> Result<Vec<Fact>, Unread> {
     Ok(facts)
 }
 
-fn verdict_at<J: Fleet, D: Drop>(
+pub fn verdict_at<J: Fleet, D: Drop>(
     node: &Node<J, D>,
     pass: &mut Pass<J>,
 ) -> Result<Judgement, ReadFault> {
