@@ -57,9 +57,9 @@ pub struct MemorySink<A: Allocator = Global> {
 }
 
 impl<A: Allocator> Model for MemorySink<A> {
-    ghost use Rattle.aud_report.specs.Devices.{Held};
+    ghost use Rattle.aud_report.specs.Devices.{HeldBytes};
 
-    ghost Value = { Held };
+    ghost Value = { HeldBytes };
 
     ghost view = { λ s. record { bytes = s.bytes.items; failed = s.failed } };
 }

@@ -18,14 +18,13 @@ use Rattle.aud_witness.specs.OrderFaults.{is_enabled}
 use Rattle.aud_witness.proofs.Bridge.{tx-rows, named-at}
 use Rattle.aud_witness.proofs.Beginnings.{is_named-append}
 use Rattle.aud_order.specs.Shapes.{ShapeOf, objects_of, history_of}
-use Rattle.aud_order.specs.Cursors.{CursorOf}
+use Rattle.aud_order.specs.Cursors.{CursorOf, IsGoodAt}
 use Rattle.aud_order.proofs.KidLemmas.{late-behind}
 use Rattle.aud_order.proofs.SilentRows.{row-found}
 use Rattle.aud_search.specs.declared.choice.Choice.{Choice}
 use Rattle.aud_search.specs.declared.ready.RowChoices.{RowChoices}
 use Rattle.aud_search.specs.Choices.{AreChoices}
 use Rattle.aud_search.specs.Readiness.{ReadyOf, chosen, no_choices, HasRows, IsLeft, IsReady, IsReadyBehind, IsReadyBefore, IsRowMarked}
-use Rattle.aud_search.specs.Tried.{IsGoodAt}
 use Rattle.aud_search.proofs.Steps.{AreBad, Follows, ready-good, no_choice, choice-at, went-back}
 
 -- # Rows

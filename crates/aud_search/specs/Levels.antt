@@ -6,7 +6,7 @@ use Rattle.aud_history.specs.Histories.{History}
 use Rattle.aud_witness.specs.declared.decision.Decision.{Decision}
 use Rattle.aud_witness.specs.Orders.{IsFull, IsGood, Refuted}
 use Rattle.aud_search.specs.declared.choice.Choice.{Choice}
-use Rattle.aud_search.specs.Searches.{IsOpen, AreDifferent}
+use Rattle.aud_search.specs.Searches.{IsExpandable, AreDifferent}
 
 -- behind the list the first choices are refuted
 abbrev pub AreTried : List Declared → History → List Choice → List Decision → ℕ → Type 0
@@ -27,7 +27,7 @@ pub record IsSearching (objects : List Declared) (h : History) (p : List Decisio
   pub es : List (List Decision)
   pub count : length es ≡ used
   pub different : AreDifferent es
-  pub opens : (e : List Decision) → Contains es e → IsOpen objects h e
+  pub opens : (e : List Decision) → Contains es e → IsExpandable objects h e
   pub extend : (e : List Decision) → Contains es e → (q : List Decision) × (e ≡ p ++ q)
   pub parents : (e : List Decision) (d : Decision) → Contains es (e ++ d ∷ []) → (e ++ d ∷ [] ≡ p) ⊎ Contains es e
   pub unfull : (e : List Decision) (d : Decision) → Contains es e → IsGood objects h (e ++ d ∷ []) → IsFull h (e ++ d ∷ []) → e ≡ path

@@ -12,12 +12,12 @@ ghost use Rattle.aud_search.specs.Spots.{AreWith};
 
 use crate::choice::{Choice, Effect};
 use crate::index::{Index, Look, hash_of};
-use crate::kept::{Kept, Step, keep_states};
+use crate::kept::{Finder, Kept, Step, keep_states};
 use crate::room::takes;
 use crate::spots::Spots;
 use aud_event::OutOfMemory;
 use aud_order::{Cursor, Shape};
-use aud_witness::Fate;
+use aud_witness::{Decision, Fate};
 use std::alloc::{Allocator, Global};
 use std::marker::Model;
 
@@ -38,8 +38,7 @@ pub(crate) struct Memo<'a, A: Allocator + Copy = Global> {
     alloc: A,
     shape: &'a Shape<A>,
     kept: Vec<Kept<A>, A>,
-    kept_by_digest: Index<A>,
-    way: Vec<u32, A>,
+    finder: Finder<A>,
     leads: Vec<Lead, A>,
     leads_by_hash: Index<A>,
     spots: Spots<A>,
@@ -124,8 +123,7 @@ impl<'a, A: Allocator + Copy> Memo<'a, A> {
             alloc,
             shape,
             kept: Vec::new(alloc),
-            kept_by_digest: Index::new(alloc),
-            way: Vec::new(alloc),
+            finder: Finder::new(alloc),
             leads: Vec::new(alloc),
             leads_by_hash: Index::new(alloc),
             spots: Spots::new(alloc),
@@ -142,13 +140,22 @@ impl<'a, A: Allocator + Copy> Memo<'a, A> {
     {
         keep_states(
             &mut self.kept,
-            &mut self.kept_by_digest,
+            &mut self.finder,
             self.shape,
-            &mut self.way,
             &mut self.room,
             step,
             cursor.store(),
         )
+    }
+
+    /// The search went on by the decision, or took it back.
+    pub(crate) fn touch(&mut self, decision: Decision)
+        ensures { self.new ≡ self.old }
+    {
+        match decision.fate {
+            Fate::A => {}
+            Fate::C => self.finder.touch(self.shape, decision.tx),
+        }
     }
 
     /// Where the transaction's block leads from the states of the number, if that is known.
