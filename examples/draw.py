@@ -117,6 +117,8 @@ def draw_transaction(picture, it, y, place, is_at_fault):
         tail = f", {place} in the order" if place else ""
         colour = FAULT if is_at_fault else INK
         picture.text(start - 2, y - 22, f"transaction {it.number}, {it.end}{tail}", 12, "start", colour, "bold")
+    elif reach >= 10 or is_at_fault:
+        picture.text(start + reach / 2, y - 6, str(it.number), 11, colour=FAULT if is_at_fault else INK)
     picture.parts.append("</g>")
 
 
@@ -154,7 +156,7 @@ def drawn(run, order=(), beginning=None, fault=None, title=None):
         picture.text(LEFT - 60, 20, title, 14, "start", weight="bold")
     for log, lane in first.items():
         picture.text(LEFT - 8, TOP + lane * LANE + 15, f"log {log}", 12, "end")
-    places = {int(word[:-1]): f"{place}." for place, word in enumerate(order, 1)}
+    places = {int(word[:-1]): f"no. {place}" for place, word in enumerate(order, 1)}
     for tx, it in run.transactions().items():
         draw_transaction(picture, it, TOP + lanes[tx] * LANE, places.get(tx), tx == fault)
     bottom = TOP + count * LANE - 14
@@ -177,7 +179,10 @@ def main():
     asked.add_argument("--title")
     asked = asked.parse_args()
     order = [] if asked.order == "none" else asked.order.split()
-    run = recorded.read(sys.stdin.read())
+    try:
+        run = recorded.read(sys.stdin.read())
+    except (ValueError, KeyError, TypeError):
+        sys.exit("draw.py: this is no run; `opaq decide` says what is wrong with it")
     if asked.beginning and not 0 < asked.beginning <= len(run.records):
         sys.exit(f"the run has {len(run.records)} records")
     sys.stdout.write(drawn(run, order, asked.beginning, asked.fault, asked.title))

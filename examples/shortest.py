@@ -63,9 +63,12 @@ def main(words):
     if len(words) not in (2, 3):
         sys.exit("usage: shortest.py [--quick] OPAQ RUN [OUT]")
     program, name = words[:2]
-    with open(name, encoding="utf-8") as file:
-        text = file.read()
-    status, line = recorded.ask(program, ["decide"], text)
+    try:
+        with open(name, encoding="utf-8") as file:
+            text = file.read()
+        status, line = recorded.ask(program, ["decide"], text)
+    except OSError as error:
+        sys.exit(f"shortest.py: {error.filename}: {error.strerror}")
     if status not in (OPAQUE, NOT_OPAQUE):
         print(line)
         return 3

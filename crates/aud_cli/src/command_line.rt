@@ -8,7 +8,7 @@ ghost use Rattle.aud_cli.specs.CommandLine.{bare_app, check_app, decide_app, nee
 use clap::{Arg, ArgAction, Command};
 use std::alloc::{AllocError, Global};
 
-/// The version, and the kit whose checker proved this program. `rt version` prints what stands behind `with`.
+/// The version, and the kit whose checker proved this program. `rt version` prints what stands after `with`.
 const VERSION: &str = "0.1.0, proved with rattle-kit-13b logic dac8208d650f15bf";
 
 const ABOUT: &str =
