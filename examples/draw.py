@@ -18,7 +18,7 @@ import recorded
 
 COLOURS = {"committed": "#8fce9b", "aborted": "#f4b27a", "live": "#c9ced6"}
 INK, FAULT = "#1f2933", "#d1242f"
-LEFT, TOP, LANE, BAR = 70, 64, 78, 22
+LEFT, TOP, LANE, BAR = 70, 78, 78, 22
 FATES = {"c": "committed", "a": "aborted"}
 
 
@@ -117,8 +117,10 @@ def draw_transaction(picture, it, y, place, is_at_fault):
         tail = f", {place} in the order" if place else ""
         colour = FAULT if is_at_fault else INK
         picture.text(start - 2, y - 22, f"transaction {it.number}, {it.end}{tail}", 12, "start", colour, "bold")
-    elif reach >= 10 or is_at_fault:
-        picture.text(start + reach / 2, y - 6, str(it.number), 11, colour=FAULT if is_at_fault else INK)
+    elif is_at_fault:
+        picture.text(start + reach / 2, y - 18, f"transaction {it.number}", 12, colour=FAULT, weight="bold")
+    elif reach >= 9 * len(str(it.number)):
+        picture.text(start + reach / 2, y - 6, str(it.number), 11)
     picture.parts.append("</g>")
 
 
@@ -163,7 +165,7 @@ def drawn(run, order=(), beginning=None, fault=None, title=None):
     draw_stamps(picture, bottom)
     if beginning:
         x = picture.x(run.records[beginning - 1]["stamp"]) + 0.3 * picture.step
-        picture.line(x, 30, x, bottom, FAULT, 'stroke-width="1.5" stroke-dasharray="6 4"')
+        picture.line(x, 32, x, bottom, FAULT, 'stroke-width="1.5" stroke-dasharray="6 4"')
         picture.text(x - 4, 38, "up to here: not opaque", 11, "end", FAULT)
     bottom += 30
     if order:
