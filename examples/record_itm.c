@@ -36,7 +36,7 @@ static RECORDER void record(int event, unsigned object, long value) {
 
 /* The attempt before, if it did not end: it was aborted. Its stamp is late, which only leaves more orders to the checker. */
 static RECORDER void abort_attempt(void) {
-    if (own->state == IDLE) record(TRYA, 0, 0);   /* a memory may abort between two calls; the records need a call that it answers by that */
+    if (own->state == IDLE) record(TRYA, 0, 0);   /* there is no event for an abort between two calls */
     if (own->state != ENDED) record(ABORT, 0, 0);
     own->state = ENDED;
 }
