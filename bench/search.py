@@ -6,7 +6,7 @@ Full size is 64 logs, 1,024 transactions of 254 records and 256 objects, 64 of e
 transactions run at a time, and they take effect in the order of their ends, of their beginnings, or of a point drawn between.
 Where a read is spoiled, a read of a register near the end answers a value that was there before. `opaq check` runs on the same
 input, with the order of the effects, to compare. The small inputs have all invocations before any other event. The recorded runs
-are those of `examples/runs`. Each is run three times, and the least time and the most memory are told. The same numbers come with
+are those of `examples/runs`. Each is run three times, and the least time and the most memory are printed. The same numbers come with
 each run."""
 
 import glob
