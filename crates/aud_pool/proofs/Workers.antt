@@ -1,12 +1,14 @@
 -- What a further worker adds.
-use Rattle.std.proofs.Common.{◌≡◌, ℕ, ◌+◌, ◌<◌, ◌⊎◌, inl, inr, ⊎_elim, All, subst, map, length, get_or, arith, Bool, true, false, not, List, [], ◌∷◌, ◌++◌, sym, refl, ap, ◌∙◌, append_assoc, append-nil}
+use Rattle.std.proofs.Common.{◌≡◌, ℕ, suc, ◌+◌, ◌<◌, ◌⊎◌, inl, inr, ⊎_elim, All, subst, map, length, get_or, arith, Bool, true, false, not, List, [], ◌∷◌, ◌++◌, sym, refl, ap, ◌∙◌, append_assoc, append-nil}
 use Rattle.std.proofs.lemmas.List.Elements.{All-cons}
 use Rattle.std.proofs.lemmas.List.{get_or-map, length-map}
 use Rattle.aud_pool.specs.declared.worker.WorkerEnd.{WorkerEnd}
 use Rattle.aud_pool.specs.declared.worker.Member.{Member}
 use Rattle.aud_pool.specs.declared.rule.Tally.{Tally}
 use Rattle.aud_pool.specs.Rule.{tally, either_stopped}
-use Rattle.aud_pool.specs.Workers.{all_drawn, some_stopped, end_of}
+use Rattle.std.specs.declared.alloc.Global.{Global}
+use Rattle.atomic_blocks.specs.Lent.{RowsId}
+use Rattle.aud_pool.specs.Workers.{HaveGrown, IsReady, IsStarting, all_drawn, some_stopped, end_of}
 
 either_assoc : (a b c : Bool) → either_stopped a (either_stopped b c) ≡ either_stopped (either_stopped a b) c
 either_assoc true b c = refl
@@ -15,10 +17,6 @@ either_assoc false b c = refl
 either_false : (a : Bool) → either_stopped a false ≡ a
 either_false true = refl
 either_false false = refl
-
-pick : {X : Type 0} → (xs : List X) (i : ℕ) → i < length xs → X
-pick [] i h = absurd (omega arith)
-pick (x ∷ xs) i h = x
 
 module _ {T : Type 0} where
   -- the view that took in another
@@ -51,14 +49,17 @@ module _ {T S : Type 0} where
   stopped_or_failed [] = inr (λ k d h. absurd (omega arith))
   stopped_or_failed (e ∷ es) = one_of e es (stopped_or_failed es) e.failed refl
 
-  pub seats_grow : (grows : S → S → Type 0) (seats : List S) (old new : List (Member T S)) → map (λ h. h.seat) old ≡ seats → length new ≡ length old
-      → ((i : ℕ) (d : Member T S) → i < length old → grows (get_or old i d).seat (get_or new i d).seat)
-      → (i : ℕ) (s : S) (d : WorkerEnd T S) → i < length seats → grows (get_or seats i s) (get_or (map end_of new) i d).seat
-  seats_grow grows seats old new is len each i s d lt =
-      let seat : Member T S → S = λ h. h.seat in
-      let lt' : i < length old = omega (arith, ap length is, length-map old seat) in
-      let lt'' : i < length new = omega arith in
-      let h = pick old i lt' in
-      let a : get_or seats i s ≡ (get_or old i h).seat = ap (λ l. get_or l i s) (sym is) ∙ get_or-map seat old i h s lt' in
-      let b : (get_or (map end_of new) i d).seat ≡ (get_or new i h).seat = ap (λ (e : WorkerEnd T S). e.seat) (get_or-map end_of new i h d lt'') in
-      subst (λ x. grows x (get_or (map end_of new) i d).seat) (sym a) (subst (grows (get_or old i h).seat) (sym b) (each i h lt'))
+  -- the seats of all workers have grown where each has
+  pub grown_all : (grows : S → S → Type 0) (old new : List (Member T S)) → length new ≡ length old → ((i : ℕ) (d : Member T S) → i < length old → grows (get_or old i d).seat (get_or new i d).seat)
+      → HaveGrown grows (map (λ m. m.seat) old) (map end_of new)
+  grown_all grows [] [] len each = tt
+  grown_all grows [] (n ∷ ns) len each = absurd (omega arith)
+  grown_all grows (o ∷ os) [] len each = absurd (omega arith)
+  grown_all grows (o ∷ os) (n ∷ ns) len each = (each 0 o (omega arith), grown_all grows os ns (omega arith) (λ i d lt. each (suc i) d (omega arith)))
+
+  -- workers that are ready may start where their seats may be worked from
+  pub starting_all : (queue : RowsId × Global) (may_work : S → Type 0) (members : List (Member T S)) → All (IsReady queue) members → All may_work (map (λ m. m.seat) members) → All (IsStarting queue may_work) members
+  starting_all queue may_work members ready all = λ k m lt.
+      let seat : Member T S → S = λ w. w.seat in
+      let lt' : k < length (map seat members) = omega (arith, length-map members seat) in
+      (ready k m lt, subst may_work (get_or-map seat members k m m.seat lt) (all k m.seat lt'))

@@ -5,7 +5,7 @@ use Rattle.std.proofs.lemmas.List.{map-append, length_push}
 use Rattle.crossbeam_deque.specs.Handles.{worker_view, worker_deque, view, IsPassOf}
 use Rattle.aud_pool.specs.declared.worker.Member.{Member}
 use Rattle.aud_pool.specs.Rule.{tally, either_stopped}
-use Rattle.aud_pool.specs.Workers.{end_of, all_drawn, some_stopped}
+use Rattle.aud_pool.specs.Workers.{IsHolding, end_of, all_drawn, some_stopped}
 use Rattle.aud_pool.proofs.Moves.{merges}
 use Rattle.aud_pool.proofs.Workers.{both, one_more}
 use Rattle.aud_pool.proofs.running.gather.Goals as goal
@@ -21,8 +21,8 @@ loop-member-preserved g c =
     let member = c.in-Some.member in
     let e = c.into_iter-member-iterator.ensures.into_iter_gives in
     let t = YieldsList-turn (YieldsList-from_vec {s = c.into_iter-member-iterator.result} _ e.0 (e.1 ∙ c.args.members.ok.0)) c.loop-member.yielded c.loop-member.member-iterator c.loop-member.yielded_by c.next.result c.next.new.self member c.in-Some.is c.next.ensures.steps in
-    let P : Member g.row.T.Denot g.row.S.Denot → Type 0 = λ h. IsPassOf (worker_deque c.args.queue.now) h.token × (view h.token ≡ tally 1 false [] h.drawn.items (not h.failed)) in
-    let mine : P member = subst P (sym t.1) (c.requires.passes (length c.loop-member.yielded) member t.0) in
+    let P : Member g.row.T.Denot g.row.S.Denot → Type 0 = IsHolding (worker_deque c.args.queue.now) in
+    let mine : P member = subst P (sym t.1) (c.requires.holding (length c.loop-member.yielded) member t.0) in
     let token = mine.1 in
     let old = i.4 in
     let items = c.in-Ok.ensures.items in
