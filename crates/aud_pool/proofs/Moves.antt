@@ -1,15 +1,15 @@
 -- Each move keeps the rule of the queue.
-use Rattle.std.proofs.Common.{◌≡◌, ◌≢◌, ◌≤◌, ◌<◌, ℕ, zero, suc, ◌+◌, ◌-◌, Bool, true, false, true≢false, List, [], ◌∷◌, ◌++◌, length, set, sym, refl, ap, ◌∙◌, subst, ◌⊎◌, ⊎_elim, append_assoc, append-nil, length-append, Option, None, Some, arith}
+use Rattle.std.proofs.Common.{◌≡◌, ◌≢◌, ◌≤◌, ◌<◌, ℕ, zero, suc, ◌+◌, ◌-◌, Bool, true, false, true≢false, List, [], ◌∷◌, ◌++◌, length, set, sym, refl, ap, ◌∙◌, subst, ⊎_elim, append_assoc, append-nil, length-append, Option, None, Some, arith}
 use Rattle.std.specs.List.Sorted.{IsPermutation}
-use Rattle.std.proofs.lemmas.List.Sorted.{IsPermutation-refl, IsPermutation-sym, IsPermutation-trans, IsPermutation-append_left, IsPermutation-append_right, length_permutation}
+use Rattle.std.proofs.lemmas.List.Sorted.{IsPermutation-refl, IsPermutation-sym, IsPermutation-trans, IsPermutation-append_left, length_permutation}
 use mathlib.Core.Option.{some, some-ne-none, some-injective}
 use lib.ListN.{get_elem?}
 use lib.Seq.{set_comm}
-use Rattle.crossbeam_deque.specs.Tasks.{Pushes, Takes, Finds, FindsFew, Blocks, Forks, Merges, Learns}
+use Rattle.crossbeam_deque.specs.Tasks.{Pushes, Takes, Finds, Forks, Merges}
 use Rattle.crossbeam_deque.proofs.Lists.{at_set, at_snoc, set_else}
 use Rattle.aud_pool.specs.declared.rule.Tally.{Tally}
-use Rattle.aud_pool.specs.Rule.{tally, idle, tasks_in, MarksLast, NoMark, gathered, parts_of, puts, takes, Fits, Shared, after_take, after_put, either_stopped}
-use Rattle.aud_pool.proofs.Views.{same, grown, kept, joined, gathered-append, parts_set, parts-append, parts_at, parts_two, whole, tasks-append, marks_then_task, marks_then_mark}
+use Rattle.aud_pool.specs.Rule.{tally, idle, tasks_in, MarksLast, puts, takes, Fits, Shared, after_take, after_put, either_stopped}
+use Rattle.aud_pool.proofs.Views.{same, grown, kept, joined, gathered-append, parts_set, parts-append, parts_two, whole, tasks-append, marks_then_task, marks_then_mark}
 
 module _ {T : Type 0} where
   abbrev Each : (Tally T → Type 0) → List (Tally T) → Type 0

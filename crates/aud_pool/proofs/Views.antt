@@ -1,12 +1,11 @@
 -- What changes in the lists that are gathered from all views when one view changes.
-use Rattle.std.proofs.Common.{◌≡◌, ◌≢◌, ◌≤◌, ◌<◌, ℕ, zero, suc, ◌+◌, true, false, true≢false, List, [], ◌∷◌, ◌++◌, length, set, sym, refl, ap, ◌∙◌, subst, ⊎_elim, append_assoc, append-nil, Option, None, Some, arith}
+use Rattle.std.proofs.Common.{◌≡◌, ◌≢◌, ◌≤◌, ℕ, zero, suc, ◌+◌, List, [], ◌∷◌, ◌++◌, set, sym, refl, ap, ◌∙◌, subst, append_assoc, append-nil, Option, None, Some, arith}
 use Rattle.std.specs.List.Sorted.{IsPermutation}
-use Rattle.std.proofs.lemmas.List.Sorted.{IsPermutation-refl, IsPermutation-sym, IsPermutation-trans, IsPermutation-append_right, IsPermutation-append_left, IsPermutation-append_comm, IsPermutation-append}
+use Rattle.std.proofs.lemmas.List.Sorted.{IsPermutation-refl, IsPermutation-sym, IsPermutation-trans, IsPermutation-append_right, IsPermutation-append_left, IsPermutation-append_comm}
 use mathlib.Core.Option.{some, some-ne-none, some-injective}
 use lib.ListN.{get_elem?}
-use Rattle.crossbeam_deque.proofs.Lists.{at_set}
 use Rattle.aud_pool.specs.declared.rule.Tally.{Tally}
-use Rattle.aud_pool.specs.Rule.{tally, idle, tasks_in, MarksLast, NoMark, gathered, parts_of, Fits}
+use Rattle.aud_pool.specs.Rule.{idle, tasks_in, MarksLast, NoMark, gathered, parts_of}
 
 module _ {T : Type 0} where
   -- equal lists are permutations of each other

@@ -1,4 +1,4 @@
-use Rattle.std.proofs.Common.{◌≡◌, ◌++◌, ◌∷◌, [], sym, ap, ◌∙◌, append_assoc, arith, rules}
+use Rattle.std.proofs.Common.{◌≡◌, ◌++◌, ◌∷◌, [], sym, ap, ◌∙◌, append_assoc, arith}
 use Rattle.crossbeam_deque.specs.Handles.{worker_view}
 use Rattle.aud_pool.specs.Rule.{tally, after_take, tasks_in}
 use Rattle.aud_pool.proofs.Moves.{drains_one, settles, task_there}

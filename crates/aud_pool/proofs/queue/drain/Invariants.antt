@@ -1,4 +1,4 @@
-use Rattle.std.proofs.Common.{◌≡◌, ◌++◌, ◌≤◌, true, [], vec_capacity, length}
+use Rattle.std.proofs.Common.{◌≡◌, ◌++◌, ◌≤◌, true, [], vec_capacity}
 use Rattle.crossbeam_deque.specs.Handles.{worker_view, worker_flavor}
 use Rattle.aud_pool.proofs.queue.drain.Given as goal
 

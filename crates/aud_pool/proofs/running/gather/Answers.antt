@@ -1,10 +1,10 @@
-use Rattle.std.proofs.Common.{arith, ap, sym, ◌∙◌, ◌<◌, ◌+◌, ◌++◌, ◌∷◌, [], not, ◌≡◌, ℕ, length, append-nil, false, subst, map}
+use Rattle.std.proofs.Common.{arith, ap, sym, ◌∙◌, ◌+◌, ◌++◌, ◌∷◌, [], ◌≡◌, length, false, subst}
 use Rattle.std.proofs.lemmas.Iterator.Consumers.{YieldsList-turn}
 use Rattle.std.proofs.lemmas.Iterator.Adapters.{YieldsList-from_vec}
 use Rattle.std.proofs.lemmas.List.{map-append, length_push}
-use Rattle.crossbeam_deque.specs.Handles.{worker_view, worker_deque, view, IsPassOf}
+use Rattle.crossbeam_deque.specs.Handles.{worker_view, worker_deque, view}
 use Rattle.aud_pool.specs.declared.worker.Member.{Member}
-use Rattle.aud_pool.specs.Rule.{tally, either_stopped}
+use Rattle.aud_pool.specs.Rule.{tally}
 use Rattle.aud_pool.specs.Workers.{IsHolding, end_of, all_drawn, some_stopped}
 use Rattle.aud_pool.proofs.Moves.{merges}
 use Rattle.aud_pool.proofs.Workers.{both, one_more}

@@ -1,11 +1,10 @@
-use Rattle.std.proofs.Common.{◌≡◌, ◌⊎◌, inl, inr, ⊎_elim, All, ap, sym, subst, ◌∙◌, length, map, arith, List, ◌<◌, vec_len, ℕ}
+use Rattle.std.proofs.Common.{◌≡◌, inl, inr, ⊎_elim, All, ap, sym, subst, ◌∙◌, length, map, arith, List, vec_len}
 use Rattle.std.proofs.lemmas.List.Elements.{All-map}
 use Rattle.atomic_blocks.specs.Lent.{RowsId}
 use Rattle.std.specs.declared.alloc.Global.{Global}
 use Rattle.crossbeam_deque.specs.Handles.{worker_deque, stealer_deque}
-use Rattle.aud_pool.specs.declared.worker.Member.{Member}
 use Rattle.aud_pool.specs.declared.worker.WorkerEnd.{WorkerEnd}
-use Rattle.aud_pool.specs.Workers.{AreWorked, HaveGrown, IsHolding, IsReady, IsStarting, end_of}
+use Rattle.aud_pool.specs.Workers.{AreWorked, HaveGrown, IsHolding, IsReady, end_of}
 use Rattle.aud_pool.proofs.Workers.{stopped_or_failed, grown_all, starting_all}
 use Rattle.aud_pool.proofs.running.run.Goals as goal
 

@@ -1,11 +1,10 @@
-use Rattle.std.proofs.Common.{arith, rules, ◌≡◌, ◌<◌, ◌-◌, ◌+◌, ◌++◌, ◌∷◌, [], false, All, ℕ, length, vec_len, ap, sym, subst, refl, ◌∙◌, map}
+use Rattle.std.proofs.Common.{arith, ◌≡◌, ◌++◌, ◌∷◌, [], false, All, length, vec_len, ap, sym, subst, refl, ◌∙◌, map}
 use Rattle.std.proofs.lemmas.Iterator.Consumers.{YieldsList-turn}
 use Rattle.std.proofs.lemmas.Iterator.Adapters.{YieldsList-from_vec}
 use Rattle.std.proofs.lemmas.List.{map-append, length_push}
 use Rattle.std.proofs.lemmas.List.Elements.{All-push}
-use Rattle.crossbeam_deque.specs.Handles.{worker_view, worker_deque, IsPassOf}
+use Rattle.crossbeam_deque.specs.Handles.{worker_deque, IsPassOf}
 use Rattle.aud_pool.specs.declared.worker.Member.{Member}
-use Rattle.aud_pool.specs.Rule.{tally}
 use Rattle.aud_pool.specs.Workers.{IsReady}
 use Rattle.aud_pool.proofs.Moves.{forks}
 use Rattle.aud_pool.proofs.running.seat_all.Goals as goal

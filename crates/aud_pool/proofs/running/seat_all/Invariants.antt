@@ -1,4 +1,4 @@
-use Rattle.std.proofs.Common.{◌≡◌, ◌+◌, ◌-◌, ◌<◌, ◌≤◌, false, length, map, All, vec_len, vec_capacity}
+use Rattle.std.proofs.Common.{◌≡◌, ◌-◌, ◌<◌, ◌≤◌, false, length, map, All, vec_len, vec_capacity}
 use Rattle.crossbeam_deque.specs.Handles.{SameWorker, worker_view, worker_deque}
 use Rattle.aud_pool.specs.Workers.{HasParts, IsReady}
 use Rattle.aud_pool.proofs.running.seat_all.Given as goal

@@ -1,4 +1,4 @@
-use Rattle.std.proofs.Common.{◌≡◌, true, false, [], All}
+use Rattle.std.proofs.Common.{◌≡◌, false, [], All}
 use Rattle.crossbeam_deque.specs.Handles.{view, IsPassOf, stealer_deque}
 use Rattle.aud_pool.specs.Rule.{tally}
 use Rattle.aud_pool.proofs.worker.work_through.Given as goal
