@@ -18,6 +18,8 @@ mod nodes;
 #[cfg(test)]
 mod open;
 #[cfg(test)]
+mod pool;
+#[cfg(test)]
 mod running;
 #[cfg(test)]
 mod threads;

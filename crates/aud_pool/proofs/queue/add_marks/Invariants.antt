@@ -1,0 +1,7 @@
+use Rattle.std.proofs.Common.{◌≡◌, ◌+◌}
+use Rattle.crossbeam_deque.specs.Handles.{SameWorker, worker_view, worker_index}
+use Rattle.aud_pool.specs.Workers.{HasParts}
+use Rattle.aud_pool.proofs.queue.add_marks.Given as goal
+
+abbrev pub invariant-loop-mark : goal.invariant-loop-mark
+invariant-loop-mark g l = SameWorker l.initial.queue l.queue × (worker_index l.queue ≡ worker_index l.initial.queue + l._mark) × HasParts 1024 (worker_view l.initial.queue) (worker_view l.queue)

@@ -1,0 +1,67 @@
+-- What a worker of a pool begins and ends with.
+use Rattle.std.specs.Prelude.{◌≡◌, ℕ, ◌++◌, ◌<◌, ◌≤◌, Bool, false, not, List, [], ◌∷◌, ◌⊎◌, All, MatchBool}
+use Rattle.std.specs.declared.alloc.Global.{Global}
+use Rattle.atomic_blocks.specs.Lent.{RowsId}
+use Rattle.crossbeam_deque.specs.Handles.{view, IsPassOf}
+use Rattle.aud_pool.specs.declared.rule.Tally.{Tally}
+use Rattle.aud_pool.specs.declared.worker.Member.{Member}
+use Rattle.aud_pool.specs.declared.worker.WorkerEnd.{WorkerEnd}
+use Rattle.aud_pool.specs.declared.running.Refusal.{Refusal}
+use Rattle.aud_pool.specs.declared.running.Refusal.TheVariants as refusal
+use Rattle.aud_pool.specs.Rule.{tally, either_stopped}
+
+-- a pool has 1 to 16 workers
+abbrev pub IsCrew : ℕ → Type 0
+IsCrew count = (1 ≤ count) × (count ≤ 16)
+
+-- why a pool of so many workers does not begin; want of memory is answered only of one that might
+abbrev pub IsRefusal : ℕ → Refusal → Type 0
+IsRefusal count refusal.NoWorkers = count ≡ 0
+IsRefusal count refusal.TooManyWorkers = 16 < count
+IsRefusal count refusal.OutOfMemory = IsCrew count
+
+module _ {T : Type 0} where
+  -- P holds of each task; where the worker failed, of each or of each but the last
+  abbrev pub AreWorked : (T → Type 0) → Bool → List T → Type 0
+  AreWorked P failed tasks = MatchBool failed (All P tasks ⊎ ((before : List T) × (last : T) × (tasks ≡ before ++ last ∷ []) × All P before)) (All P tasks)
+
+  -- a tally that differs from another in its parts, and is not fresh
+  abbrev pub HasParts : ℕ → Tally T → Tally T → Type 0
+  HasParts parts old new = (new.parts ≡ parts) × (new.put ≡ old.put) × (new.taken ≡ old.taken) × (new.stopped ≡ old.stopped)
+
+module _ {T S : Type 0} where
+  -- a worker that has drawn nothing
+  abbrev pub IsReady : RowsId × Global → Member T S → Type 0
+  IsReady queue m = IsPassOf queue m.token × (view m.token ≡ tally 1 false [] [] false) × (m.drawn.items ≡ []) × (m.failed ≡ false)
+
+  -- a worker that has drawn nothing, from whose seat tasks may be worked
+  abbrev pub IsStarting : RowsId × Global → (S → Type 0) → Member T S → Type 0
+  IsStarting queue may_work m = IsReady queue m × may_work m.seat
+
+  -- the worker's token says what it drew, and that it took a mark exactly where it did not fail
+  abbrev pub IsHolding : RowsId × Global → Member T S → Type 0
+  IsHolding queue m = IsPassOf queue m.token × (view m.token ≡ tally 1 false [] m.drawn.items (not m.failed))
+
+  -- a worker that took a mark, or failed, and whose tasks were worked
+  abbrev pub IsDone : RowsId × Global → (S → T → Type 0) → Member T S → Type 0
+  IsDone queue done m = IsHolding queue m × AreWorked (done m.seat) m.failed m.drawn.items
+
+  -- the tasks that workers drew
+  abbrev pub all_drawn : List (WorkerEnd T S) → List T
+  all_drawn [] = []
+  all_drawn (w ∷ ws) = w.drawn.items ++ all_drawn ws
+
+  -- some worker did not fail
+  abbrev pub some_stopped : List (WorkerEnd T S) → Bool
+  some_stopped [] = false
+  some_stopped (w ∷ ws) = either_stopped (not w.failed) (some_stopped ws)
+
+  abbrev pub end_of : Member T S → WorkerEnd T S
+  end_of m = record { seat = m.seat; drawn = m.drawn; failed = m.failed }
+
+  -- there is a worker for each seat, in their order, and its seat has grown from that one
+  abbrev pub HaveGrown : (S → S → Type 0) → List S → List (WorkerEnd T S) → Type 0
+  HaveGrown grows [] [] = Unit {0}
+  HaveGrown grows [] (w ∷ ws) = ⊥
+  HaveGrown grows (s ∷ ss) [] = ⊥
+  HaveGrown grows (s ∷ ss) (w ∷ ws) = grows s w.seat × HaveGrown grows ss ws

@@ -1,0 +1,126 @@
+//! One worker, and all of them at once.
+
+ghost use Rattle.std.specs.Prelude.{ℕ, ◌≡◌, ◌<◌, ◌∷◌, [], false, not, length, All, slice_index_or, vec_len};
+ghost use Rattle.crossbeam_deque.specs.Handles.{view, IsPassOf, stealer_deque};
+ghost use Rattle.aud_pool.specs.Rule.{tally, after_take};
+ghost use Rattle.aud_pool.specs.Workers.{AreWorked, IsReady, IsDone, IsStarting};
+ghost use Rattle.aud_pool.specs.declared.worker.Member.{Member};
+
+use crate::rule::{Taker, Takes, Token};
+use crate::work::{Gate, Work};
+use crossbeam_deque::Steal;
+use std::sync::Wait;
+use std::thread;
+use std::thread::Threads;
+
+/// A worker of the pool: its seat, its token of the queue, the tasks that it drew, and whether it failed.
+#[derive(Drop)]
+pub(crate) struct Member<T, S> {
+    pub seat: S,
+    pub token: Token<T>,
+    pub drawn: Vec<T>,
+    pub failed: bool,
+}
+
+/// What a worker leaves: its seat, the tasks that it drew, in their order, and whether memory was refused to it. Then it ended
+/// before the tasks did, and the last task that it drew may be undone.
+#[derive(Drop)]
+pub struct WorkerEnd<T, S> {
+    pub seat: S,
+    pub drawn: Vec<T>,
+    pub failed: bool,
+}
+
+// The next task, or none where the worker took a mark.
+fn draw<T, R: Wait>(rt: &R, taker: &Taker<T>, token: &mut Token<T>) -> Option<T>
+    requires pass { IsPassOf (stealer_deque taker.now) token.old }
+    requires part { 0 < (view token.old).parts }
+    ensures pass { IsPassOf (stealer_deque taker.now) token.new }
+    ensures took { view token.new ≡ after_take (view token.old) (result ∷ []) }
+{
+    for _ in rt.forever() {
+        match taker.steal_as::<Takes>(token) {
+            Steal::Success(slot) => return slot,
+            Steal::Empty => thread::yield_now(),
+            Steal::Retry => {}
+        }
+    }
+    unreachable!()
+}
+
+// Draws tasks and works them, until the worker takes a mark or memory is refused to it. Room for the task that it draws is
+// there before it draws it, so no drawn task is lost.
+fn work_through<T: Drop, S, W: Work<T, S>, G: Gate<T>, R: Wait>(
+    rt: &R,
+    taker: &Taker<T>,
+    work: &W,
+    gate: &G,
+    worker: u32,
+    member: &mut Member<T, S>,
+)
+    requires ready { IsReady (stealer_deque taker.now) member.old }
+    requires may_work { W.may_work work.now member.old.seat }
+    ensures done { IsDone (stealer_deque taker.now) (W.done work.now) member.new }
+    ensures grows { W.grows work.now member.old.seat member.new.seat }
+{
+    for _ in rt.forever() {
+        if member.drawn.reserve(1).is_err() {
+            member.failed = true;
+            return;
+        }
+        let Some(task) = draw(rt, taker, &mut member.token) else {
+            return;
+        };
+        gate.before(worker, &task);
+        let end = work.work(rt, &mut member.seat, &task);
+        gate.after(worker, &task);
+        let Ok(()) = member.drawn.push(task) else {
+            unreachable!()
+        };
+        if end.is_err() {
+            member.failed = true;
+            return;
+        }
+    }
+    unreachable!()
+}
+
+// All workers work at once, where threads can be had, and else in turn.
+fn work_all<
+    T: Drop + Send,
+    S: Send,
+    W: Work<T, S> + Sync,
+    G: Gate<T> + Sync,
+    R: Threads + Wait + Sync,
+>(rt: &R, taker: &Taker<T>, work: &W, gate: &G, members: &mut [Member<T, S>])
+    requires few { length members.old < 1024 }
+    requires some { 0 < length members.old }
+    requires starting { All (IsStarting (stealer_deque taker.now) (W.may_work work.now)) members.old }
+    ensures done { All (IsDone (stealer_deque taker.now) (W.done work.now)) members.new }
+    ensures grows { (i : ℕ) (d : Member T S) → i < length members.old → W.grows work.now (slice_index_or members.old i d).seat (slice_index_or members.new i d).seat }
+{
+    let count = members.len();
+    let each = |i: usize, member: &mut Member<T, S>|
+        requires { (i < 1024) × IsStarting (stealer_deque taker.now) (W.may_work work.now) member.now }
+        ensures { IsDone (stealer_deque taker.entry.now) (W.done work.entry.now) member.exit.now × W.grows work.entry.now member.entry.now.seat member.exit.now.seat }
+    { work_through(rt, taker, work, gate, i as u32, member) };
+    thread::for_each_mut(rt, members, count, &each);
+}
+
+/// Has all workers work through the queue. It takes no memory of its own and starts a thread for each worker where it can.
+pub(crate) fn work_crew<
+    T: Drop + Send,
+    S: Send,
+    W: Work<T, S> + Sync,
+    G: Gate<T> + Sync,
+    R: Threads + Wait + Sync,
+>(rt: &R, taker: &Taker<T>, work: &W, gate: &G, members: &mut Vec<Member<T, S>>)
+    requires few { vec_len members.old < 1024 }
+    requires some { 0 < vec_len members.old }
+    requires starting { All (IsStarting (stealer_deque taker.now) (W.may_work work.now)) members.old.items }
+    ensures done { All (IsDone (stealer_deque taker.now) (W.done work.now)) members.new.items }
+    ensures len { vec_len members.new ≡ vec_len members.old }
+    ensures grows { (i : ℕ) (d : Member T S) → i < vec_len members.old → W.grows work.now (slice_index_or members.old.items i d).seat (slice_index_or members.new.items i d).seat }
+{
+    work_all(rt, taker, work, gate, members.as_mut_slice());
+}
