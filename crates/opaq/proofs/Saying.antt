@@ -1,5 +1,5 @@
 -- What a job has written when it ends.
-use Rattle.std.specs.Prelude.{◌≡◌, ℕ, List, Option, refl}
+use Rattle.std.specs.Prelude.{ℕ, List, Option, refl}
 use Rattle.std.specs.Io.KnownBytes.{Appends}
 use Rattle.aud_cli.specs.declared.ended.Cause.{Cause}
 use Rattle.aud_cli.specs.declared.ended.Cause.TheVariants.{Memory, Input, Output, Thread}
