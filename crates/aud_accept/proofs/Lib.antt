@@ -1,0 +1,7 @@
+pub mod Placing
+pub mod Kids
+pub mod Refutes
+pub mod OnTheWay
+pub mod Ends
+pub mod Alike
+pub mod Lines
