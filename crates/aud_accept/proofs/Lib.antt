@@ -1,3 +1,4 @@
+pub mod Members
 pub mod Placing
 pub mod Kids
 pub mod Refutes

@@ -80,7 +80,7 @@ fn is_same_fate(a: Fate, b: Fate) -> bool
 }
 
 /// Whether the decision is of a silent transaction, with its silent fate.
-fn is_silent<A: Allocator + Copy>(shape: &Shape<A>, decision: Decision) -> bool
+pub fn is_silent<A: Allocator + Copy>(shape: &Shape<A>, decision: Decision) -> bool
     ensures { IsTrue result ↔ (silent_fate (history_of shape.now) decision.tx ≡ Some decision.fate) }
 {
     match shape.silent(decision.tx) {
@@ -114,7 +114,7 @@ fn has_silent<A: Allocator + Copy>(
 }
 
 /// Whether the prefixes of the two cursors place the same transactions and leave the same states.
-fn lead_alike<A: Allocator + Copy>(cursor: &Cursor<A>, other: &Cursor<A>) -> bool
+pub fn lead_alike<A: Allocator + Copy>(cursor: &Cursor<A>, other: &Cursor<A>) -> bool
     requires { other.now.shape ≡ cursor.now.shape }
     ensures { IsTrue result ↔ LeadAlike (objects_of cursor.now.shape) (history_of cursor.now.shape) cursor.now.path other.now.path }
 {

@@ -1,6 +1,7 @@
 //! The prefixes of the lines that were accepted.
 
-ghost use Rattle.std.specs.Prelude.{◌≡◌, ◌↔◌, ◌⊎◌, [], IsTrue, OnOk};
+ghost use Rattle.std.specs.Prelude.{◌≡◌, ◌↔◌, ◌⊎◌, List, [], IsTrue, OnOk};
+ghost use Rattle.aud_witness.specs.declared.decision.Decision.{Decision};
 ghost use Rattle.std.specs.List.{Contains};
 
 use aud_event::OutOfMemory;

@@ -8,4 +8,5 @@ pub mod laws;
 mod moving;
 
 pub use cert::{Cert, CertLine};
-pub use checking::check_cert;
+pub use checking::{check_cert, is_silent, lead_alike};
+pub use moving::go_to;

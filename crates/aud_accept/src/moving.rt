@@ -43,7 +43,7 @@ fn go_back<A: Allocator + Copy>(cursor: &mut Cursor<A>, depth: usize)
 
 /// Takes the cursor to a list, and tells whether the list is good. Where it is not, the cursor stays before a decision of it
 /// that is not good there.
-pub(crate) fn go_to<A: Allocator + Copy>(
+pub fn go_to<A: Allocator + Copy>(
     cursor: &mut Cursor<A>,
     decisions: &[Decision],
 ) -> Result<bool, OutOfMemory>
