@@ -2,6 +2,7 @@
 use Rattle.std.specs.Prelude.{ℕ, List, [], ◌∷◌, ◌&&◌, ◌||◌, Bool, true, false, not, Option, Some, None, Result, Ok, Err, if◌then◌else◌, codes, bytes_eq, option_map, option_and_then, is_some}
 use Rattle.serde_json.specs.Data.{Data, Members}
 use Rattle.serde_json.specs.Find.{as_object}
+use Rattle.std.specs.declared.alloc.Global.{Global}
 use Rattle.aud_witness.specs.declared.decision.Decision.{Decision}
 use Rattle.aud_text.specs.declared.fault.TextFault.{TextFault}
 use Rattle.aud_text.specs.declared.fault.TextFault.TheVariants as fault
@@ -11,6 +12,10 @@ use Rattle.aud_accept.specs.declared.cert.CertLine.{CertLine}
 use Rattle.aud_accept.specs.declared.cert.CertLine.TheVariants.{Kids, Silent, Same}
 use Rattle.aud_cert.specs.declared.reason.Reason.{Reason}
 use Rattle.aud_cert.specs.declared.reason.Reason.TheVariants as by
+
+-- a line that is read, its lists in memory of the program's own allocator
+abbrev pub Line : Type 0
+Line = CertLine Global
 
 -- ---- the reason
 
@@ -80,7 +85,7 @@ abbrev pub all_texts : Data → Bool
 all_texts d = text_fits (codes "as") d && (text_fits (codes "by") d && (text_fits (codes "d") d && text_fits (codes "p") d))
 
 -- the line of a reason, where the order texts that it needs are read
-abbrev pub line_of : {X : Type 0} → Option Reason → OrderText → OrderText → OrderText → Option (CertLine X)
+abbrev pub line_of : Option Reason → OrderText → OrderText → OrderText → Option Line
 line_of None p d q = None
 line_of (Some by.Kids) p d q = option_map (λ l. Kids l) (list_of p)
 line_of (Some by.Silent) p d q = option_and_then (λ l. option_map (λ e. Silent l e) (option_and_then only_of (list_of d))) (list_of p)
@@ -96,26 +101,26 @@ fault_of e ms reason p d q =
     else None)))
 
 -- where there is no such fault, only a word is unknown if there is no line
-abbrev pub line_unless : {X : Type 0} → Option TextFault → Option (CertLine X) → Result (CertLine X) TextFault
+abbrev pub line_unless : Option TextFault → Option Line → Result Line TextFault
 line_unless (Some e) line = Err e
 line_unless None (Some line) = Ok line
 line_unless None None = Err fault.UnknownWord
 
-abbrev pub line_by : {X : Type 0} → Data → Members → Option Reason → OrderText → OrderText → OrderText →
-    Result (CertLine X) TextFault
+abbrev pub line_by : Data → Members → Option Reason → OrderText → OrderText → OrderText →
+    Result Line TextFault
 line_by e ms reason p d q = line_unless (fault_of e ms reason p d q) (line_of reason p d q)
 
-abbrev pub line_members : {X : Type 0} → Data → Option Members → Result (CertLine X) TextFault
+abbrev pub line_members : Data → Option Members → Result Line TextFault
 line_members e None = Err fault.NotObject
 line_members e (Some ms) = line_by e ms (reason_at e) (order_at (codes "p") e) (order_at (codes "d") e) (order_at (codes "as") e)
 
-abbrev pub line_judged : {X : Type 0} → Data → Result (CertLine X) TextFault
+abbrev pub line_judged : Data → Result Line TextFault
 line_judged e = line_members e (as_object e)
 
-abbrev pub line_json : {X : Type 0} → Result Data TextFault → Result (CertLine X) TextFault
+abbrev pub line_json : Result Data TextFault → Result Line TextFault
 line_json (Err e) = Err e
 line_json (Ok e) = line_judged e
 
 -- what a line of at most 65,536 bytes says
-abbrev pub line_read : {X : Type 0} → List ℕ → Result (CertLine X) TextFault
+abbrev pub line_read : List ℕ → Result Line TextFault
 line_read line = line_json (json_read 65536 line)

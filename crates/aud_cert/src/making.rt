@@ -6,7 +6,7 @@ ghost use Rattle.aud_witness.specs.Orders.{IsGood, Opaque};
 ghost use Rattle.aud_order.specs.Shapes.{objects_of, history_of};
 ghost use Rattle.aud_order.specs.Silent.{silent_fate};
 ghost use Rattle.aud_accept.specs.Acceptance.{prefix_in, LeadAlike, IsAccepted};
-ghost use Rattle.aud_cert.specs.Made.{Wrote, SaysSame, IsKid};
+ghost use Rattle.aud_cert.specs.Made.{Wrote};
 
 use crate::places::{Places, number_of};
 use aud_accept::{Cert, CertLine, go_to, is_silent, lead_alike};
