@@ -6,11 +6,20 @@ use Rattle.aud_text.specs.Orders.{order_text, decision_text}
 use Rattle.aud_accept.specs.declared.cert.CertLine.{CertLine}
 use Rattle.aud_accept.specs.declared.cert.CertLine.TheVariants.{Kids, Silent, Same}
 
--- a line without its line feed, its keys in the order of their bytes
+-- lines without their line feeds, their keys in the order of their bytes
+abbrev pub kids_text : List Decision → List ℕ
+kids_text p = codes "{\"by\":\"kids\",\"p\":\"" ++ (order_text p ++ codes "\"}")
+
+abbrev pub silent_text : List Decision → Decision → List ℕ
+silent_text p d = codes "{\"by\":\"silent\",\"d\":\"" ++ (decision_text d ++ (codes "\",\"p\":\"" ++ (order_text p ++ codes "\"}")))
+
+abbrev pub same_text : List Decision → List Decision → List ℕ
+same_text p q = codes "{\"as\":\"" ++ (order_text q ++ (codes "\",\"by\":\"same\",\"p\":\"" ++ (order_text p ++ codes "\"}")))
+
 abbrev pub line_text : {X : Type 0} → CertLine X → List ℕ
-line_text (Kids p) = codes "{\"by\":\"kids\",\"p\":\"" ++ (order_text p ++ codes "\"}")
-line_text (Silent p d) = codes "{\"by\":\"silent\",\"d\":\"" ++ (decision_text d ++ (codes "\",\"p\":\"" ++ (order_text p ++ codes "\"}")))
-line_text (Same p q) = codes "{\"as\":\"" ++ (order_text q ++ (codes "\",\"by\":\"same\",\"p\":\"" ++ (order_text p ++ codes "\"}")))
+line_text (Kids p) = kids_text p
+line_text (Silent p d) = silent_text p d
+line_text (Same p q) = same_text p q
 
 abbrev pub header_text : ℕ → List ℕ
 header_text count = codes "{\"cert\":" ++ (decimal count ++ codes "}")

@@ -2,7 +2,7 @@
 
 ghost use Rattle.std.specs.Prelude.{◌≡◌, ◌++◌, ◌∷◌, [], IfOk, OnOk};
 ghost use Rattle.aud_text.specs.Orders.{order_text, decision_text, fate_letter};
-ghost use Rattle.aud_cert.specs.Written.{line_text, header_text, ended, cert_text};
+ghost use Rattle.aud_cert.specs.Written.{kids_text, silent_text, same_text, line_text, header_text, ended, cert_text};
 
 use aud_accept::{Cert, CertLine};
 use aud_event::OutOfMemory;
@@ -48,6 +48,62 @@ fn push_decision<A: Allocator>(text: &mut Vec<u8, A>, decision: Decision) -> Res
     Ok(())
 }
 
+fn push_kids<A: Allocator + Copy, B: Allocator>(
+    alloc: A,
+    text: &mut Vec<u8, A>,
+    prefix: &Prefix<B>,
+) -> Result<(), OutOfMemory>
+    ensures { OnOk result (text.new.items ≡ text.old.items ++ kids_text prefix.now) }
+{
+    push_text(text, "{\"by\":\"kids\",\"p\":\"")?;
+    push_order(alloc, text, prefix)?;
+    push_text(text, "\"}")
+}
+
+fn push_silent<A: Allocator + Copy, B: Allocator>(
+    alloc: A,
+    text: &mut Vec<u8, A>,
+    prefix: &Prefix<B>,
+    decision: Decision,
+) -> Result<(), OutOfMemory>
+    ensures { OnOk result (text.new.items ≡ text.old.items ++ silent_text prefix.now decision) }
+{
+    push_text(text, "{\"by\":\"silent\",\"d\":\"")?;
+    push_decision(text, decision)?;
+    push_text(text, "\",\"p\":\"")?;
+    push_order(alloc, text, prefix)?;
+    push_text(text, "\"}")
+}
+
+fn push_same<A: Allocator + Copy, B: Allocator>(
+    alloc: A,
+    text: &mut Vec<u8, A>,
+    prefix: &Prefix<B>,
+    other: &Prefix<B>,
+) -> Result<(), OutOfMemory>
+    ensures { OnOk result (text.new.items ≡ text.old.items ++ same_text prefix.now other.now) }
+{
+    push_text(text, "{\"as\":\"")?;
+    push_order(alloc, text, other)?;
+    push_text(text, "\",\"by\":\"same\",\"p\":\"")?;
+    push_order(alloc, text, prefix)?;
+    push_text(text, "\"}")
+}
+
+fn push_keys<A: Allocator + Copy, B: Allocator>(
+    alloc: A,
+    text: &mut Vec<u8, A>,
+    line: &CertLine<B>,
+) -> Result<(), OutOfMemory>
+    ensures { OnOk result (text.new.items ≡ text.old.items ++ line_text line.now) }
+{
+    match line {
+        CertLine::Kids(prefix) => push_kids(alloc, text, prefix),
+        CertLine::Silent(prefix, decision) => push_silent(alloc, text, prefix, *decision),
+        CertLine::Same(prefix, other) => push_same(alloc, text, prefix, other),
+    }
+}
+
 /// Adds the line, with its line feed.
 fn push_line<A: Allocator + Copy, B: Allocator>(
     alloc: A,
@@ -56,25 +112,8 @@ fn push_line<A: Allocator + Copy, B: Allocator>(
 ) -> Result<(), OutOfMemory>
     ensures { OnOk result (text.new.items ≡ text.old.items ++ ended (line_text line.now)) }
 {
-    match line {
-        CertLine::Kids(prefix) => {
-            push_text(text, "{\"by\":\"kids\",\"p\":\"")?;
-            push_order(alloc, text, prefix)?;
-        }
-        CertLine::Silent(prefix, decision) => {
-            push_text(text, "{\"by\":\"silent\",\"d\":\"")?;
-            push_decision(text, *decision)?;
-            push_text(text, "\",\"p\":\"")?;
-            push_order(alloc, text, prefix)?;
-        }
-        CertLine::Same(prefix, other) => {
-            push_text(text, "{\"as\":\"")?;
-            push_order(alloc, text, other)?;
-            push_text(text, "\",\"by\":\"same\",\"p\":\"")?;
-            push_order(alloc, text, prefix)?;
-        }
-    }
-    push_text(text, "\"}\n")
+    push_keys(alloc, text, line)?;
+    push_text(text, "\n")
 }
 
 fn push_header<A: Allocator>(text: &mut Vec<u8, A>, count: usize) -> Result<(), OutOfMemory>
