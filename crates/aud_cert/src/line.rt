@@ -7,7 +7,9 @@ ghost use Rattle.aud_cert.specs.LineText.{order_at, is_long, is_out_of_range, is
 use crate::reason::{Reason, allowed_keys, reason_in, required_keys};
 use aud_accept::CertLine;
 use aud_event::OutOfMemory;
-use aud_text::{TextFault, has_only_allowed, has_required, json_in, read_order, text_if_there, word_of};
+use aud_text::{
+    TextFault, has_only_allowed, has_required, json_in, read_order, text_if_there, word_of,
+};
 use aud_witness::{Decision, Prefix};
 use serde_json::{Map, Value};
 use std::alloc::Global;

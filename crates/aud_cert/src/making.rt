@@ -47,11 +47,7 @@ fn first_silent<A: Allocator + Copy>(shape: &Shape<A>, kids: &[Decision]) -> Opt
 impl<'a, A: Allocator + Copy> Draft<'a, A> {
     /// The prefix of an earlier line that places the transactions that the cursor places, and leaves the same states, if the
     /// number leads to one.
-    fn same(
-        &mut self,
-        cursor: &Cursor<A>,
-        number: u64,
-    ) -> Result<Option<Prefix<A>>, OutOfMemory>
+    fn same(&mut self, cursor: &Cursor<A>, number: u64) -> Result<Option<Prefix<A>>, OutOfMemory>
         requires { self.old.other.shape ≡ cursor.now.shape }
         ensures lines { OnOk result (self.new.lines ≡ self.old.lines) }
         ensures other { OnOk result (self.new.other.shape ≡ self.old.other.shape) }

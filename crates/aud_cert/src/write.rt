@@ -57,7 +57,8 @@ fn push_kids<A: Allocator + Copy, B: Allocator>(
 {
     push_text(text, "{\"by\":\"kids\",\"p\":\"")?;
     push_order(alloc, text, prefix)?;
-    push_text(text, "\"}")
+    push_text(text, "\"}")?;
+    Ok(())
 }
 
 fn push_silent<A: Allocator + Copy, B: Allocator>(
@@ -72,7 +73,8 @@ fn push_silent<A: Allocator + Copy, B: Allocator>(
     push_decision(text, decision)?;
     push_text(text, "\",\"p\":\"")?;
     push_order(alloc, text, prefix)?;
-    push_text(text, "\"}")
+    push_text(text, "\"}")?;
+    Ok(())
 }
 
 fn push_same<A: Allocator + Copy, B: Allocator>(
@@ -87,7 +89,8 @@ fn push_same<A: Allocator + Copy, B: Allocator>(
     push_order(alloc, text, other)?;
     push_text(text, "\",\"by\":\"same\",\"p\":\"")?;
     push_order(alloc, text, prefix)?;
-    push_text(text, "\"}")
+    push_text(text, "\"}")?;
+    Ok(())
 }
 
 fn push_keys<A: Allocator + Copy, B: Allocator>(
