@@ -2,9 +2,7 @@
 
 use crate::fixtures::{shape_from, shape_of};
 use aud_accept::laws::accepted_is_refuted;
-use aud_cert::{
-    Cert, CertTextFault, check_cert, finding_of, make_cert, read_cert, write_cert,
-};
+use aud_cert::{Cert, CertTextFault, check_cert, finding_of, make_cert, read_cert, write_cert};
 use aud_event::Dup;
 use aud_facts::Facts;
 use aud_know::{Item, Knowledge, Verdict};
@@ -70,8 +68,16 @@ const COUNTED: &str = r#"{"cert":5}
 /// A history, lines, and whether they are accepted of it.
 const JUDGED: [(&str, &str, bool); 17] = [
     (TORN_READ_THEN_ABORT, TORN, true),
-    (TORN_READ_THEN_ABORT, "{\"cert\":1}\n{\"by\":\"kids\",\"p\":\"none\"}", false),
-    (TORN_READ_THEN_ABORT, "{\"cert\":1}\n{\"by\":\"kids\",\"p\":\"1c\"}", false),
+    (
+        TORN_READ_THEN_ABORT,
+        "{\"cert\":1}\n{\"by\":\"kids\",\"p\":\"none\"}",
+        false,
+    ),
+    (
+        TORN_READ_THEN_ABORT,
+        "{\"cert\":1}\n{\"by\":\"kids\",\"p\":\"1c\"}",
+        false,
+    ),
     (TORN_READ_THEN_ABORT, "{\"cert\":0}", false),
     (
         TORN_READ_THEN_ABORT,
@@ -101,7 +107,11 @@ const JUDGED: [(&str, &str, bool); 17] = [
     ),
     (READ_OF_NOTHING, NOTHING, true),
     (READ_OF_NOTHING, TORN, true),
-    (READ_OF_NOTHING, "{\"cert\":1}\n{\"by\":\"silent\",\"d\":\"1c\",\"p\":\"none\"}", false),
+    (
+        READ_OF_NOTHING,
+        "{\"cert\":1}\n{\"by\":\"silent\",\"d\":\"1c\",\"p\":\"none\"}",
+        false,
+    ),
     (
         READ_OF_NOTHING,
         "{\"cert\":2}\n{\"by\":\"kids\",\"p\":\"1c\"}\n{\"by\":\"silent\",\"d\":\"2c\",\"p\":\"none\"}",
@@ -131,7 +141,11 @@ fn certificates_are_judged(rt: HostRuntime) -> Result<(), Fail> {
     for (input, text, wanted) in &JUDGED {
         let shape = shape_of(alloc, input)?;
         let cert = cert_in(alloc, text)?;
-        assert_eq!(rt; check_cert(alloc, &shape, &cert)?, *wanted, "{text} of {input}");
+        assert_eq!(rt;
+            check_cert(alloc, &shape, &cert)?,
+            *wanted,
+            "{text} of {input}"
+        );
     }
     Ok(())
 }
@@ -140,7 +154,11 @@ fn certificates_are_judged(rt: HostRuntime) -> Result<(), Fail> {
 const REFUSED: [(&str, usize, TextFault); 19] = [
     ("", 1, TextFault::KeyMissing),
     ("\n\n", 3, TextFault::KeyMissing),
-    ("{\"cert\":2}\n{\"by\":\"kids\",\"p\":\"1c\"}\n", 3, TextFault::KeyMissing),
+    (
+        "{\"cert\":2}\n{\"by\":\"kids\",\"p\":\"1c\"}\n",
+        3,
+        TextFault::KeyMissing,
+    ),
     ("{\"cert\":1}\n\n", 3, TextFault::KeyMissing),
     ("{\"cert\":0}\n\n{}", 3, TextFault::KeyUnknown),
     ("{\"cert\":-1}", 1, TextFault::TypeOrRange),
@@ -149,18 +167,46 @@ const REFUSED: [(&str, usize, TextFault); 19] = [
     ("[]", 1, TextFault::NotObject),
     ("\n{\"cert\":", 2, TextFault::NotJson),
     ("{\"cert\":1}\n{\"by\":\"kids\"}", 2, TextFault::KeyMissing),
-    ("{\"cert\":1}\n{\"by\":\"kids\",\"d\":\"1c\",\"p\":\"1c\"}", 2, TextFault::KeyUnknown),
-    ("{\"cert\":1}\n{\"by\":\"silent\",\"p\":\"1c\"}", 2, TextFault::KeyMissing),
+    (
+        "{\"cert\":1}\n{\"by\":\"kids\",\"d\":\"1c\",\"p\":\"1c\"}",
+        2,
+        TextFault::KeyUnknown,
+    ),
+    (
+        "{\"cert\":1}\n{\"by\":\"silent\",\"p\":\"1c\"}",
+        2,
+        TextFault::KeyMissing,
+    ),
     (
         "{\"cert\":1}\n{\"by\":\"silent\",\"d\":\"1c 2c\",\"p\":\"none\"}",
         2,
         TextFault::TypeOrRange,
     ),
-    ("{\"cert\":1}\n{\"by\":\"silent\",\"d\":\"none\",\"p\":\"none\"}", 2, TextFault::TypeOrRange),
-    ("{\"cert\":1}\n{\"by\":\"kids\",\"p\":7}", 2, TextFault::TypeOrRange),
-    ("{\"cert\":1}\n{\"by\":\"kids\",\"p\":\"1024c\"}", 2, TextFault::TypeOrRange),
-    ("{\"cert\":1}\n{\"by\":\"kids\",\"p\":\"01c\"}", 2, TextFault::UnknownWord),
-    ("{\"cert\":1}\n{\"as\":\"1c\",\"by\":\"other\",\"p\":\"1c\"}", 2, TextFault::UnknownWord),
+    (
+        "{\"cert\":1}\n{\"by\":\"silent\",\"d\":\"none\",\"p\":\"none\"}",
+        2,
+        TextFault::TypeOrRange,
+    ),
+    (
+        "{\"cert\":1}\n{\"by\":\"kids\",\"p\":7}",
+        2,
+        TextFault::TypeOrRange,
+    ),
+    (
+        "{\"cert\":1}\n{\"by\":\"kids\",\"p\":\"1024c\"}",
+        2,
+        TextFault::TypeOrRange,
+    ),
+    (
+        "{\"cert\":1}\n{\"by\":\"kids\",\"p\":\"01c\"}",
+        2,
+        TextFault::UnknownWord,
+    ),
+    (
+        "{\"cert\":1}\n{\"as\":\"1c\",\"by\":\"other\",\"p\":\"1c\"}",
+        2,
+        TextFault::UnknownWord,
+    ),
 ];
 
 /// Why the text is refused, if it is.
@@ -254,7 +300,12 @@ fn verdict_by(alloc: Global, input: &str, text: &str) -> Result<Option<Verdict>,
 #[test]
 fn an_accepted_certificate_is_a_finding(rt: HostRuntime) -> Result<(), Fail> {
     let alloc = rt.alloc();
-    assert!(rt; matches!(&verdict_by(alloc, TORN_READ_THEN_ABORT, TORN)?, Some(Verdict::NotOpaque)));
+    assert!(rt;
+        matches!(
+            &verdict_by(alloc, TORN_READ_THEN_ABORT, TORN)?,
+            Some(Verdict::NotOpaque)
+        )
+    );
     assert!(rt; verdict_by(alloc, TORN_READ_THEN_ABORT, "{\"cert\":0}")?.is_none());
     accepted_is_refuted::<Global>();
     Ok(())
