@@ -134,7 +134,7 @@ fn size_of_all<A: Allocator + Drop>(states: &[State<A>]) -> usize
 }
 
 impl<A: Allocator + Drop> Store<A> {
-    /// Whether all states mean the same now. It takes no memory, and time linear in the sizes of the states.
+    /// Whether all states mean the same now. It does not allocate, and takes time linear in the sizes of the states.
     pub fn same(&self, other: &Store<A>) -> bool
         ensures { IsTrue result ↔ (self.now.now ≡ other.now.now) }
     {
@@ -166,7 +166,7 @@ impl<A: Allocator + Drop> Store<A> {
         self.states.len()
     }
 
-    /// Takes back the block that was replayed last and not taken back yet. It takes no memory.
+    /// Takes back the block that was replayed last and not taken back yet. It does not allocate.
     pub fn undo(&mut self)
         requires { self.old.past ≢ [] }
         ensures { self.old.past ≡ self.new.now ∷ self.new.past }
@@ -240,7 +240,7 @@ impl<A: Allocator + Clone> Store<A> {
     }
 
     /// Whether each recorded answer is the object's. If so the block has run, and `undo` takes it back; if not, and where
-    /// memory is wanting, the store is as it was. It costs what the block touches.
+    /// memory runs out, the store is as it was. It costs what the block touches.
     pub fn replay<B: Allocator>(&mut self, block: &Block<B>) -> Result<bool, OutOfMemory>
         ensures right { IfOk result (λ right. Replays self.old block.now right self.new) }
         ensures refused { OnErr result (self.new ≡ self.old) }

@@ -122,7 +122,7 @@ not_full : (objects : List Declared) (h : History) (path : List Decision) (c d :
 not_full objects h path c d good unfull other full =
     unfull (full-from_length objects h (path ++ c ∷ []) good (length-push path c ∙ sym (length-push path d) ∙ length-full objects h (path ++ d ∷ []) other full))
 
--- and so are those behind it, where it is of a silent transaction
+-- and so are those after it, where it is of a silent transaction
 pub tried-behind : (plan : PlanOf) (h : History) (cs : List Choice) (path : List Decision) (k g : ℕ) (c : Choice) → IsWellFormed h → IsWithinLimits plan h → AreChoices h cs → IsBehind cs k g →
     slice_get cs k ≡ Some c → AreTried plan.objects h cs path k → IsGoodNext plan.objects h path c.decision → Refuted plan.objects h (path ++ c.decision ∷ []) → AreTried plan.objects h cs path g
 tried-behind plan h cs path k g c fine within choices behind at tried good refuted =
@@ -258,7 +258,7 @@ there-below [] k c at = absurd (cc)
 there-below (x ∷ cs) zero c at = omega arith
 there-below (x ∷ cs) (suc k) c at = let low : k < length cs = there-below cs k c at in omega arith
 
--- where all choices are refuted behind a list, it is refuted
+-- where all choices are refuted after a list, it is refuted
 pub refuted-here : (objects : List Declared) (h : History) (p : List Decision) (cs : List Choice) (used : ℕ) (path : List Decision) (next : ℕ) (gs : List ℕ) →
     AreChoices h cs → IsSearching objects h p cs used path next gs → AreTried objects h cs path (length cs) → Refuted objects h path
 refuted-here objects h p cs used path next gs choices s tried =

@@ -84,7 +84,7 @@ named-back p d t named =
       | inr last ↦ elim (or_true (nat_eq d.tx t) false last) [ inl own ↦ inr (nat_eq-is d.tx t own) | inr no_more ↦ absurd (cc) ]
     ]
 
--- what waits behind a longer list waits behind a shorter one
+-- what waits after a longer list waits after a shorter one
 late-back : (h : History) (p : List Decision) (d : Decision) (u : ℕ) → is_enabled h (p ++ d ∷ []) u ≡ false → is_enabled h p u ≡ false
 late-back h p d u late = is_false (is_enabled h p u) (λ enabled. let more : is_enabled h (p ++ d ∷ []) u ≡ true = go h enabled in cc)
   where

@@ -1,4 +1,4 @@
--- What the parts of a search tell, put together.
+-- What the parts of a search say, put together.
 use Rattle.std.specs.Prelude.{◌≡◌, ℕ, zero, suc, ◌+◌, ◌-◌, ◌<◌, ◌≤◌, Bool, true, false, not, ◌&&◌, nat_lt, List, [], ◌∷◌, ◌++◌, map, length, reverse, Option, Some, None, slice_get, slice_index_or, refl}
 use Rattle.std.proofs.Common.{sym, ◌∙◌, ap, subst, inl, inr, arith, take}
 use Rattle.std.proofs.lemmas.Bool.Decides.{nat_tests}
@@ -247,7 +247,7 @@ loop-known start cur new popped cs used next k g below on s f behind refuted is 
     (search-on (objects_of start.shape) (history_of start.shape) start.path cs used cur.path next (reverse below) g s (omega arith)
     (followed-tried start cur new cs next k g on f behind (followed-refuted start cur new cs next k f refuted)))
 
--- the followed choice is a step on from a list behind which the states have the number
+-- the followed choice is a step on from a list after which the states have the number
 pub step-at : (start cur new : CursorOf) (cs : List Choice) (next k : ℕ) (memo : MemoOf) (n : Option ℕ) (ns : List (Option ℕ)) → Grounds start.shape cs → Follows start cur new cs next k → memo.shape ≡ start.shape →
     NameWay start.shape memo.states (n ∷ ns) cur.path → IsStep memo n (slice_index_or cs k no_choice) new
 step-at start cur new cs next k memo n ns on f same way =

@@ -16,7 +16,7 @@ use Rattle.aud_search.specs.declared.outcome.Decided.TheVariants as decided
 abbrev pub IsExpandable : List Declared → History → List Decision → Type 0
 IsExpandable objects h p = IsGood objects h p × (IsFull h p → ⊥)
 
--- each is different from those behind it
+-- each is different from those after it
 abbrev pub AreDifferent : List (List Decision) → Type 0
 AreDifferent [] = Unit {0}
 AreDifferent (e ∷ es) = (Contains es e → ⊥) × AreDifferent es

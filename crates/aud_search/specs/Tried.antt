@@ -29,7 +29,7 @@ IsFound old new cs from (Some k) =
 abbrev pub ArePassed : CursorOf → List Choice → ℕ → ℕ → Type 0
 ArePassed at cs from to = (from ≤ to) × ((j : ℕ) (c : Choice) → from ≤ j → j < to → slice_get cs j ≡ Some c → Refuted (objects_of at.shape) (history_of at.shape) (at.path ++ c.decision ∷ []))
 
--- the place of the next choice once the one at k is refuted: behind one of a silent transaction it may be any
+-- the place of the next choice once the one at k is refuted: after one of a silent transaction it may be any
 pub record IsBehind (cs : List Choice) (k g : ℕ) : Type 0 where
   pub past : k < g
   pub inside : g ≤ length cs
@@ -42,7 +42,7 @@ Spends (Some whole) used (Some left) = used + left ≡ whole + 1
 Spends None used (Some left) = ⊥
 Spends (Some whole) used None = ⊥
 
--- what is told of the lists that begin with one that was expanded, where so much of the budget is left
+-- what is reported of the lists that begin with one that was expanded, where so much of the budget is left
 abbrev pub TellsFrom : {X : Type 0} → List Declared → History → List Decision → Option ℕ → Outcome X → Type 0
 TellsFrom objects h p left outcome.Refuted = Refuted objects h p
 TellsFrom objects h p left (outcome.Witness q) = BeginsWith p q × Shows objects h q

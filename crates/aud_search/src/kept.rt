@@ -210,7 +210,7 @@ fn cost_of<A: Allocator + Copy>(kept: &[Kept<A>], shape: &Shape<A>, step: Step) 
     }
 }
 
-/// How the store's states are kept: behind others, where few blocks run from whole ones on, with no more operations than a copy
+/// How the store's states are kept: after others, where few blocks run from whole ones on, with no more operations than a copy
 /// has numbers, or whole.
 fn kept_as<A: Allocator + Copy>(
     kept: &[Kept<A>],
@@ -241,7 +241,7 @@ fn size_of<A: Allocator + Copy>(fresh: &Kept<A>) -> usize {
     }
 }
 
-/// The number of the store's states, which may come behind the others, if there is room and memory for them.
+/// The number of the store's states, which may come after the others, if there is room and memory for them.
 pub(crate) fn keep_states<A: Allocator + Copy>(
     kept: &mut Vec<Kept<A>, A>,
     finder: &mut Finder<A>,

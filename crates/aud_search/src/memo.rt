@@ -1,5 +1,5 @@
 //! What a search remembers of the lists that it refuted: which transactions were placed, and the states of all objects.
-//! Behind two lists of which these are the same, the same shows.
+//! After two lists of which these are the same, the same shows.
 
 ghost use Rattle.std.specs.Prelude.{◌≡◌, ◌++◌, [], ◌∷◌, Some, IsTrue, MatchOption};
 ghost use Rattle.std.specs.List.{Contains};
@@ -32,7 +32,7 @@ pub(crate) struct Lead {
 /// Spots of refuted lists of one shape, and where blocks lead. States that many spots share are kept once, under a number.
 ///
 /// A spot is kept as words: the number of the states, then the marks of the rows that were placed. When its room is full,
-/// the spots are forgotten and others come; where memory is wanting a new one is.
+/// the spots are forgotten and others come; where memory runs out a new one is.
 #[derive(Drop)]
 pub(crate) struct Memo<'a, A: Allocator + Copy = Global> {
     alloc: A,
@@ -101,7 +101,7 @@ fn leaves_states(choice: &Choice) -> bool
     }
 }
 
-/// A lead comes behind the others, if there is memory for it.
+/// A lead comes after the others, if there is memory for it.
 fn keep_lead<A: Allocator + Copy>(
     leads: &mut Vec<Lead, A>,
     by_hash: &mut Index<A>,
@@ -115,7 +115,7 @@ fn keep_lead<A: Allocator + Copy>(
 }
 
 impl<'a, A: Allocator + Copy> Memo<'a, A> {
-    /// A memo of nothing. It takes no memory.
+    /// A memo of nothing. It does not allocate.
     pub(crate) fn new(alloc: A, shape: &'a Shape<A>) -> Memo<'a, A>
         ensures { result ≡ record { shape = shape.entry.now; states = [] } }
     {
@@ -165,7 +165,7 @@ impl<'a, A: Allocator + Copy> Memo<'a, A> {
         find_lead(&self.leads, &self.leads_by_hash, from, tx)
     }
 
-    /// The number of the states behind a choice that is good where the states have the number, if that is known.
+    /// The number of the states after a choice that is good where the states have the number, if that is known.
     fn after(&self, before: usize, choice: &Choice) -> Option<usize>
         ensures { MatchOption result (choice.now.decision.fate ≡ C) (λ to. IsAfter self.now before choice.now to) }
     {
@@ -186,7 +186,7 @@ impl<'a, A: Allocator + Copy> Memo<'a, A> {
         }
     }
 
-    /// The number of the states where the cursor stands, behind a choice that was good where the states have the number
+    /// The number of the states where the cursor stands, after a choice that was good where the states have the number
     /// `from`, if it is known or there is room and memory for it. Where nothing was refuted yet, no number is asked for.
     pub(crate) fn follow(
         &mut self,
@@ -225,7 +225,7 @@ impl<'a, A: Allocator + Copy> Memo<'a, A> {
     }
 
     /// Whether a refuted list placed the transactions that the cursor's list places, and left the same states, which have the
-    /// number. It takes no memory.
+    /// number. It does not allocate.
     pub(crate) fn knows(&self, states: Option<usize>, cursor: &Cursor<A>) -> bool
         requires shape { self.now.shape ≡ cursor.now.shape }
         requires named { Names self.now.states states (states_behind cursor.now.shape cursor.now.path) }
@@ -240,8 +240,8 @@ impl<'a, A: Allocator + Copy> Memo<'a, A> {
         }
     }
 
-    /// Whether the cursor's list with the choice behind it is known to be refuted, by where its block leads. No block runs,
-    /// and it takes no memory.
+    /// Whether the cursor's list with the choice after it is known to be refuted, by where its block leads. No block runs,
+    /// and it does not allocate.
     pub(crate) fn knows_behind(
         &self,
         states: Option<usize>,

@@ -45,7 +45,7 @@ fn try_decision<A: Allocator + Copy>(
     Ok(pushed.is_good())
 }
 
-/// Goes on by the first choice from a place on that is good, and tells its place.
+/// Goes on by the first choice from a place on that is good, and answers its place.
 fn try_from<A: Allocator + Copy>(
     cursor: &mut Cursor<A>,
     choices: &[Choice],
@@ -67,7 +67,7 @@ fn try_from<A: Allocator + Copy>(
     Ok(None)
 }
 
-/// Passes over choices that are known to be refuted, from a place on, and tells where the others begin.
+/// Passes over choices that are known to be refuted, from a place on, and answers where the others begin.
 fn pass_known<A: Allocator + Copy>(
     memo: &Memo<A>,
     cursor: &Cursor<A>,
@@ -92,7 +92,7 @@ fn pass_known<A: Allocator + Copy>(
     from
 }
 
-/// Takes the last decision back, and tells it.
+/// Takes the last decision back, and reports it.
 fn take_back<A: Allocator + Copy>(cursor: &mut Cursor<A>, memo: &mut Memo<A>) -> Option<Decision>
     ensures last { MatchOption result (cursor.old.path ≡ []) (λ last. cursor.old ≡ cursor_with cursor.new last) }
     ensures back { cursor.new ≡ cursor_back cursor.old }
@@ -117,7 +117,7 @@ fn go_back<A: Allocator + Copy>(cursor: &mut Cursor<A>, ready: &mut Ready<A>, me
     }
 }
 
-/// The place of the next choice once this one is refuted. Behind one of a silent transaction none is left to try.
+/// The place of the next choice once this one is refuted. After one of a silent transaction none is left to try.
 fn place_behind(choices: &[Choice], place: usize) -> usize
     requires { place < length choices.now }
     ensures { IsBehind choices.now place result }
@@ -129,7 +129,7 @@ fn place_behind(choices: &[Choice], place: usize) -> usize
     }
 }
 
-/// Which choice behind a list is tried next, and the number of the states there, if they have one.
+/// Which choice after a list is tried next, and the number of the states there, if they have one.
 #[derive(Clone, Copy, Debug, PartialEq, Eq)]
 struct Turn {
     next: usize,
@@ -137,7 +137,7 @@ struct Turn {
 }
 
 impl Turn {
-    /// Behind a list that was just expanded.
+    /// After a list that was just expanded.
     fn new(states: Option<usize>) -> Turn
         ensures { result ≡ record { next = 0; states = states } }
     {
@@ -224,7 +224,7 @@ fn search<A: Allocator + Copy>(
 }
 
 /// Whether some list that begins with the prefix shows the history, as far as the budget goes: exactly so many prefixes
-/// are expanded before it is told as spent. A prefix is expanded when the choices behind it are tried for the first time;
+/// are expanded before it is reported as spent. A prefix is expanded when the choices after it are tried for the first time;
 /// one that is not good is refuted, and a full one is the witness, without an expansion.
 pub fn explore<A: Allocator + Copy>(
     alloc: A,

@@ -4,7 +4,7 @@ use aud_cli::{Command, Job, Usage, job_of};
 use std::alloc::{AllocError, Global};
 use std::test::Fail;
 
-/// Puts the words of the line, parted by blanks, behind the others.
+/// Puts the words of the line, parted by blanks, after the others.
 fn put_words(alloc: Global, words: &mut Vec<String>, line: &str) -> Result<(), AllocError> {
     for word in line.split(' ') {
         words.push(String::from_str(alloc, word)?)?;

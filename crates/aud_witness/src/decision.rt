@@ -53,7 +53,7 @@ impl<A: Allocator> Model for Prefix<A> {
 }
 
 impl<A: Allocator> Prefix<A> {
-    /// The empty list. It takes no memory.
+    /// The empty list. It does not allocate.
     pub fn empty(alloc: A) -> Prefix<A>
         ensures { result ≡ [] }
     {
@@ -62,7 +62,7 @@ impl<A: Allocator> Prefix<A> {
         }
     }
 
-    /// The list of the decisions. It takes no memory.
+    /// The list of the decisions. It does not allocate.
     pub fn from_decisions(decisions: Vec<Decision, A>) -> Prefix<A>
         ensures { result ≡ decisions.items }
     {
