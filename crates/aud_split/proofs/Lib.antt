@@ -2,3 +2,5 @@ pub mod Tasks
 pub mod Closing
 pub mod Keeping
 pub mod Searched
+pub mod Numbers
+pub mod Settling

@@ -1,3 +1,5 @@
 pub mod Tasks
 pub mod Searched
 pub mod Laws
+pub mod Ends
+pub mod Pools
