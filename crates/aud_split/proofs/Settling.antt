@@ -1,4 +1,4 @@
--- What a worker has settled stays so, and its pass goes on.
+-- What an offer settles, and what a reading and an offer do to a pass.
 use Rattle.std.specs.Prelude.{◌≡◌, ◌⊎◌, ℕ, ◌+◌, ◌++◌, List, [], ◌∷◌, length, All, refl}
 use Rattle.std.specs.List.{Contains}
 use Rattle.std.specs.declared.alloc.Global.{Global}
@@ -6,6 +6,7 @@ use Rattle.std.proofs.Common.{sym, ◌∙◌, ap, subst, inl, inr, arith, append
 use Rattle.std.proofs.lemmas.List.{append-nil}
 use Rattle.std.proofs.lemmas.List.Elements.{All-nil, All-cons, All-append, Contains-append_left, Contains-append_right}
 use mathlib.Core.List.{IsPrefix}
+use Rattle.aud_event.specs.Meanings.{PlanOf}
 use Rattle.aud_witness.specs.declared.decision.Decision.{Decision}
 use Rattle.aud_order.specs.Shapes.{ShapeOf}
 use Rattle.aud_know.specs.Norms.{refuted, shown}
@@ -13,25 +14,16 @@ use Rattle.aud_know.specs.Known.{KnownAtom}
 use Rattle.aud_know.specs.Findings.{FindingOf, found}
 use Rattle.aud_know.specs.declared.item.Item.{Item}
 use Rattle.aud_know.specs.declared.item.Item.TheVariants as item
-use Rattle.aud_node.specs.Logs.{Entry, atoms_in, Offered}
+use Rattle.aud_node.specs.Logs.{Entry, atoms_in, IsKnownIn, Offered}
 use Rattle.aud_node.specs.Meanings.{PassOf, GoesOn, mine}
 use Rattle.aud_node.proofs.Own.{atoms-append, atoms_snoc}
 use Rattle.aud_split.specs.Searched.{IsRefutedBy}
+use Rattle.aud_split.proofs.Keeping.{known_kept}
 use Rattle.aud_split.specs.Pools.{SaysOf, HasWitnessFrom, IsFindingOf, IsSettled, HasSearched}
 
--- # Tasks
-
-pub settled_later : (s : ShapeOf) (budget : ℕ) (v w : List Entry) (t : List Decision) → IsPrefix v w → IsSettled s budget v t → IsSettled s budget w t
-settled_later s budget v w t p settled =
-    let later : (a : KnownAtom) → Contains (atoms_in v) a → Contains (atoms_in w) a
-        = λ a there. subst (λ (l : List KnownAtom). Contains l a) (sym (atoms-append v p.0) ∙ ap atoms_in p.1) (Contains-append_left (atoms_in v) (atoms_in p.0) a there) in
-    elim settled [
-      | inl (q, (rest, (there, is))) ↦ inl (q, (rest, (later (refuted q) there, is)))
-      | inr other ↦ elim other [
-        | inl (q, (there, begins)) ↦ inr (inl (q, (later (shown q) there, begins)))
-        | inr spent ↦ inr (inr spent)
-      ]
-    ]
+-- what the node knows to be refuted is settled
+pub known_settles : (s : ShapeOf) (budget : ℕ) (plan : PlanOf) (view : List Entry) (t : List Decision) → IsKnownIn plan view t → IsSettled s budget view t
+known_settles s budget plan view t known = inl (((known_kept (atoms_in view)).refuted t).1 known)
 
 -- what a finding says of a task settles it for who has offered it
 pub settled_by : (s : ShapeOf) (budget : ℕ) (old new : List Entry) (seat : ℕ) (f : FindingOf) (t : List Decision) → Offered old new seat (item.Finding f) → SaysOf t f.claim → IsSettled s budget new t
@@ -42,30 +34,6 @@ settled_by s budget old new seat f t (between, is) says =
       | inl refutes ↦ inl (t, ([], (subst (Contains (atoms_in new)) refutes there, sym (append-nil t))))
       | inr (q, (shows, begins)) ↦ inr (inl (q, (subst (Contains (atoms_in new)) shows there, begins)))
     ]
-
--- # Passes
-
-pub searched_itself : (s : ShapeOf) (p : PassOf) → HasSearched s p p
-searched_itself s p = record {
-  view = ([], append-nil p.view);
-  number = refl;
-  seat = refl;
-  items = [];
-  mine = sym (append-nil (mine p));
-  offers = omega arith;
-  findings = All-nil (IsFindingOf s);
-}
-
-pub searched_onward : (s : ShapeOf) (p q r : PassOf) → HasSearched s p q → HasSearched s q r → HasSearched s p r
-searched_onward s p q r a b = record {
-  view = (a.view.0 ++ b.view.0, sym (append_assoc p.view a.view.0 b.view.0) ∙ (ap (λ l. l ++ b.view.0) a.view.1 ∙ b.view.1));
-  number = b.number ∙ a.number;
-  seat = b.seat ∙ a.seat;
-  items = a.items ++ b.items;
-  mine = b.mine ∙ (ap (λ l. l ++ b.items) a.mine ∙ append_assoc (mine p) a.items b.items);
-  offers = omega (arith, a.offers, b.offers, length-append a.items b.items);
-  findings = All-append (IsFindingOf s) a.items b.items a.findings b.findings;
-}
 
 -- a reading
 pub searched_read : (s : ShapeOf) (p q : PassOf) → GoesOn p q → HasSearched s p q

@@ -3,3 +3,4 @@ pub mod Searched
 pub mod Laws
 pub mod Ends
 pub mod Pools
+pub mod Settling

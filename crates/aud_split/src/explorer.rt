@@ -52,7 +52,7 @@ impl<'a, J: Fleet, S: Wait + Drop> Work<Prefix, Pass<J>> for Explorer<'a, J, S> 
     ghost use Rattle.aud_order.specs.Shapes.{plan_of};
     ghost use Rattle.aud_node.specs.Meanings.{IsAt};
     ghost use Rattle.aud_split.specs.Pools.{HasSearched, IsSettled};
-    ghost use Rattle.aud_split.proofs.Settling.{settled_later, searched_itself, searched_onward};
+    ghost use Rattle.aud_split.specs.Settling.{settled_later, searched_itself, searched_onward};
 
     ghost may_work = { λ w pass. IsAt w.node.now pass × (plan_of w.shape.value ≡ w.node.now.plan) };
 
