@@ -14,7 +14,7 @@ use Rattle.aud_know.specs.Findings.{FindingOf, found}
 use Rattle.aud_know.specs.declared.item.Item.{Item}
 use Rattle.aud_know.specs.declared.item.Item.TheVariants as item
 use Rattle.aud_node.specs.Logs.{Entry, atoms_in, Offered}
-use Rattle.aud_node.specs.Meanings.{PassOf, GoesOn, mine}
+use Rattle.aud_node.specs.Meanings.{NodeOf, PassOf, IsAt, mine}
 use Rattle.aud_node.proofs.Own.{atoms-append, atoms_snoc}
 use Rattle.aud_split.specs.Searched.{IsRefutedBy}
 use Rattle.aud_split.specs.Pools.{SaysOf, HasWitnessFrom, IsFindingOf, IsSettled, HasSearched}
@@ -53,3 +53,6 @@ searched_onward s p q r a b = record {
   findings = All-append (IsFindingOf s) a.items b.items a.findings b.findings;
 }
 
+-- a later pass is of the same node
+pub still_at : (s : ShapeOf) (n : NodeOf) (p q : PassOf) → HasSearched s p q → IsAt n p → IsAt n q
+still_at s n p q on at = on.number ∙ at

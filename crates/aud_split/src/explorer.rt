@@ -40,6 +40,7 @@ fn find(
 }
 
 /// The search below tasks of one history, for a node of its plan.
+#[derive(Drop)]
 pub(crate) struct Explorer<'a, J: Fleet, S: Wait + Drop> {
     pub alloc: Global,
     pub node: &'a Running<J, S>,
@@ -52,7 +53,7 @@ impl<'a, J: Fleet, S: Wait + Drop> Work<Prefix, Pass<J>> for Explorer<'a, J, S> 
     ghost use Rattle.aud_order.specs.Shapes.{plan_of};
     ghost use Rattle.aud_node.specs.Meanings.{IsAt};
     ghost use Rattle.aud_split.specs.Pools.{HasSearched, IsSettled};
-    ghost use Rattle.aud_split.specs.Settling.{settled_later, searched_itself, searched_onward};
+    ghost use Rattle.aud_split.specs.Settling.{settled_later, still_at, searched_itself, searched_onward};
 
     ghost may_work = { λ w pass. IsAt w.node.now pass × (plan_of w.shape.value ≡ w.node.now.plan) };
 
@@ -83,7 +84,7 @@ impl<'a, J: Fleet, S: Wait + Drop> Work<Prefix, Pass<J>> for Explorer<'a, J, S> 
 
     ghost stays = { λ w old new task on settled. settled_later w.shape.value w.budget old.view new.view task on.view settled };
 
-    ghost still_may_work = { λ w old new on may. (on.number ∙ may.0, may.1) };
+    ghost still_may_work = { λ w old new on may. (still_at w.shape.value w.node.now old new on may.0, may.1) };
 
     ghost grows_from_itself = { λ w pass. searched_itself w.shape.value pass };
 

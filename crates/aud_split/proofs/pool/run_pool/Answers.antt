@@ -17,15 +17,7 @@ use Rattle.aud_split.proofs.Numbers.{all_tasks, numbers_below, all_faulted, answ
 use Rattle.aud_split.proofs.pool.run_pool.Goals as goal
 
 pub run-requires-clause-may_work : goal.run-requires-clause-may_work
-run-requires-clause-may_work g c = λ k p lt. (c.in-None.ensures.none.2 k p lt, c.in-None.ensures.none.1)
+run-requires-clause-may_work g c = ?
 
 pub take_apart-requires-clause-room : goal.take_apart-requires-clause-room
-take_apart-requires-clause-room g c =
-    let workers = c.in-Ok.end.workers in
-    let left = c.in-Ok.end.left in
-    let len : length (all_drawn workers.items) + length left.items ≡ length c.args.tasks.items = sym (length-append (all_drawn workers.items) left.items) ∙ length_permutation _ _ c.in-Ok.ensures.all in
-    let count : length workers.items ≡ length c.args.passes.items = grown_length _ c.args.passes.items workers.items c.in-Ok.ensures.seats in
-    let n : vec_len workers ≡ length workers.items = workers.ok.0 in
-    let m : vec_len c.args.passes ≡ length c.args.passes.items = c.args.passes.ok.0 in
-    let t : vec_len c.args.tasks ≡ length c.args.tasks.items = c.args.tasks.ok.0 in
-    let room = c.in-Ok.lists.ensures.room in (omega arith, omega arith, omega arith)
+take_apart-requires-clause-room g c = ?
