@@ -4,3 +4,4 @@ pub mod Keeping
 pub mod Searched
 pub mod Numbers
 pub mod Settling
+pub mod Crosses

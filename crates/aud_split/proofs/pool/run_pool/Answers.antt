@@ -2,16 +2,15 @@ use Rattle.std.proofs.Common.{rules, arith, ap, sym, subst, ◌∙◌, ◌≡◌
 use Rattle.std.specs.List.Sorted.{IsPermutation}
 use Rattle.std.proofs.lemmas.List.Sorted.{length_permutation}
 use Rattle.std.proofs.lemmas.List.{length-map}
-use Rattle.std.proofs.alloc.Global.TheSendSync as global
 use denote.Param.Send.{sendable}
 use Rattle.aud_witness.specs.declared.decision.Decision.{Decision}
-use Rattle.aud_order.proofs.Crosses.{shape_send, shape_sync}
 use Rattle.aud_node.specs.Meanings.{PassOf}
-use Rattle.aud_node.proofs.Crosses.{pass_send, node_sync}
+use Rattle.aud_node.proofs.Crosses.{pass_send}
 use Rattle.aud_pool.specs.Workers.{all_drawn, AreWorked}
 use Rattle.aud_split.specs.declared.fault.PoolFault.{PoolFault}
 use Rattle.aud_split.specs.Ends.{numbered, failures, faulted, drawn_by, AreFaults}
 use Rattle.aud_split.specs.Pools.{IsSettled, HasSearched, HaveSearched, MayRun}
+use Rattle.aud_split.proofs.Crosses.{explorer_sync}
 use Rattle.aud_split.proofs.Numbers.{all_tasks, numbers_below, all_faulted, answered_of, grown_of, grown_length, faults_of}
 use Rattle.aud_split.proofs.pool.run_pool.Goals as goal
 
@@ -24,7 +23,7 @@ pub run-requires-send-S : goal.run-requires-send-S
 run-requires-send-S g c κs within = search (pass_send, sendable)
 
 pub run-requires-sync-W : goal.run-requires-sync-W
-run-requires-sync-W g c κs within = ?
+run-requires-sync-W g c κs within = search (explorer_sync, sendable)
 
 pub take_apart-requires-clause-few : goal.take_apart-requires-clause-few
 take_apart-requires-clause-few g c =
