@@ -1,7 +1,14 @@
 #![tactic(auto)]
-//! The tasks that a search is split into, and what their ends say together.
+//! The tasks that a search is split into, a pool of workers that search them, and what their ends say together.
 
+mod ends;
+mod explorer;
+mod fault;
 pub mod laws;
+mod pool;
 mod splitting;
 
+pub use aud_pool::Gate;
+pub use fault::PoolFault;
+pub use pool::{PoolEnd, run_pool};
 pub use splitting::split;

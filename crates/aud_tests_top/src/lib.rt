@@ -22,6 +22,8 @@ mod pool;
 #[cfg(test)]
 mod running;
 #[cfg(test)]
+mod searching;
+#[cfg(test)]
 mod threads;
 #[cfg(test)]
 mod words;

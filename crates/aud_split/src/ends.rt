@@ -1,0 +1,86 @@
+//! What the workers of a pool leave, as lists by their numbers.
+
+ghost use Rattle.std.specs.Prelude.{◌≡◌, ◌<◌, ◌≤◌, ◌+◌, ◌++◌, ◌∷◌, [], length, map, IfOk, vec_len, vec_capacity, if◌then◌else◌};
+ghost use Rattle.aud_pool.specs.Workers.{all_drawn};
+ghost use Rattle.aud_split.specs.Ends.{numbered, failures};
+ghost use Rattle.aud_split.specs.declared.fault.PoolFault.TheVariants.{OutOfMemory as WantOfMemory};
+
+use crate::fault::PoolFault;
+use aud_event::OutOfMemory;
+use aud_pool::WorkerEnd;
+use std::alloc::Global;
+
+/// Lists for what the workers leave: their seats, the tasks that they drew and their faults, with the workers' numbers.
+#[derive(Drop)]
+pub(crate) struct Lists<T, S> {
+    pub seats: Vec<S>,
+    pub drawn: Vec<(u32, T)>,
+    pub faults: Vec<(u32, PoolFault)>,
+}
+
+/// Empty lists with room for so many workers and tasks.
+pub(crate) fn make_lists<T: Drop, S: Drop>(
+    alloc: Global,
+    workers: usize,
+    tasks: usize,
+) -> Result<Lists<T, S>, OutOfMemory>
+    ensures empty { IfOk result (λ r. (r.seats.items ≡ []) × (r.drawn.items ≡ []) × (r.faults.items ≡ [])) }
+    ensures room { IfOk result (λ r. (workers ≤ vec_capacity r.seats) × (workers ≤ vec_capacity r.faults) × (tasks ≤ vec_capacity r.drawn)) }
+{
+    Ok(Lists {
+        seats: Vec::with_capacity(alloc, workers)?,
+        drawn: Vec::with_capacity(alloc, tasks)?,
+        faults: Vec::with_capacity(alloc, workers)?,
+    })
+}
+
+// Notes each task beside its worker's number.
+fn note_all<T: Drop>(worker: u32, tasks: Vec<T>, drawn: &mut Vec<(u32, T)>)
+    requires { vec_len drawn.old + vec_len tasks ≤ vec_capacity drawn.old }
+    ensures noted { drawn.new.items ≡ drawn.old.items ++ map (λ t. (worker, t)) tasks.items }
+    ensures room { vec_capacity drawn.old ≤ vec_capacity drawn.new }
+{
+    for task in tasks {
+        let Ok(()) = drawn.push((worker, task)) else {
+            unreachable!()
+        };
+    }
+}
+
+// Notes a worker that failed.
+fn note_fault(worker: u32, failed: bool, faults: &mut Vec<(u32, PoolFault)>)
+    requires { vec_len faults.old < vec_capacity faults.old }
+    ensures noted { faults.new.items ≡ faults.old.items ++ (if failed then (worker, WantOfMemory) ∷ [] else []) }
+    ensures room { vec_capacity faults.old ≤ vec_capacity faults.new }
+{
+    if failed {
+        let Ok(()) = faults.push((worker, PoolFault::OutOfMemory)) else {
+            unreachable!()
+        };
+    }
+}
+
+/// Takes apart what all workers leave. It does not allocate.
+pub(crate) fn take_apart<T: Drop, S: Drop>(workers: Vec<WorkerEnd<T, S>>, lists: &mut Lists<T, S>)
+    requires few { vec_len workers < 1024 }
+    requires empty { (lists.old.seats.items ≡ []) × (lists.old.drawn.items ≡ []) × (lists.old.faults.items ≡ []) }
+    requires room { (vec_len workers ≤ vec_capacity lists.old.seats) × (vec_len workers ≤ vec_capacity lists.old.faults) × (length (all_drawn workers.items) ≤ vec_capacity lists.old.drawn) }
+    ensures seats { lists.new.seats.items ≡ map (λ w. w.seat) workers.items }
+    ensures drawn { lists.new.drawn.items ≡ numbered 0 workers.items }
+    ensures faults { lists.new.faults.items ≡ failures 0 workers.items }
+{
+    let mut number = 0u32;
+    for worker in workers {
+        let WorkerEnd {
+            seat,
+            drawn,
+            failed,
+        } = worker;
+        let Ok(()) = lists.seats.push(seat) else {
+            unreachable!()
+        };
+        note_all(number, drawn, &mut lists.drawn);
+        note_fault(number, failed, &mut lists.faults);
+        number += 1;
+    }
+}

@@ -1,0 +1,92 @@
+//! The search below one task, by a worker with a pass of a node.
+
+ghost use Rattle.std.specs.Prelude.{◌≡◌, IfOk, OnOk};
+ghost use Rattle.aud_order.specs.Shapes.{plan_of};
+ghost use Rattle.aud_node.specs.Meanings.{IsAt};
+ghost use Rattle.aud_split.specs.Pools.{HasSearched, IsFound, IsSettled};
+
+use aud_event::{Dup, OutOfMemory};
+use aud_know::{Finding, Item};
+use aud_node::{Fleet, OfferFault, Pass, Running};
+use aud_order::Shape;
+use aud_pool::Work;
+use aud_search::{Outcome, explore};
+use aud_witness::Prefix;
+use std::alloc::Global;
+use std::sync::{Arc, Wait};
+
+/// What the search below the task finds of the shape's history: that the task is refuted, or an order that shows the history;
+/// nothing where the budget is spent before either is found.
+fn find(
+    alloc: Global,
+    shape: &Arc<Shape>,
+    task: &Prefix,
+    budget: u64,
+) -> Result<Option<Finding>, OutOfMemory>
+    ensures { IfOk result (IsFound shape.now.value budget task.now) }
+{
+    match explore(alloc, shape, task, budget)? {
+        Outcome::Refuted => {
+            let shared = Arc::try_clone(shape)?;
+            let list = task.dup()?;
+            Ok(Some(Finding::refuted(shared, list)))
+        }
+        Outcome::Witness(order) => {
+            let shared = Arc::try_clone(shape)?;
+            Ok(Some(Finding::witness(shared, order)))
+        }
+        Outcome::Spent => Ok(None),
+    }
+}
+
+/// The search below tasks of one history, for a node of its plan.
+#[derive(Drop)]
+pub(crate) struct Explorer<'a, J: Fleet, S: Wait + Drop> {
+    pub alloc: Global,
+    pub node: &'a Running<J, S>,
+    pub shape: Arc<Shape>,
+    pub budget: u64,
+}
+
+impl<'a, J: Fleet, S: Wait + Drop> Work<Prefix, Pass<J>> for Explorer<'a, J, S> {
+    ghost use Rattle.std.specs.Prelude.{◌≡◌};
+    ghost use Rattle.aud_order.specs.Shapes.{plan_of};
+    ghost use Rattle.aud_node.specs.Meanings.{IsAt};
+    ghost use Rattle.aud_split.specs.Pools.{HasSearched, IsSettled};
+    ghost use Rattle.aud_split.specs.Settling.{settled_later, still_at, searched_itself, searched_onward};
+
+    ghost may_work = { λ w pass. IsAt w.node.now pass × (plan_of w.shape.value ≡ w.node.now.plan) };
+
+    ghost done = { λ w pass task. IsSettled w.shape.value w.budget pass.view task };
+
+    ghost grows = { λ w old new. HasSearched w.shape.value old new };
+
+    // A task that the node knows to be refuted is not searched.
+    fn work<R: Wait>(&self, rt: &R, pass: &mut Pass<J>, task: &Prefix) -> Result<(), OutOfMemory> {
+        let Ok(is_known) = self.node.knows(pass, task) else {
+            unreachable!()
+        };
+        if is_known {
+            return Ok(());
+        }
+        let Some(finding) = find(self.alloc, &self.shape, task, self.budget)? else {
+            return Ok(());
+        };
+        match self
+            .node
+            .offer(rt, self.alloc, pass, Item::Finding(finding))
+        {
+            Ok(()) => Ok(()),
+            Err((_, OfferFault::OutOfMemory)) => Err(OutOfMemory),
+            Err(_) => unreachable!(),
+        }
+    }
+
+    ghost stays = { λ w old new task on settled. settled_later w.shape.value w.budget old.view new.view task on.view settled };
+
+    ghost still_may_work = { λ w old new on may. (still_at w.shape.value w.node.now old new on may.0, may.1) };
+
+    ghost grows_from_itself = { λ w pass. searched_itself w.shape.value pass };
+
+    ghost grows_onward = { λ w one two three first second. searched_onward w.shape.value one two three first second };
+}
