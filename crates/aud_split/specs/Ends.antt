@@ -1,5 +1,5 @@
 -- What the workers of a pool leave, as lists by their numbers.
-use Rattle.std.specs.Prelude.{◌≡◌, ◌≤◌, ℕ, ◌+◌, ◌++◌, ◌==◌, Bool, true, false, List, [], ◌∷◌, map, filter, cond}
+use Rattle.std.specs.Prelude.{◌≡◌, ◌≤◌, ℕ, ◌+◌, ◌++◌, ◌==◌, Bool, List, [], ◌∷◌, map, filter, cond}
 use Rattle.std.specs.List.{list_any}
 use Rattle.aud_pool.specs.declared.worker.WorkerEnd.{WorkerEnd}
 use Rattle.aud_split.specs.declared.fault.PoolFault.{PoolFault}
