@@ -22,7 +22,7 @@ module _ {T : Type 0} where
   tasks_in (None ∷ xs) = tasks_in xs
   tasks_in (Some x ∷ xs) = x ∷ tasks_in xs
 
-  -- no task stands behind a mark
+  -- no task stands after a mark
   abbrev pub MarksLast : List (Option T) → Type 0
   MarksLast [] = Unit {0}
   MarksLast (None ∷ xs) = tasks_in xs ≡ []

@@ -14,7 +14,7 @@ use Rattle.aud_pool.specs.Rule.{tally, either_stopped}
 abbrev pub IsCrew : ℕ → Type 0
 IsCrew count = (1 ≤ count) × (count ≤ 16)
 
--- why a pool of so many workers does not begin; want of memory is answered only of one that might
+-- why a pool of so many workers does not begin; out of memory is answered only of one that might
 abbrev pub IsRefusal : ℕ → Refusal → Type 0
 IsRefusal count refusal.NoWorkers = count ≡ 0
 IsRefusal count refusal.TooManyWorkers = 16 < count

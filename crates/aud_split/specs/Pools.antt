@@ -78,7 +78,7 @@ AreSettled s budget passes faults drawn =
 abbrev pub MayRun : NodeOf → List PassOf → ShapeOf → Type 0
 MayRun n passes s = IsCrew (length passes) × (plan_of s ≡ n.plan) × AreAt n.number passes
 
--- why a pool does not begin: the first in this order; want of memory is answered only of one that might, and that a thread is
+-- why a pool does not begin: the first in this order; out of memory is answered only of one that might, and that a thread is
 -- missing never
 abbrev pub IsPoolFault : NodeOf → List PassOf → ShapeOf → PoolFault → Type 0
 IsPoolFault n passes s fault.NoWorkers = length passes ≡ 0
