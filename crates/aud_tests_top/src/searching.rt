@@ -251,3 +251,37 @@ fn a_pool_has_1_to_16_passes_and_one_plan(rt: HostRuntime) -> Result<(), Fail> {
     }
     Ok(())
 }
+
+/// What a node refuses a pool for whose second pass is of another node.
+fn refused_between<J: Fleet + Send + Sync, R: Threads + Wait + Sync>(
+    rt: &R,
+    alloc: Global,
+    opened: (Opened, Opened),
+    plans: (Plan, Plan),
+    search: Search,
+) -> Refused
+    requires named { opened.0.book ≡ J.book opened.0.number }
+    requires planned { plans.0 ≡ J.plan opened.0.number }
+    requires other_named { opened.1.book ≡ J.book opened.1.number }
+    requires other_planned { plans.1 ≡ J.plan opened.1.number }
+{
+    let (one, other) = opened;
+    let (plan, other_plan) = plans;
+    let (node, mut passes) = Running::<J, &R>::start(rt, alloc, one, plan, 1).ok()?;
+    let (_other, mut strange) = Running::<J, &R>::start(rt, alloc, other, other_plan, 1).ok()?;
+    passes.push(strange.pop()?).ok()?;
+    refused_by(rt, alloc, &node, passes, search)
+}
+
+#[test]
+fn a_pool_has_passes_of_its_node_alone(rt: HostRuntime) -> Result<(), Fail> {
+    let alloc = rt.alloc();
+    let run = facts_of(alloc, TORN_READ)?;
+    let plans = (plan_of(alloc, &run)?, plan_of(alloc, &run)?);
+    let opened = (Opened::new(0), Opened::new(1));
+    let search = split_of(alloc, &run, 100)?;
+    let search = search.ok_or("well-formed")?;
+    let said = refused_between::<Brand, _>(&rt, alloc, opened, plans, search);
+    assert!(rt; said == Some((PoolFault::WrongNode, 2)));
+    Ok(())
+}
