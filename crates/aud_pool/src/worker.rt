@@ -107,7 +107,7 @@ fn work_all<
     thread::for_each_mut(rt, members, count, &each);
 }
 
-/// Has all workers work through the queue. It does not allocate of its own and starts a thread for each worker where it can.
+/// Has all workers work through the queue. It does not allocate, and starts a thread for each worker where it can.
 pub(crate) fn work_crew<
     T: Drop + Send,
     S: Send,

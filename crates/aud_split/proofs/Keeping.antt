@@ -1,14 +1,13 @@
 -- What was taken of a refuted beginning and of a witness stays.
 use Rattle.std.specs.Prelude.{◌≡◌, List, ◌++◌, Option, Some, None, refl}
-use Rattle.std.specs.List.{Contains}
-use Rattle.std.proofs.Common.{sym, ◌∙◌, subst}
+use Rattle.std.proofs.Common.{◌∙◌, subst}
 use Rattle.aud_event.specs.Exactness.{fact_exact}
 use Rattle.aud_lattice.specs.Covers.{begins}
 use Rattle.aud_lattice.specs.Strict.{some_passes, one_passes}
 use Rattle.aud_witness.specs.declared.decision.Decision.{Decision}
 use Rattle.aud_witness.specs.DecisionOrder.{decision_cmp, decisions_total, decision_exact}
 use Rattle.aud_cover.specs.Closings.{IsCovered}
-use Rattle.aud_know.specs.Norms.{refuted, refuted_of}
+use Rattle.aud_know.specs.Norms.{refuted_of}
 use Rattle.aud_know.specs.Known.{KnownAtom, norm_of}
 use Rattle.aud_know.specs.Members.{IsLeastShown}
 use Rattle.aud_know.proofs.Keeping.{fact_total}

@@ -5,3 +5,4 @@ pub mod Searched
 pub mod Numbers
 pub mod Settling
 pub mod Crosses
+pub mod Pooled

@@ -1,25 +1,20 @@
 -- What an offer settles, and what a reading and an offer do to a pass.
-use Rattle.std.specs.Prelude.{◌≡◌, ◌⊎◌, ℕ, ◌+◌, ◌++◌, List, [], ◌∷◌, length, All, refl}
+use Rattle.std.specs.Prelude.{◌≡◌, ℕ, ◌+◌, ◌++◌, List, [], ◌∷◌, refl}
 use Rattle.std.specs.List.{Contains}
-use Rattle.std.specs.declared.alloc.Global.{Global}
-use Rattle.std.proofs.Common.{sym, ◌∙◌, ap, subst, inl, inr, arith, append_assoc, length-append}
+use Rattle.std.proofs.Common.{sym, ◌∙◌, ap, subst, inl, inr, arith, append_assoc}
 use Rattle.std.proofs.lemmas.List.{append-nil}
-use Rattle.std.proofs.lemmas.List.Elements.{All-nil, All-cons, All-append, Contains-append_left, Contains-append_right}
-use mathlib.Core.List.{IsPrefix}
+use Rattle.std.proofs.lemmas.List.Elements.{All-nil, All-cons, Contains-append_right}
 use Rattle.aud_event.specs.Meanings.{PlanOf}
 use Rattle.aud_witness.specs.declared.decision.Decision.{Decision}
 use Rattle.aud_order.specs.Shapes.{ShapeOf}
-use Rattle.aud_know.specs.Norms.{refuted, shown}
 use Rattle.aud_know.specs.Known.{KnownAtom}
 use Rattle.aud_know.specs.Findings.{FindingOf, found}
-use Rattle.aud_know.specs.declared.item.Item.{Item}
 use Rattle.aud_know.specs.declared.item.Item.TheVariants as item
 use Rattle.aud_node.specs.Logs.{Entry, atoms_in, IsKnownIn, Offered}
 use Rattle.aud_node.specs.Meanings.{PassOf, GoesOn, mine}
-use Rattle.aud_node.proofs.Own.{atoms-append, atoms_snoc}
-use Rattle.aud_split.specs.Searched.{IsRefutedBy}
+use Rattle.aud_node.proofs.Own.{atoms_snoc}
 use Rattle.aud_split.proofs.Keeping.{known_kept}
-use Rattle.aud_split.specs.Pools.{SaysOf, HasWitnessFrom, IsFindingOf, IsSettled, HasSearched}
+use Rattle.aud_split.specs.Pools.{SaysOf, IsFindingOf, IsSettled, HasSearched}
 
 -- what the node knows to be refuted is settled
 pub known_settles : (s : ShapeOf) (budget : ℕ) (plan : PlanOf) (view : List Entry) (t : List Decision) → IsKnownIn plan view t → IsSettled s budget view t

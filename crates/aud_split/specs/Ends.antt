@@ -1,5 +1,5 @@
 -- What the workers of a pool leave, as lists by their numbers.
-use Rattle.std.specs.Prelude.{◌≡◌, ◌≤◌, ℕ, ◌+◌, ◌++◌, ◌==◌, Bool, true, false, List, [], ◌∷◌, map, filter, cond}
+use Rattle.std.specs.Prelude.{◌≡◌, ◌≤◌, ℕ, ◌+◌, ◌++◌, ◌==◌, Bool, List, [], ◌∷◌, map, filter, cond}
 use Rattle.std.specs.List.{list_any}
 use Rattle.aud_pool.specs.declared.worker.WorkerEnd.{WorkerEnd}
 use Rattle.aud_split.specs.declared.fault.PoolFault.{PoolFault}
@@ -13,7 +13,7 @@ drawn_by {T} w drawn = map (λ (p : ℕ × T). p.1) (filter (λ (p : ℕ × T). 
 abbrev pub faulted : ℕ → List (ℕ × PoolFault) → Bool
 faulted w faults = list_any (λ (f : ℕ × PoolFault). f.0 == w) faults
 
--- faults of workers from the number n to below the count, each at most once and in their order; each is a out of memory
+-- faults of workers from the number n to below the count, each at most once and in their order; each is out of memory
 abbrev pub AreFaults : ℕ → ℕ → List (ℕ × PoolFault) → Type 0
 AreFaults n count [] = n ≤ count
 AreFaults n count (f ∷ fs) = (n ≤ f.0) × (f.1 ≡ OutOfMemory) × AreFaults (f.0 + 1) count fs
@@ -24,7 +24,7 @@ module _ {T S : Type 0} where
   numbered n [] = []
   numbered n (e ∷ es) = map (λ (t : T). (n, t)) e.drawn.items ++ numbered (n + 1) es
 
-  -- a out of memory for each worker that failed, where the first worker has the number n
+  -- out of memory for each worker that failed, where the first worker has the number n
   abbrev pub failures : ℕ → List (WorkerEnd T S) → List (ℕ × PoolFault)
   failures n [] = []
   failures n (e ∷ es) = cond e.failed ((n, OutOfMemory) ∷ failures (n + 1) es) (failures (n + 1) es)

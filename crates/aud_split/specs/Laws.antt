@@ -1,5 +1,6 @@
 -- Laws of the definitions, each the contract of a function of src/laws.rt.
-use Rattle.std.specs.Prelude.{◌≡◌, ◌↔◌, ◌⊎◌, ℕ, List}
+use Rattle.std.specs.Prelude.{◌≡◌, ◌↔◌, ◌⊎◌, ◌<◌, ◌++◌, ℕ, true, List, [], length, map, All}
+use Rattle.std.specs.List.Sorted.{IsPermutation}
 use Rattle.std.specs.List.{Contains}
 use Rattle.aud_event.specs.Meanings.{Declared}
 use Rattle.aud_history.specs.Histories.{History}
@@ -10,7 +11,12 @@ use Rattle.aud_know.specs.Known.{KnownAtom, norm_of, KnowledgeOf}
 use Rattle.aud_know.specs.Verdicts.{IsVerdict}
 use Rattle.aud_know.specs.declared.verdict.Verdict.{Verdict}
 use Rattle.aud_split.specs.Tasks.{AreTasks}
-use Rattle.aud_split.specs.Searched.{IsRefutedBy, HasShown, HasWitness, IsSearched, Says, IsUnsealed}
+use Rattle.aud_order.specs.Shapes.{ShapeOf, objects_of, history_of}
+use Rattle.aud_node.specs.Logs.{atoms_in}
+use Rattle.aud_node.specs.Meanings.{PassOf}
+use Rattle.aud_split.specs.Searched.{IsRefutedBy, HasShown, HasWitness, IsEndedBy, IsSearched, Says, IsUnsealed}
+use Rattle.aud_split.specs.Ends.{faulted}
+use Rattle.aud_split.specs.Pools.{AreSettled}
 
 -- a cover that has a beginning of each task below a list closes the list
 abbrev pub TasksClose : Type 0
@@ -34,3 +40,10 @@ SearchIsSaid X =
     (k : KnowledgeOf) (atoms : List KnownAtom) (s : SealedOf) (depth budget : ℕ) (tasks : List (List Decision)) (v : Verdict X) →
     IsSearched k atoms s depth budget tasks → IsVerdict k v →
     IsUnsealed v ⊎ ((k.held.facts ≡ s.facts.facts) × Says s.facts.plan.objects s.history budget tasks v)
+
+-- where a pool with a worker met no fault, each task ended by what one of its passes has seen
+abbrev pub PoolEndsAll : Type 0
+PoolEndsAll =
+    (s : ShapeOf) (budget : ℕ) (tasks left : List (List Decision)) (passes : List PassOf) (drawn : List (ℕ × List Decision)) → 0 < length passes →
+    IsPermutation tasks (map (λ d. d.1) drawn ++ left) → (left ≡ []) ⊎ ((w : ℕ) → w < length passes → faulted w [] ≡ true) → All (λ d. d.0 < length passes) drawn → AreSettled s budget passes [] drawn →
+    (t : List Decision) → Contains tasks t → (p : PassOf) × (Contains passes p × IsEndedBy (atoms_in p.view) (objects_of s) (history_of s) budget t)

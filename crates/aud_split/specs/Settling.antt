@@ -1,23 +1,18 @@
 -- What is settled stays so, and later passes follow one another: the laws of the search as the work of a pool.
-use Rattle.std.specs.Prelude.{◌≡◌, ◌⊎◌, ℕ, ◌+◌, ◌++◌, List, [], ◌∷◌, length, All, refl}
+use Rattle.std.specs.Prelude.{ℕ, ◌++◌, List, [], refl}
 use Rattle.std.specs.List.{Contains}
-use Rattle.std.specs.declared.alloc.Global.{Global}
 use Rattle.std.proofs.Common.{sym, ◌∙◌, ap, subst, inl, inr, arith, append_assoc, length-append}
 use Rattle.std.proofs.lemmas.List.{append-nil}
-use Rattle.std.proofs.lemmas.List.Elements.{All-nil, All-cons, All-append, Contains-append_left, Contains-append_right}
+use Rattle.std.proofs.lemmas.List.Elements.{All-nil, All-append, Contains-append_left}
 use mathlib.Core.List.{IsPrefix}
 use Rattle.aud_witness.specs.declared.decision.Decision.{Decision}
 use Rattle.aud_order.specs.Shapes.{ShapeOf}
 use Rattle.aud_know.specs.Norms.{refuted, shown}
 use Rattle.aud_know.specs.Known.{KnownAtom}
-use Rattle.aud_know.specs.Findings.{FindingOf, found}
-use Rattle.aud_know.specs.declared.item.Item.{Item}
-use Rattle.aud_know.specs.declared.item.Item.TheVariants as item
-use Rattle.aud_node.specs.Logs.{Entry, atoms_in, Offered}
+use Rattle.aud_node.specs.Logs.{Entry, atoms_in}
 use Rattle.aud_node.specs.Meanings.{NodeOf, PassOf, IsAt, mine}
-use Rattle.aud_node.proofs.Own.{atoms-append, atoms_snoc}
-use Rattle.aud_split.specs.Searched.{IsRefutedBy}
-use Rattle.aud_split.specs.Pools.{SaysOf, HasWitnessFrom, IsFindingOf, IsSettled, HasSearched}
+use Rattle.aud_node.proofs.Own.{atoms-append}
+use Rattle.aud_split.specs.Pools.{IsFindingOf, IsSettled, HasSearched}
 
 pub settled_later : (s : ShapeOf) (budget : ℕ) (v w : List Entry) (t : List Decision) → IsPrefix v w → IsSettled s budget v t → IsSettled s budget w t
 settled_later s budget v w t p settled =

@@ -3,7 +3,7 @@
 ghost use Rattle.std.specs.Prelude.{◌≡◌, ◌<◌, ◌≤◌, ◌+◌, ◌++◌, ◌∷◌, [], length, map, IfOk, vec_len, vec_capacity, if◌then◌else◌};
 ghost use Rattle.aud_pool.specs.Workers.{all_drawn};
 ghost use Rattle.aud_split.specs.Ends.{numbered, failures};
-ghost use Rattle.aud_split.specs.declared.fault.PoolFault.TheVariants.{OutOfMemory as WantOfMemory};
+ghost use Rattle.aud_split.specs.declared.fault.PoolFault.TheVariants.{OutOfMemory as Exhausted};
 
 use crate::fault::PoolFault;
 use aud_event::OutOfMemory;
@@ -50,7 +50,7 @@ fn note_all<T: Drop>(worker: u32, tasks: Vec<T>, drawn: &mut Vec<(u32, T)>)
 // Notes a worker that failed.
 fn note_fault(worker: u32, failed: bool, faults: &mut Vec<(u32, PoolFault)>)
     requires { vec_len faults.old < vec_capacity faults.old }
-    ensures noted { faults.new.items ≡ faults.old.items ++ (if failed then (worker, WantOfMemory) ∷ [] else []) }
+    ensures noted { faults.new.items ≡ faults.old.items ++ (if failed then (worker, Exhausted) ∷ [] else []) }
     ensures room { vec_capacity faults.old ≤ vec_capacity faults.new }
 {
     if failed {

@@ -1,6 +1,6 @@
 //! Laws of the definitions. Each function does nothing: its contract is the law.
 
-ghost use Rattle.aud_split.specs.Laws.{TasksClose, KnownIsKept, SearchIsSaid};
+ghost use Rattle.aud_split.specs.Laws.{TasksClose, KnownIsKept, PoolEndsAll, SearchIsSaid};
 
 use std::alloc::Allocator;
 
@@ -20,4 +20,9 @@ pub fn known_is_kept()
 /// shows the history; or NotOpaque, and none shows it; or Unfinished, each task is refuted or spent, and one is spent.
 pub fn search_is_said<A: Allocator>()
     ensures { SearchIsSaid A }
+{}
+
+/// Where a pool that has a worker met no fault, each of its tasks ended by what one of its passes has seen.
+pub fn pool_ends_all()
+    ensures { PoolEndsAll }
 {}

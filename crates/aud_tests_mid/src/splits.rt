@@ -3,7 +3,7 @@
 use crate::cover::are;
 use crate::fixtures::{order, shape_of};
 use aud_order::Shape;
-use aud_split::laws::{known_is_kept, search_is_said, tasks_close};
+use aud_split::laws::{known_is_kept, pool_ends_all, search_is_said, tasks_close};
 use aud_split::split;
 use aud_worked::{NOTHING_HAPPENED, PENDING_COMMIT_IS_UNSEEN, TORN_READ_THEN_ABORT, Unread};
 use std::alloc::{Allocator, Global};
@@ -63,6 +63,7 @@ fn prefixes_are_split(rt: HostRuntime) -> Result<(), Fail> {
 #[test]
 fn the_laws_are_called() {
     tasks_close();
+    pool_ends_all();
     known_is_kept();
     search_is_said::<Global>();
 }

@@ -95,15 +95,15 @@ fn split_of(alloc: Global, run: &Facts, budget: u64) -> Result<Option<Search>, U
 
 /// How many tasks were drawn and left, how many faults there were, what is known at the end, and how many findings were
 /// offered.
-type Told = (usize, usize, usize, Judgement, usize);
+type Summary = (usize, usize, usize, Judgement, usize);
 
 /// Closes the node by the passes of the pool and the one that it did not have.
-fn told_of<J: Fleet, R: Wait>(
+fn summary_of<J: Fleet, R: Wait>(
     rt: &R,
     node: Running<J, &R>,
     keeper: Pass<J>,
     end: PoolEnd<J>,
-) -> Option<Told> {
+) -> Option<Summary> {
     let PoolEnd {
         mut passes,
         drawn,
@@ -118,7 +118,7 @@ fn told_of<J: Fleet, R: Wait>(
 }
 
 /// What a node says for which so many workers searched.
-fn told<J: Fleet + Send + Sync, G: Gate<Prefix> + Sync, R: Threads + Wait + Sync>(
+fn searched<J: Fleet + Send + Sync, G: Gate<Prefix> + Sync, R: Threads + Wait + Sync>(
     rt: &R,
     alloc: Global,
     opened: Opened,
@@ -126,7 +126,7 @@ fn told<J: Fleet + Send + Sync, G: Gate<Prefix> + Sync, R: Threads + Wait + Sync
     workers: u32,
     search: Search,
     gate: &G,
-) -> Option<Told>
+) -> Option<Summary>
     requires named { opened.book ≡ J.book opened.number }
     requires planned { plan ≡ J.plan opened.number }
     requires few { workers < 32 }
@@ -140,7 +140,7 @@ fn told<J: Fleet + Send + Sync, G: Gate<Prefix> + Sync, R: Threads + Wait + Sync
         budget,
     } = search;
     let end = run_pool(rt, alloc, &node, passes, shape, tasks, budget, gate);
-    told_of(rt, node, keeper, end.ok()?)
+    summary_of(rt, node, keeper, end.ok()?)
 }
 
 #[test]
@@ -155,7 +155,7 @@ fn two_workers_search_at_once(rt: HostRuntime) -> Result<(), Fail> {
         let plan = plan_of(alloc, &run)?;
         let search = search_of(alloc, &run, &["1a", "2c"], 100)?;
         let search = search.ok_or("well-formed")?;
-        let said = told::<Brand, _, _>(&rt, alloc, Opened::new(0), plan, 2, search, &gate);
+        let said = searched::<Brand, _, _>(&rt, alloc, Opened::new(0), plan, 2, search, &gate);
         assert!(rt; said == Some((2, 0, 0, Judgement::Opaque, 2)));
         assert_eq!(rt; gate.here.load(Ordering::SeqCst), 2);
         assert_eq!(rt; gate.alone.load(Ordering::SeqCst), 0);
@@ -163,8 +163,8 @@ fn two_workers_search_at_once(rt: HostRuntime) -> Result<(), Fail> {
     Ok(())
 }
 
-/// A run, the budget of a task, and what is said after its tasks at a depth of two.
-type Row = (&'static str, u64, Told);
+/// A run, the budget of a task, and what is known after its tasks at a depth of two.
+type Row = (&'static str, u64, Summary);
 
 const ROWS: [Row; 5] = [
     (TORN_READ, 100, (1, 0, 0, Judgement::NotOpaque, 1)),
@@ -183,7 +183,7 @@ fn what_a_pool_found_is_known(rt: HostRuntime) -> Result<(), Fail> {
             let plan = plan_of(alloc, &run)?;
             let search = split_of(alloc, &run, budget)?;
             let search = search.ok_or("well-formed")?;
-            let said = told::<Brand, _, _>(
+            let said = searched::<Brand, _, _>(
                 &rt,
                 alloc,
                 Opened::new(0),
@@ -257,5 +257,39 @@ fn a_pool_has_1_to_16_passes_and_one_plan(rt: HostRuntime) -> Result<(), Fail> {
         let said = refused::<Brand, _>(&rt, alloc, Opened::new(0), plan, workers, search);
         assert!(rt; said == Some((fault, workers as usize)));
     }
+    Ok(())
+}
+
+/// What a node refuses a pool for whose second pass is of another node.
+fn refused_between<J: Fleet + Send + Sync, R: Threads + Wait + Sync>(
+    rt: &R,
+    alloc: Global,
+    opened: (Opened, Opened),
+    plans: (Plan, Plan),
+    search: Search,
+) -> Refused
+    requires named { opened.0.book ≡ J.book opened.0.number }
+    requires planned { plans.0 ≡ J.plan opened.0.number }
+    requires other_named { opened.1.book ≡ J.book opened.1.number }
+    requires other_planned { plans.1 ≡ J.plan opened.1.number }
+{
+    let (one, other) = opened;
+    let (plan, other_plan) = plans;
+    let (node, mut passes) = Running::<J, &R>::start(rt, alloc, one, plan, 1).ok()?;
+    let (_other, mut strange) = Running::<J, &R>::start(rt, alloc, other, other_plan, 1).ok()?;
+    passes.push(strange.pop()?).ok()?;
+    refused_by(rt, alloc, &node, passes, search)
+}
+
+#[test]
+fn a_pool_has_passes_of_its_node_alone(rt: HostRuntime) -> Result<(), Fail> {
+    let alloc = rt.alloc();
+    let run = facts_of(alloc, TORN_READ)?;
+    let plans = (plan_of(alloc, &run)?, plan_of(alloc, &run)?);
+    let opened = (Opened::new(0), Opened::new(1));
+    let search = split_of(alloc, &run, 100)?;
+    let search = search.ok_or("well-formed")?;
+    let said = refused_between::<Brand, _>(&rt, alloc, opened, plans, search);
+    assert!(rt; said == Some((PoolFault::WrongNode, 2)));
     Ok(())
 }

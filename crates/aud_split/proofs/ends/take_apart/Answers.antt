@@ -1,7 +1,7 @@
-use Rattle.std.proofs.Common.{arith, ap, sym, refl, subst, ◌∙◌, ◌≡◌, ◌<◌, ◌≤◌, ◌+◌, ◌++◌, ◌∷◌, [], ℕ, length, length-append, vec_len, vec_capacity, map, take, get_or, cond}
+use Rattle.std.proofs.Common.{arith, ap, sym, ◌∙◌, ◌≡◌, ◌+◌, ◌++◌, ◌∷◌, [], length, vec_len, map, take, cond}
 use Rattle.std.proofs.lemmas.Iterator.Consumers.{YieldsList-turn, YieldsList-so_far}
 use Rattle.std.proofs.lemmas.Iterator.Adapters.{YieldsList-from_vec}
-use Rattle.std.proofs.lemmas.List.{map-append, length_push, length-map}
+use Rattle.std.proofs.lemmas.List.{map-append, length_push}
 use Rattle.aud_split.specs.declared.fault.PoolFault.TheVariants.{OutOfMemory}
 use Rattle.aud_pool.specs.Workers.{all_drawn}
 use Rattle.aud_split.specs.Ends.{numbered, failures}

@@ -1,4 +1,4 @@
-use Rattle.std.proofs.Common.{◌≡◌, ◌≤◌, ◌+◌, ◌++◌, map, length, vec_len, vec_capacity}
+use Rattle.std.proofs.Common.{◌≡◌, ◌≤◌, map, length, vec_capacity}
 use Rattle.aud_split.specs.Ends.{numbered, failures}
 use Rattle.aud_split.proofs.ends.take_apart.Given as goal
 

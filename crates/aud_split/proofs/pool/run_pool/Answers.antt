@@ -8,7 +8,7 @@ use Rattle.aud_node.specs.Meanings.{PassOf}
 use Rattle.aud_node.proofs.Crosses.{pass_send}
 use Rattle.aud_pool.specs.Workers.{all_drawn, AreWorked}
 use Rattle.aud_split.specs.declared.fault.PoolFault.{PoolFault}
-use Rattle.aud_split.specs.Ends.{numbered, failures, faulted, drawn_by, AreFaults}
+use Rattle.aud_split.specs.Ends.{failures, faulted, drawn_by, AreFaults}
 use Rattle.aud_split.specs.Pools.{IsSettled, HasSearched, HaveSearched, MayRun}
 use Rattle.aud_split.proofs.Crosses.{explorer_sync}
 use Rattle.aud_split.proofs.Numbers.{all_tasks, numbers_below, all_faulted, answered_of, grown_of, grown_length, faults_of}

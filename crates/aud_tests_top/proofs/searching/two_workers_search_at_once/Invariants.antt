@@ -1,5 +1,5 @@
 use Rattle.aud_tests_top.proofs.searching.two_workers_search_at_once.Given as goal
 
 -- the history that was just opened, and its plan
-abbrev pub ghosts-told : goal.ghosts-told
-ghosts-told g a = record { book = λ _. a.opened.book; plan = λ _. a.plan }
+abbrev pub ghosts-searched : goal.ghosts-searched
+ghosts-searched g a = record { book = λ _. a.opened.book; plan = λ _. a.plan }
