@@ -6,8 +6,8 @@ Full size is 64 logs, 1,024 transactions of 254 records and 256 objects, 64 of e
 transactions run at a time, and they take effect in the order of their ends, of their beginnings, or of a point drawn between.
 Where a read is spoiled, a read of a register near the end answers a value that was there before. `opaq check` runs on the same
 input, with the order of the effects, to compare. The small inputs have all invocations before any other event. The recorded runs
-are those of `examples/runs`. Each is run three times, and the least time and the most memory are told. The same numbers come with
-each run."""
+are those of `examples/runs`. Each is run three times, and the least processor time and the
+most memory are printed: other work on the machine changes the clock more than that. The same numbers come with each run."""
 
 import glob
 import json
@@ -17,7 +17,6 @@ import resource
 import subprocess
 import sys
 import tempfile
-import time
 
 OPERATIONS = 126
 KINDS = ["register", "counter", "set", "queue"]
@@ -148,17 +147,16 @@ def small():
 
 
 def timed(words, text, wanted, runs=3):
-    """The least time of some runs, in milliseconds, and the most memory so far, in megabytes."""
+    """The least processor time of some runs, in milliseconds, and the most memory so far, in megabytes."""
     best = None
     with tempfile.TemporaryFile() as file:
         file.write(text.encode())
         for _ in range(runs):
             file.seek(0)
-            began = time.perf_counter()
             child = subprocess.Popen(words, stdin=file, stdout=subprocess.PIPE)
             told = child.stdout.read().decode()
             _, _, used = os.wait4(child.pid, 0)
-            spent = 1000 * (time.perf_counter() - began)
+            spent = 1000 * (used.ru_utime + used.ru_stime)
             if not told.startswith(wanted):
                 sys.exit(f"{words[:2]}: {told[:100]}, wanted {wanted}")
             if best is None or spent < best[0]:

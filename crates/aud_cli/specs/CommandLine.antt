@@ -17,9 +17,9 @@ check_app = with_rule (new_app (codes "check")) (needed_rule (codes "order"))
 abbrev pub decide_app : App
 decide_app = with_rule (new_app (codes "decide")) (value_rule (codes "budget"))
 
--- a word must follow the program's name
+-- a word must follow the program's name; `--version` may
 abbrev pub bare_app : App
-bare_app = record (new_app (codes "opaq")) { top = record (new_app (codes "opaq")).top { arg_required_else_help = true; subcommand_required = true } }
+bare_app = record (new_app (codes "opaq")) { top = record (new_app (codes "opaq")).top { has_version = true; arg_required_else_help = true; subcommand_required = true } }
 
 abbrev pub opaq_app : App
 opaq_app = with_subcommand (with_subcommand bare_app check_app.top) decide_app.top

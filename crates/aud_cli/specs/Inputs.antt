@@ -1,4 +1,4 @@
--- An input: a plan, and the facts of the lines behind it.
+-- An input: a plan, and the facts of the lines after it.
 use Rattle.std.specs.Prelude.{ℕ, List, [], ◌∷◌, Result, Ok, Err, nat_lt, filter}
 use Rattle.aud_event.specs.Meanings.{PlanOf}
 use Rattle.aud_event.specs.declared.fact.Fact.{Fact}
@@ -14,7 +14,7 @@ pub record InputOf : Type 0 where
   pub plan : PlanOf
   pub facts : List Fact
 
--- the lines that are not empty and end behind the first `used` bytes
+-- the lines that are not empty and end after the first `used` bytes
 abbrev pub lines_behind : ℕ → List ℕ → List Filled
 lines_behind used text = filter (λ l. nat_lt used l.ends) (filled_lines text)
 
@@ -26,7 +26,7 @@ told_at n (Ok f) = Ok f
 abbrev pub fact_at : PlanOf → ℕ → List ℕ → Result Fact InputFault
 fact_at plan n line = told_at n (fact_read plan line)
 
--- a line's fact before those of the later lines; of two refused lines the earlier is told
+-- a line's fact before those of the later lines; of two refused lines the earlier is reported
 abbrev pub with_fact : Result Fact InputFault → Result (List Fact) InputFault → Result (List Fact) InputFault
 with_fact (Err e) later = Err e
 with_fact (Ok f) (Err e) = Err e

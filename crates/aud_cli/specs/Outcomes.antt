@@ -9,6 +9,8 @@ use Rattle.aud_report.specs.declared.said.Said.TheVariants as said
 use Rattle.aud_cli.specs.declared.ended.Cause.{Cause}
 use Rattle.aud_cli.specs.declared.ended.Cause.TheVariants.{Memory, Input, Output, Thread}
 use Rattle.aud_cli.specs.declared.ended.Ended.{Ended}
+use Rattle.aud_cli.specs.declared.job.Job.{Job}
+use Rattle.aud_cli.specs.Line.{Line}
 use Rattle.aud_cli.specs.declared.ended.Ended.TheVariants as ended
 
 -- how a run ends that says this verdict
@@ -29,13 +31,17 @@ ended_by (said.OrderTextRefused e) = ended.Refused
 ended_by (said.PlanRefused e) = ended.Refused
 ended_by (said.RecordRefused line e) = ended.Refused
 
+-- the bytes are a line that the job may say of the input, and a job ends so that says it
+abbrev pub IsLine : Job → List ℕ → List ℕ → Ended → Type 0
+IsLine job input line e = (s : Said) × (Line job input s × (line ≡ line_of s) × (ended_by s ≡ e))
+
 -- the exit status of the program
-abbrev pub status_of : Ended → ℕ
-status_of ended.Opaque = 0
-status_of ended.NotOpaque = 1
-status_of ended.Unfinished = 2
-status_of ended.Refused = 3
-status_of (ended.Failed cause) = 4
+abbrev pub exit_status_of : Ended → ℕ
+exit_status_of ended.Opaque = 0
+exit_status_of ended.NotOpaque = 1
+exit_status_of ended.Unfinished = 2
+exit_status_of ended.Refused = 3
+exit_status_of (ended.Failed cause) = 4
 
 -- what is seen of the devices at one moment: how often the source and the sink failed so far, and what the sink holds
 pub record Seen : Type 0 where
@@ -73,9 +79,9 @@ CutBy Output May before after = Cut May before after
 CutBy Thread May before after = ⊥
 
 -- what a run leaves that ends so, where these are the things that it may say
-abbrev pub Outcome : (Said → Type 0) → Seen → Seen → Ended → Type 0
-Outcome May before after ended.Opaque = Whole May before after ended.Opaque
-Outcome May before after ended.NotOpaque = Whole May before after ended.NotOpaque
-Outcome May before after ended.Unfinished = Whole May before after ended.Unfinished
-Outcome May before after ended.Refused = Whole May before after ended.Refused
-Outcome May before after (ended.Failed cause) = CutBy cause May before after
+abbrev pub RunOutcome : (Said → Type 0) → Seen → Seen → Ended → Type 0
+RunOutcome May before after ended.Opaque = Whole May before after ended.Opaque
+RunOutcome May before after ended.NotOpaque = Whole May before after ended.NotOpaque
+RunOutcome May before after ended.Unfinished = Whole May before after ended.Unfinished
+RunOutcome May before after ended.Refused = Whole May before after ended.Refused
+RunOutcome May before after (ended.Failed cause) = CutBy cause May before after

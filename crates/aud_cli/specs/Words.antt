@@ -10,7 +10,7 @@ use Rattle.aud_cli.specs.declared.job.Command.TheVariants.{Lines}
 use Rattle.aud_cli.specs.declared.job.Usage.{Usage}
 use Rattle.aud_cli.specs.declared.job.Usage.TheVariants.{Told, OutOfMemory}
 
--- the text is digits, perhaps behind a plus, and they say the number, which is at most so great
+-- the text is digits, perhaps after a plus, and they say the number, which is at most so great
 abbrev pub IsNumberUpTo : ℕ → Text → ℕ → Type 0
 IsNumberUpTo most t n = IsNumeral 10 (without_leading_plus t) × ((n ≡ digits_value 10 (without_leading_plus t)) × (n ≤ most))
 
@@ -37,7 +37,7 @@ pub record Asked (words : List Text) (command : Command) : Type 0 where
   pub read : subcommand_of opaq_app words ≡ Some (name, rows)
   pub asks : Commands name rows command
 
--- what the user is told
+-- what the user reads
 abbrev pub usage_text : Usage → List ℕ
 usage_text (Told text) = string_bytes text
 usage_text OutOfMemory = codes "opaq: out of memory\n"

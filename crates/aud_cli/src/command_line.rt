@@ -8,18 +8,38 @@ ghost use Rattle.aud_cli.specs.CommandLine.{bare_app, check_app, decide_app, nee
 use clap::{Arg, ArgAction, Command};
 use std::alloc::{AllocError, Global};
 
+/// The version, and the kit whose checker proved this program. `rt version` prints what stands after `with`.
+const VERSION: &str = "0.1.0, proved with rattle-kit-13b logic dac8208d650f15bf";
+
 const ABOUT: &str =
     "Says whether a run of a transactional memory was opaque, from its stamped records";
 
 const AFTER: &str =
-    "Standard input is the plan of the run, then its records, a JSON value a line. One line of output says
-what was found, and the exit status tells it too:
+    r#"Standard input is the plan of the run, then its records, a JSON value a line. One line of output says
+what was found, and so does the exit status:
   0  opaque
   1  not opaque
   2  unfinished
   3  the input, the history or the order is refused; the line says why
-  4  want of memory, or input or output failed; standard error says which
-  64 these words are not understood";
+  4  out of memory, or input or output failed; standard error says which
+  64 these words are not understood, or a text as this one was asked for
+
+Example: transaction 1 writes 1 to x and commits, and after it transaction 2 reads x. The file run.jsonl:
+
+  {"format":1,"logs":1,"objects":1}
+  {"kind":"register","name":"x","open":0}
+  {"arg":1,"at":0,"ev":"inv","log":0,"ob":"x","op":"write","stamp":0,"tx":1}
+  {"ans":"done","at":1,"ev":"ret","log":0,"ob":"x","op":"write","stamp":1,"tx":1}
+  {"at":2,"ev":"tryc","log":0,"stamp":2,"tx":1}
+  {"at":3,"ev":"commit","log":0,"stamp":3,"tx":1}
+  {"at":4,"ev":"inv","log":0,"ob":"x","op":"read","stamp":4,"tx":2}
+  {"ans":1,"at":5,"ev":"ret","log":0,"ob":"x","op":"read","stamp":5,"tx":2}
+  {"at":6,"ev":"tryc","log":0,"stamp":6,"tx":2}
+  {"at":7,"ev":"commit","log":0,"stamp":7,"tx":2}
+  {"end":8,"log":0}
+
+  $ opaq decide < run.jsonl
+  opaque 1c 2c"#;
 
 const CHECK_ABOUT: &str = "Says whether a given order of the transactions shows the run opaque";
 
@@ -27,15 +47,29 @@ const CHECK_AFTER: &str =
     "The order names each transaction once, in a serial order, by its number and its fate: c where it
 commits, a where it aborts, as in '1c 2a'. An empty run has the order 'none'.
 
-Example: opaq check --order '1c 2c' < run.jsonl";
+Example: opaq check --order '1c 2c' < run.jsonl, with the file of opaq --help
+
+  $ opaq check --order '1c 2c' < run.jsonl
+  opaque 1c 2c
+
+  $ opaq check --order '2c 1c' < run.jsonl
+  order refused 4 tx 2
+
+Fault 4: transaction 2 stands before 1, which was completed before 2 began.";
 
 const DECIDE_ABOUT: &str = "Says whether any order of the transactions shows the run opaque";
 
 const DECIDE_AFTER: &str =
-    "Where the run is opaque the line has an order that shows it. With a budget the search gives up behind
-so many expanded prefixes of orders, and says 'unfinished'; a number up to 1,000,000,000,000.
+    "Where the run is opaque the line has an order that shows it. With a budget the search gives up after
+so many expanded beginnings of orders, and says 'unfinished'; a number up to 1,000,000,000,000.
 
-Example: opaq decide < run.jsonl";
+Example: opaq decide < run.jsonl, with the file of opaq --help
+
+  $ opaq decide < run.jsonl
+  opaque 1c 2c
+
+  $ opaq decide --budget 0 < run.jsonl
+  unfinished";
 
 fn value_arg<'a>(alloc: Global, name: &'a str, value_name: &'a str, help: &'a str) -> Arg<'a>
     ensures rule { rule_of result ≡ value_rule name.entry.now }
@@ -79,7 +113,7 @@ fn decide_command<'a>(alloc: Global) -> Result<Command<'a>, AllocError>
         alloc,
         "budget",
         "N",
-        "How many prefixes are expanded at most",
+        "How many beginnings of orders are expanded at most",
     );
     Command::new(alloc, "decide")
         .about(DECIDE_ABOUT)
@@ -91,6 +125,7 @@ fn bare_command<'a>(alloc: Global) -> Command<'a>
     ensures { app_of result ≡ bare_app }
 {
     Command::new(alloc, "opaq")
+        .version(VERSION)
         .about(ABOUT)
         .after_help(AFTER)
         .subcommand_required(true)

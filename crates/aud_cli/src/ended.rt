@@ -1,7 +1,7 @@
 //! How a run ends.
 
 ghost use Rattle.std.specs.Prelude.{◌≡◌};
-ghost use Rattle.aud_cli.specs.Outcomes.{ended_by, status_of, verdict_ends};
+ghost use Rattle.aud_cli.specs.Outcomes.{ended_by, exit_status_of, verdict_ends};
 
 use aud_know::Verdict;
 use aud_report::Said;
@@ -35,7 +35,7 @@ pub enum Ended {
 impl Ended {
     /// The exit status of the program, 0 to 4.
     pub fn status(self) -> u8
-        ensures { result ≡ status_of self }
+        ensures { result ≡ exit_status_of self }
     {
         match self {
             Ended::Opaque => 0,

@@ -9,7 +9,7 @@ use aud_text::{PlanTextFault, TextFault, next_filled, read_fact, read_plan};
 use std::alloc::Global;
 use std::marker::Model;
 
-/// A plan, and the facts of the lines behind it in their order. Each fact passes the plan's check.
+/// A plan, and the facts of the lines after it in their order. Each fact passes the plan's check.
 #[derive(Drop)]
 pub struct Input {
     plan: Plan,
@@ -51,7 +51,7 @@ fn fact_of(alloc: Global, plan: &Plan, number: usize, line: &[u8]) -> Result<Fac
     }
 }
 
-/// The facts of the lines that end behind the first `used` bytes, in one pass and with no copy of a line.
+/// The facts of the lines that end after the first `used` bytes, in one pass and with no copy of a line.
 fn read_facts(alloc: Global, plan: &Plan, text: &[u8], used: usize) -> Result<Vec<Fact>, InputFault>
     ensures read { MatchResult result (λ facts. facts_read plan.now (lines_behind used text.now) ≡ Ok facts.items)
         (λ e. (e ≡ InputFault.OutOfMemory) ⊎ (facts_read plan.now (lines_behind used text.now) ≡ Err e)) }
@@ -76,7 +76,7 @@ fn read_facts(alloc: Global, plan: &Plan, text: &[u8], used: usize) -> Result<Ve
     Ok(facts)
 }
 
-/// The plan that a text begins with, and the facts of the lines behind it, or the first line that is refused.
+/// The plan that a text begins with, and the facts of the lines after it, or the first line that is refused.
 pub fn read_input(alloc: Global, text: &[u8]) -> Result<Input, InputFault>
     ensures { MatchResult result (λ input. input_read text.now ≡ Ok input)
         (λ e. (e ≡ InputFault.OutOfMemory) ⊎ (input_read text.now ≡ Err e)) }

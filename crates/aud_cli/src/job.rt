@@ -8,7 +8,7 @@ ghost use Rattle.aud_cli.specs.Words.{usage_text};
 pub enum Job {
     /// Whether the order of this text shows the history opaque.
     Check(String),
-    /// Whether some order shows the history opaque; with a budget, so far as at most so many expansions tell.
+    /// Whether some order shows the history opaque; with a budget, so far as at most so many expansions show.
     Decide(Option<u64>),
 }
 
@@ -22,7 +22,7 @@ pub enum Command {
 /// Why the words ask for nothing, or that their help is asked for.
 #[derive(Debug, Drop)]
 pub enum Usage {
-    /// What the user is told.
+    /// What the user reads.
     Told(String),
     OutOfMemory,
 }

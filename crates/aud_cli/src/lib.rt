@@ -12,5 +12,5 @@ mod words;
 pub use ended::{Cause, Ended};
 pub use input::{Input, InputFault, read_input};
 pub use job::{Command, Job, Usage};
-pub use run::run_lines;
+pub use run::{line_said, run_lines};
 pub use words::job_of;

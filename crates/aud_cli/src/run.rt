@@ -3,7 +3,7 @@
 ghost use Rattle.std.specs.Prelude.{IfOk};
 ghost use Rattle.aud_cli.specs.Line.{FactsSay, InputSays, Line, QuestionSays, SetSays};
 ghost use Rattle.aud_cli.specs.Inputs.{input_read};
-ghost use Rattle.aud_cli.specs.Outcomes.{Outcome};
+ghost use Rattle.aud_cli.specs.Outcomes.{IsLine, RunOutcome};
 
 use crate::ended::{Cause, Ended, end_of};
 use crate::input::{Input, InputFault, read_input};
@@ -60,6 +60,16 @@ fn said_of(alloc: Global, job: &Job, text: &[u8]) -> Result<Said, OutOfMemory>
     }
 }
 
+/// The line that the job says of a text, with its line feed, and how the job ends that says it. It takes memory by the size of
+/// the text.
+pub fn line_said(alloc: Global, job: &Job, text: &[u8]) -> Result<(Vec<u8>, Ended), OutOfMemory>
+    ensures { IfOk result (λ answer. IsLine job.now text.now answer.0.items answer.1) }
+{
+    let said = said_of(alloc, job, text)?;
+    let line = write_line(alloc, &said)?;
+    Ok((line, end_of(&said)))
+}
+
 /// Reads all that the source has left, and writes the one line that the job says of it.
 ///
 /// Where it fails a beginning of that line went out, and what was read stays read. It takes memory by the size of the
@@ -72,7 +82,7 @@ pub fn run_lines<R: Source, W: Sink>(
 ) -> Ended
     requires source { R.ready source.old }
     requires sink { W.ready sink.old }
-    ensures { Outcome (Line job.now (R.left source.old))
+    ensures { RunOutcome (Line job.now (R.left source.old))
         (record { source_failures = R.failures source.old; sink_failures = W.failures sink.old; held = W.held sink.old })
         (record { source_failures = R.failures source.new; sink_failures = W.failures sink.new; held = W.held sink.new })
         result }
@@ -82,14 +92,11 @@ pub fn run_lines<R: Source, W: Sink>(
         Err(ReadFault::Failed) => return Ended::Failed(Cause::Input),
         Err(ReadFault::OutOfMemory) => return Ended::Failed(Cause::Memory),
     };
-    let Ok(said) = said_of(alloc, job, text.as_slice()) else {
-        return Ended::Failed(Cause::Memory);
-    };
-    let Ok(line) = write_line(alloc, &said) else {
+    let Ok((line, end)) = line_said(alloc, job, text.as_slice()) else {
         return Ended::Failed(Cause::Memory);
     };
     match write_all(sink, line.as_slice()) {
-        Ok(()) => end_of(&said),
+        Ok(()) => end,
         Err(_) => Ended::Failed(Cause::Output),
     }
 }

@@ -76,7 +76,7 @@ filter-distinct g (d ∷ ds) apart =
       | false ↦ filter-distinct g ds apart.1
     ]
 
--- each kid is less than those behind it
+-- each kid is less than those after it
 pub kids-rise : (objects : List Declared) (h : History) (p ks : List Decision) (i j : ℕ) (d : Decision) → AreKids objects h p ks → i < j → j < length ks →
     decision_cmp (get_or ks i d) (get_or ks j d) ≡ Less
 kids-rise objects h p ks i j d are before inside =

@@ -11,12 +11,13 @@ use Rattle.aud_lattice.specs.Marks.{mark_of}
 use Rattle.aud_lattice.specs.Marked.{covered_is, inner_is}
 use Rattle.aud_witness.specs.declared.decision.Decision.{Decision}
 use Rattle.aud_witness.specs.DecisionOrder.{decision_cmp}
+use Rattle.aud_witness.specs.Prefixes.{BeginsWith}
 use Rattle.aud_witness.specs.Orders.{IsFull, IsGood}
 use Rattle.aud_witness.proofs.Good.{IsGood-empty, IsGood-beginning}
 use Rattle.aud_order.proofs.Lists.{length-push}
 use Rattle.aud_order.proofs.Lengths.{length-full}
 use Rattle.aud_cover.specs.Closings.{IsInside, IsClosed, covered, bad, by_kids}
-use Rattle.aud_cover.specs.Openings.{IsReached, IsOpen, AreOpen, AreWithin, BeginsWith}
+use Rattle.aud_cover.specs.Openings.{IsReached, IsOpen, AreOpen, AreShortEnough}
 use Rattle.aud_cover.proofs.Beginnings.{marked-covered, marked-inner, marked-outside, longest, longest-inside}
 use Rattle.aud_cover.proofs.Opened.{covered-longer, begins-itself, none_there, reached-kid}
 
@@ -31,7 +32,7 @@ module _ (objects : List Declared) (h : History) (cover : List (List Decision)) 
       closed-none (p ++ d ∷ []) q rest (kids d (IsGood-beginning objects h (p ++ d ∷ []) rest (subst (λ l. IsGood objects h l) longer it.good))) it longer
 
   -- a proper beginning of a member is not full
-  inside-unfull : (p : List Decision) → AreWithin h cover → IsGood objects h p → IsInside cover p → IsFull h p → ⊥
+  inside-unfull : (p : List Decision) → AreShortEnough h cover → IsGood objects h p → IsInside cover p → IsFull h p → ⊥
   inside-unfull p within good (d, (rest, member)) full =
       let short : length (p ++ d ∷ rest) ≤ length (transactions h) = within (p ++ d ∷ rest) member in
       let more : length (p ++ d ∷ rest) ≡ length p + length (d ∷ rest) = length-append p (d ∷ rest) in
@@ -39,7 +40,7 @@ module _ (objects : List Declared) (h : History) (cover : List (List Decision)) 
       omega arith
 
   -- a list that is reached is closed where nothing that begins with it is open
-  none-closed : (fuel : ℕ) (p : List Decision) → longest cover ≤ length p + fuel → AreWithin h cover → IsGood objects h p → IsReached objects h cover p →
+  none-closed : (fuel : ℕ) (p : List Decision) → longest cover ≤ length p + fuel → AreShortEnough h cover → IsGood objects h p → IsReached objects h cover p →
       ((q : List Decision) → IsOpen objects h cover q → BeginsWith p q → ⊥) → IsClosed objects h cover p
   none-closed zero p far within good reached none =
       elim (mark_of decision_cmp cover p) as (λ m. mark_of decision_cmp cover p ≡ m → IsClosed objects h cover p) [
@@ -65,7 +66,7 @@ module _ (objects : List Declared) (h : History) (cover : List (List Decision)) 
             absurd (none p (record { good = good; uncovered = out.0; outside = out.1; reached = reached }) (begins-itself p))
       ] refl
 
-  pub empty-closed : (list : List (List Decision)) → AreOpen objects h cover list → AreWithin h cover → (list ≡ []) ↔ IsClosed objects h cover []
+  pub empty-closed : (list : List (List Decision)) → AreOpen objects h cover list → AreShortEnough h cover → (list ≡ []) ↔ IsClosed objects h cover []
   empty-closed list are within = (
     (λ empty. none-closed (longest cover) [] (omega arith) within (IsGood-empty objects h) (inl refl)
         (λ q it begins. none_there q (subst (λ l. Contains l q) empty ((are.each q).1 it)))),

@@ -13,13 +13,14 @@ use Rattle.aud_event.specs.Meanings.{Declared}
 use Rattle.aud_history.specs.Histories.{History}
 use Rattle.aud_witness.specs.declared.decision.Decision.{Decision}
 use Rattle.aud_witness.specs.DecisionOrder.{decision_cmp, decisions_total}
+use Rattle.aud_witness.specs.Prefixes.{BeginsWith}
 use Rattle.aud_witness.specs.Orders.{IsFull, IsGood, IsGoodNext}
 use Rattle.aud_witness.proofs.Good.{IsGood-last, IsGood-beginning}
 use Rattle.aud_order.specs.Kids.{AreKids}
 use Rattle.aud_order.specs.Shapes.{ShapeOf, objects_of, history_of}
 use Rattle.aud_order.specs.Cursors.{CursorOf}
 use Rattle.aud_cover.specs.Closings.{IsCovered, IsInside}
-use Rattle.aud_cover.specs.Openings.{IsReached, IsOpen, AreOpen, BeginsWith, AreAdded}
+use Rattle.aud_cover.specs.Openings.{IsReached, IsOpen, AreOpen, AreAdded}
 use Rattle.aud_cover.proofs.Steps.{no_decision}
 use Rattle.aud_cover.proofs.Distinct.{kids-rise}
 

@@ -105,7 +105,7 @@ cursor-back start old pushed again new d r is grown same root back =
     there : again ≡ cursor_with old d
     there = same ∙ grown
 
--- what is told of a kid
+-- what is reported of a kid
 pub kid-told : (cover : List (List Decision)) (start cur pushed : CursorOf) (d : Decision) (b : Bool) → cur ≡ start → pushed ≡ cursor_with cur d →
     (IsTrue b ↔ IsClosedAt cover pushed) → IsTrue b ↔ IsClosedAt cover (cursor_with start d)
 kid-told cover start cur pushed d b is grown told =

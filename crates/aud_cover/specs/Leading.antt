@@ -1,4 +1,4 @@
--- The node of a cover's trie that a list leads to, and what is to be told of it whatever the cover is.
+-- The node of a cover's trie that a list leads to, and what is to be reported of it whatever the cover is.
 use Rattle.std.specs.Prelude.{◌≡◌, ◌↔◌, Bool, IsTrue, List, ◌++◌}
 use Rattle.aud_lattice.specs.declared.trie.Trie.{Trie}
 use Rattle.aud_lattice.specs.Marks.{mark_of}

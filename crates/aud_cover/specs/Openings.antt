@@ -8,6 +8,7 @@ use Rattle.aud_history.specs.Histories.{History}
 use Rattle.aud_history.specs.Table.{transactions}
 use Rattle.aud_witness.specs.declared.decision.Decision.{Decision}
 use Rattle.aud_witness.specs.DecisionOrder.{decision_cmp}
+use Rattle.aud_witness.specs.Prefixes.{BeginsWith}
 use Rattle.aud_witness.specs.Orders.{IsGood}
 use Rattle.aud_cover.specs.Closings.{IsCovered, IsInside}
 
@@ -34,12 +35,8 @@ pub record AreOpen (objects : List Declared) (h : History) (cover : List (List D
   pub rising : IsStrictlySortedBy (slice_cmp decision_cmp) list
 
 -- no member has more decisions than the history has transactions
-abbrev pub AreWithin : History → List (List Decision) → Type 0
-AreWithin h cover = (p : List Decision) → Contains cover p → length p ≤ length (transactions h)
-
--- q begins with p
-abbrev pub BeginsWith : List Decision → List Decision → Type 0
-BeginsWith p q = (rest : List Decision) × (q ≡ p ++ rest)
+abbrev pub AreShortEnough : History → List (List Decision) → Type 0
+AreShortEnough h cover = (p : List Decision) → Contains cover p → length p ≤ length (transactions h)
 
 -- to a list are added exactly the open lists that begin with p, each once, the least first
 pub record AreAdded (objects : List Declared) (h : History) (cover : List (List Decision)) (p : List Decision) (old new : List (List Decision)) : Type 0 where

@@ -3,27 +3,14 @@
 ghost use Rattle.std.specs.Prelude.{◌≡◌, ◌↔◌, [], ◌∷◌, ◌++◌, IfOk, OnOk};
 ghost use Rattle.aud_order.specs.Shapes.{objects_of, history_of};
 ghost use Rattle.aud_cover.specs.Closings.{IsClosed};
-ghost use Rattle.aud_cover.specs.Openings.{AreOpen, AreWithin};
+ghost use Rattle.aud_cover.specs.Openings.{AreOpen, AreShortEnough};
 ghost use Rattle.aud_cover.specs.Leading.{AddsOpen};
 
 use aud_event::OutOfMemory;
 use aud_lattice::{Cover, Trie};
 use aud_order::{Cursor, Shape};
-use aud_witness::{Decision, Prefix};
+use aud_witness::{Decision, Prefix, add_copy};
 use std::alloc::Allocator;
-
-/// Adds the list with a memory of its own.
-fn add<A: Allocator + Copy>(
-    alloc: A,
-    decisions: &[Decision],
-    list: &mut Vec<Prefix<A>, A>,
-) -> Result<(), OutOfMemory>
-    ensures { OnOk result (list.new.items ≡ list.old.items ++ decisions.now ∷ []) }
-{
-    let copy = Vec::from_slice(alloc, decisions)?;
-    list.push(Prefix::from_decisions(copy))?;
-    Ok(())
-}
 
 /// Adds the open lists that begin with the cursor's, the least first, where it leads to the node. The cursor comes back to it.
 fn open_here<A: Allocator + Copy>(
@@ -40,7 +27,7 @@ fn open_here<A: Allocator + Copy>(
         return Ok(());
     };
     if next.is_empty() {
-        return add(alloc, path, list);
+        return add_copy(alloc, path, list);
     }
     if cursor.full() {
         return Ok(());
@@ -50,7 +37,7 @@ fn open_here<A: Allocator + Copy>(
         let _ = cursor.push(*kid)?;
         match next.get(kid) {
             Some(below) => open_here(alloc, below, cursor, list)?,
-            None => add(alloc, cursor.prefix(), list)?,
+            None => add_copy(alloc, cursor.prefix(), list)?,
         }
         let _ = cursor.pop();
     }
@@ -67,7 +54,7 @@ pub fn open_list<A: Allocator + Copy>(
     shape: &Shape<A>,
 ) -> Result<Vec<Prefix<A>, A>, OutOfMemory>
     ensures open { IfOk result (λ list. AreOpen (objects_of shape.now) (history_of shape.now) cover.now list.items) }
-    ensures empty { IfOk result (λ list. AreWithin (history_of shape.now) cover.now → (list.items ≡ []) ↔ IsClosed (objects_of shape.now) (history_of shape.now) cover.now []) }
+    ensures empty { IfOk result (λ list. AreShortEnough (history_of shape.now) cover.now → (list.items ≡ []) ↔ IsClosed (objects_of shape.now) (history_of shape.now) cover.now []) }
 {
     let mut list = Vec::new(alloc);
     let mut cursor = Cursor::root(alloc, shape)?;

@@ -1,4 +1,4 @@
--- Which fault is told of a fact that does not fit its plan.
+-- Which fault is reported of a fact that does not fit its plan.
 use Rattle.std.specs.Prelude.{ℕ, Bool, if◌then◌else◌, List, Option, Some, None, nat_lt, nat_le, slice_get}
 use Rattle.aud_event.specs.declared.object.OpName.{OpName}
 use Rattle.aud_event.specs.declared.fact.Event.{Event}

@@ -1,4 +1,4 @@
--- What makes a plan, and which fault is told of what is none.
+-- What makes a plan, and which fault is reported of what is none.
 use Rattle.std.specs.Prelude.{◌≡◌, suc, option_map, ℕ, pos, Bool, true, not, ◌&&◌, ◌||◌, if◌then◌else◌, List, [], ◌∷◌, length, Option, Some, None, nat_eq, nat_lt, nat_le, int_le, bytes_eq}
 use Rattle.std.specs.List.{list_all, list_any}
 use Rattle.std.specs.BTreeMap.{BTreeMap, get_by_text}

@@ -1,4 +1,4 @@
-//! Want of memory as an ordinary error, and copies that may meet it.
+//! Out of memory as an ordinary error, and copies that may meet it.
 
 ghost use Rattle.std.specs.Prelude.{◌≡◌, IfOk};
 
@@ -22,7 +22,8 @@ impl<T: Drop> From<AllocFailed<T>> for OutOfMemory {
     }
 }
 
-/// A copy that may want memory. A copy equals its source, and a value that keeps an allocator is copied into the same one.
+/// A copy that may run out of memory. A copy equals its source, and a value that keeps an allocator is copied into the same
+/// one.
 pub trait Dup: Sized + Drop {
     fn dup(&self) -> Result<Self, OutOfMemory>
         ensures { IfOk result (λ copy. copy ≡ self.now) };

@@ -128,7 +128,7 @@ not_place_back r s h = grind (arith, h)
 beyond_apart : (k : Kind) (r : Record) (xs : List Fact) → ((f : Fact) → Beyond (Rec r) f → clashes k (Rec r) f ≡ false) → AllByRecursion (Beyond (Rec r)) xs → list_any (clashes k (Rec r)) xs ≡ false
 beyond_apart k r xs h a = any_never (clashes k (Rec r)) xs (all_map h xs a)
 
--- no record behind another one further back
+-- no record after another one further back
 first_two : (r : Record) (f : Fact) → Beyond (Rec r) f → clashes TwoRecords (Rec r) f ≡ false
 first_two r (Rec s) b = rw (not_place r s b) refl
 first_two r (End e) b = refl
@@ -141,7 +141,7 @@ end_two : (e : EndMark) (f : Fact) → clashes TwoRecords (End e) f ≡ false
 end_two e (Rec s) = refl
 end_two e (End g) = refl
 
--- where the record behind is at another place, all behind it are further on
+-- where the next record is at another place, all after it are further on
 part : (r s : Record) → After (Rec r) (Rec s) → is_place r s ≡ false → StrictAt r s
 part r s (inl lt, d) e = inl lt
 part r s (inr le, d) e = inr (le.0, grind (arith, le, e))

@@ -27,7 +27,7 @@ use Rattle.aud_facts.proofs.Ordered.{ordered, same_self}
 use Rattle.aud_facts.proofs.Conflicts.{any_same, all_map, Strict, Beyond, strict, twins_is, past_is}
 use Rattle.aud_facts.proofs.Sealing.{not_first, IsSealed, sealed_says, none_below}
 
--- a conflict of some kind is told
+-- a conflict of some kind is reported
 told_behind : (k : Kind) (o : Option Place) (s : FactStatus) → IsConflict s → IsConflict (told k o s)
 told_behind k None s c = c
 told_behind k (Some p) s c = tt

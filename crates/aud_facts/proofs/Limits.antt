@@ -25,7 +25,7 @@ use Rattle.aud_facts.specs.Scans.{IsWithin, AreWithin}
 use Rattle.aud_facts.proofs.Lists.{missing_beyond}
 use Rattle.aud_facts.proofs.Sealing.{IsSealed, sealed_says, none_below, length-placed, placed_is}
 
--- a test that told nothing failed, and what comes behind it told nothing
+-- a test that reported nothing failed, and what comes after it reported nothing
 untold : (b : Bool) (x : FactFault) (o : Option FactFault) → (if b then Some x else o) ≡ None → (b ≡ false) × (o ≡ None)
 untold true x o e = cc
 untold false x o e = (refl, e)

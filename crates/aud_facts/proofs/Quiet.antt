@@ -57,7 +57,7 @@ none_against k facts quiet = not_true (list_any (is_against k facts) facts) foun
 no_conflict : (k : Kind) (facts : List Fact) → AreQuiet facts → conflict k facts ≡ None
 no_conflict k facts quiet = no_least (is_against k facts) facts (none_against k facts quiet)
 
--- what is told once there is no conflict is none
+-- what is reported once there is no conflict is none
 not_told : (waits gap : Option ℕ) → IsConflict (or_waiting waits (or_gap gap)) → ⊥
 not_told (Some log) gap c = c
 not_told None (Some stamp) c = c

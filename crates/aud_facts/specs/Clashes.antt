@@ -13,7 +13,7 @@ use Rattle.aud_facts.specs.declared.status.Kind.TheVariants.{TwoRecords, StampTw
 abbrev pub Place : Type 0
 Place = ℕ × ℕ
 
--- the place that is told of a fact
+-- the place that is reported of a fact
 abbrev pub place_of : Fact → Place
 place_of (Rec r) = (r.log, r.at)
 place_of (End e) = (e.log, e.count)
@@ -26,7 +26,7 @@ is_same f g = eq_by_cmp fact.ghosts.cmp f g
 abbrev pub is_place : Record → Record → Bool
 is_place r s = nat_eq r.log s.log && nat_eq r.at s.at
 
--- The five conditions on two facts. The place of the first is told.
+-- The five conditions on two facts. The place of the first is reported.
 abbrev pub clashes : Kind → Fact → Fact → Bool
 clashes TwoRecords (Rec r) (Rec s) = is_place r s && not (is_same (Rec r) (Rec s))
 clashes StampTwice (Rec r) (Rec s) = nat_eq s.stamp r.stamp && not (is_place r s)
@@ -53,6 +53,6 @@ abbrev pub least_of : List Place → Option Place
 least_of [] = None
 least_of (p ∷ ps) = least_with p (least_of ps)
 
--- the place told of a kind
+-- the place reported of a kind
 abbrev pub conflict : Kind → List Fact → Option Place
 conflict k facts = least_of (map place_of (filter (is_against k facts) facts))

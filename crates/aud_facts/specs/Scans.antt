@@ -85,7 +85,7 @@ is_record_from log n (End e) = false
 abbrev pub AreBounds : List Fact → List (Option ℕ) → Type 0
 AreBounds facts bounds = (log n : ℕ) → log < LOGS_MAX → is_bounded (slice_index_or bounds log None) n ≡ list_any (is_mark_within log n) facts
 
--- the numbers behind the logs' greatest places
+-- the numbers after the logs' greatest places
 abbrev pub AreTops : List Fact → List ℕ → Type 0
 AreTops facts tops = (log n : ℕ) → log < LOGS_MAX → nat_lt n (slice_index_or tops log 0) ≡ list_any (is_record_from log n) facts
 

@@ -48,12 +48,12 @@ abbrev pub least_below : (ℕ → Bool) → ℕ → Option ℕ
 least_below test zero = None
 least_below test (suc n) = option_or (least_below test n) (if test n then Some n else None)
 
--- a place of a kind is told before what comes behind
+-- a place of a kind is reported before what comes after
 abbrev pub told : Kind → Option Place → FactStatus → FactStatus
 told k None s = s
 told k (Some p) s = Conflict k p.0 p.1
 
--- a log that waits is told before a gap
+-- a log that waits is reported before a gap
 abbrev pub or_waiting : Option ℕ → FactStatus → FactStatus
 or_waiting None s = s
 or_waiting (Some log) s = Waiting log

@@ -205,7 +205,7 @@ fn missing<A: Allocator + Copy>(set: &UnionSet<Fact, A>, marks: &[u8], n: usize)
     }
 }
 
-// The status behind conflicts of records at one place and of stamps at two.
+// The status after conflicts of records at one place and of stamps at two.
 fn status_behind<A: Allocator + Copy>(
     set: &UnionSet<Fact, A>,
     survey: &Survey,
@@ -265,8 +265,8 @@ fn status_by<A: Allocator + Copy>(
     status_behind(set, survey, marks, logs)
 }
 
-/// The status, and how many records there are. It takes no memory but 256 KiB of the stack, and walks over the facts once,
-/// or once more where a stamp stands twice or a record stands past a count.
+/// The status, and how many records there are. It does not allocate, but takes 256 KiB of the stack, and walks over the facts
+/// once, or once more where a stamp stands twice or a record stands past a count.
 pub fn status_in<A: Allocator + Copy>(set: &UnionSet<Fact, A>, logs: u32) -> (FactStatus, usize)
     requires ordered { AreOrdered set.now }
     requires within { AreWithin set.now }

@@ -86,7 +86,7 @@ fn history_of_set<A: Allocator + Copy>(
 }
 
 impl<A: Allocator + Copy> Facts<A> {
-    /// No facts. It takes no memory.
+    /// No facts. It does not allocate.
     pub fn empty(alloc: A, plan: Arc<Plan<A>, A>) -> Facts<A>
         ensures { result ≡ record { plan = plan.value; facts = [] } }
     {
@@ -127,7 +127,7 @@ impl<A: Allocator + Copy> Facts<A> {
         &self.set
     }
 
-    /// Puts the fact in. One that is there already takes no memory. A sealed set that gains a new fact is in conflict.
+    /// Puts the fact in. One that is there already needs no allocation. A sealed set that gains a new fact is in conflict.
     pub fn insert(&mut self, fact: &Fact) -> Result<(), OutOfMemory>
         requires { first_fact_fault self.old.plan fact.now ≡ None }
         ensures ok { OnOk result (self.new ≡ record { plan = self.old.plan; facts = with_item fact_ord.ghosts.cmp fact.now self.old.facts }) }
@@ -150,14 +150,14 @@ impl<A: Allocator + Copy> Facts<A> {
         Ok(())
     }
 
-    /// Whether both have equal plans and the same facts. It takes no memory.
+    /// Whether both have equal plans and the same facts. It does not allocate.
     pub fn same(&self, other: &Facts<A>) -> bool
         ensures { IsTrue result ↔ (self.now ≡ other.now) }
     {
         self.plan.same(&other.plan) && self.set.same(&other.set)
     }
 
-    /// The first that holds: a conflict, a log that waits, a gap, or sealed. It takes no memory and always answers. It
+    /// The first that holds: a conflict, a log that waits, a gap, or sealed. It does not allocate and always answers. It
     /// walks over the facts once, or once more where a stamp stands twice or a record stands past a count, and its tables
     /// take 260 KiB of the stack.
     pub fn status(&self) -> FactStatus

@@ -3,7 +3,7 @@
 ghost use Rattle.std.specs.Prelude.{◌≡◌};
 ghost use Rattle.aud_facts.specs.Kinds.{kind_number};
 
-/// The kinds of conflict between two facts, in the order in which they are told.
+/// The kinds of conflict between two facts, in the order in which they are reported.
 #[derive(Clone, Copy, Debug, PartialEq, Eq)]
 pub enum Kind {
     /// Two different records at one place of one log.
@@ -37,7 +37,7 @@ impl Kind {
 #[derive(Clone, Copy, Debug, PartialEq, Eq)]
 pub enum FactStatus {
     /// Two facts contradict each other: the least kind, and the least log and place of that kind. Of two counts, the log
-    /// and its least count are told instead.
+    /// and its least count are reported instead.
     Conflict(Kind, u32, u32),
     /// The least log without an end mark, or with fewer records than its count.
     Waiting(u32),

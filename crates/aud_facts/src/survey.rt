@@ -13,7 +13,7 @@ use aud_lattice::UnionSet;
 use std::alloc::Allocator;
 
 /// What a walk over all facts learns: the first two records at one place, the first two counts of one log and the first
-/// stamp that does not rise; of each log the least count, the number behind the greatest place, and how many records it
+/// stamp that does not rise; of each log the least count, the number after the greatest place, and how many records it
 /// has; how many records there are; and whether a stamp came twice.
 #[derive(Clone, Copy)]
 pub struct Survey {

@@ -41,7 +41,7 @@ pub fn note_count(bounds: &mut PerLog<Option<u32>>, log: usize, count: u32)
     }
 }
 
-/// Notes the place of a record: the number behind the greatest place of its log stays.
+/// Notes the place of a record: the number after the greatest place of its log stays.
 pub fn note_place(tops: &mut PerLog<u32>, log: usize, at: u32)
     requires log { log < LOGS_MAX }
     requires at { at < PLACES }
@@ -61,7 +61,7 @@ pub fn note_record(counts: &mut PerLog<usize>, log: usize)
     counts[log] += 1;
 }
 
-/// Notes a stamp: none, one, or more have it. It tells whether one had it already.
+/// Notes a stamp: none, one, or more have it. It says whether one had it already.
 pub fn note_stamp(marks: &mut [u8], stamp: usize) -> bool
     requires { stamp < length marks.old }
     ensures len { length marks.new ≡ length marks.old }

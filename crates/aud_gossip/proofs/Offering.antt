@@ -23,7 +23,7 @@ adds_more plan old mid new m n k (xs, p, here, all) (ys, q, there, others) is = 
 pub offered_none : (plan : PlanOf) (old : PassOf) → HasOffered plan old old 0
 offered_none plan old = (([], sym (append-nil _), refl, All-nil (IsPacketOf plan)), omega arith)
 
--- behind one packet more, as many as the pass's offers grew
+-- after one packet more, as many as the pass's offers grew
 pub offered_more : (plan : PlanOf) (p : Packet) (old mid new : PassOf) (count : ℕ) → HasOffered plan old mid count → IsOf plan p → HasOfferedIt p mid new → HasOffered plan old new (new.offers - old.offers)
 offered_more plan p old mid new count (here, so_far) is (there, one) =
     let it : AddsPackets plan (mine mid) (mine new) 1 = (item.Known p.known ∷ [], there, refl, All-cons (IsPacketOf plan) (item.Known p.known) [] is (All-nil (IsPacketOf plan))) in

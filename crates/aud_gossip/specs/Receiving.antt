@@ -35,7 +35,7 @@ HasOffered plan old new count = AddsPackets plan (mine old) (mine new) count × 
 abbrev pub HasOfferedIt : Packet → PassOf → PassOf → Type 0
 HasOfferedIt p old new = (mine new ≡ mine old ++ item.Known p.known ∷ []) × (new.offers ≡ old.offers + 1)
 
--- the test tells whether the packet is of the plan, and was offered; else the pass is as it was
+-- the test says whether the packet is of the plan, and was offered; else the pass is as it was
 abbrev pub TellsWhetherOffered : Bool → PlanOf → Packet → PassOf → PassOf → Type 0
 TellsWhetherOffered test plan p old new = MatchBool test (IsOf plan p × HasOfferedIt p old new) ((IsOf plan p → ⊥) × (new ≡ old))
 
@@ -51,8 +51,8 @@ IsNothing r = (r.taken ≡ 0) × (r.foreign ≡ 0)
 abbrev pub IsBack : PlanOf → Option Packet → Type 0
 IsBack plan found = (p : Packet) × (found ≡ Some p) × IsOf plan p
 
--- a pass of another node is told before anything is received, and no packet is handed back; want of memory is told of a pass
--- of the node, and hands a packet of the plan back
+-- a pass of another node is reported before anything is received, and no packet is handed back; out of memory is reported of a
+-- pass of the node, and hands a packet of the plan back
 abbrev pub IsStopFor : NodeOf → PassOf → Option Packet → Received → OfferFault → Type 0
 IsStopFor n p packet received offer.WrongNode = (p.number ≢ n.number) × (packet ≡ None) × IsNothing received
 IsStopFor n p packet received offer.OutOfMemory = IsAt n p × IsBack n.plan packet

@@ -27,7 +27,7 @@ impl Model for Outbox {
 }
 
 impl Outbox {
-    /// An outbox with these senders, of which there may be none. It takes no memory.
+    /// An outbox with these senders, of which there may be none. It does not allocate.
     pub fn new(senders: Vec<Sender<Packet>>) -> Outbox
         requires { vec_len senders ≤ 64 }
         ensures { result ≡ vec_len senders }
@@ -35,7 +35,7 @@ impl Outbox {
         Outbox { senders }
     }
 
-    /// Sends the packet to each in turn, and tells how many sends answered Ok. The packets share the knowledge. It errs
+    /// Sends the packet to each in turn, and answers how many sends answered Ok. The packets share the knowledge. It errs
     /// only where the knowledge has all the owners that it may have; what was sent by then stays sent.
     pub fn post<R: Wait>(&self, rt: &R, packet: &Packet) -> Result<u32, OutOfMemory>
         ensures { IfOk result (λ n. n ≤ self.now) }

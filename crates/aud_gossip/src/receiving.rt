@@ -27,7 +27,7 @@ pub struct Stopped {
     pub fault: OfferFault,
 }
 
-// Offers what the packet knows, or drops it where it is of another plan, and tells whether it was offered. Where memory is
+// Offers what the packet knows, or drops it where it is of another plan, and says whether it was offered. Where memory is
 // refused it gives the packet back.
 fn offer_packet<J: Fleet, S: Wait + Drop, R: Wait>(
     rt: &R,
@@ -51,7 +51,7 @@ fn offer_packet<J: Fleet, S: Wait + Drop, R: Wait>(
 }
 
 /// Offers what each packet knows to the node, in the order in which they come, until the channel is closed; a packet of
-/// another plan is dropped and counted. It waits for packets, and as `Node::offer` does. Behind a stop for want of memory
+/// another plan is dropped and counted. It waits for packets, and as `Node::offer` does. After a stop since memory ran out
 /// the inbox still has what was not received.
 #[tactic(auto, using(crate::proofs::Offering::offered_none, crate::proofs::Offering::offered_more, crate::proofs::Offering::further_self, crate::proofs::Offering::further_trans))]
 pub fn receive_all<J: Fleet, S: Wait + Drop, R: Wait>(

@@ -30,7 +30,7 @@ not_both-ending aborted_by_itself a = refl
 not_both-ending committed a = absurd (cc)
 not_both-ending commit_refused a = refl
 
--- what stands behind executions says how the whole ends
+-- what stands after executions says how the whole ends
 pub after_executions : (test : Event → Bool) (o f : List Event) → list_any test o ≡ false → list_any test (o ++ f) ≡ list_any test f
 after_executions test o f none = list_any-append test o f ∙ ap (λ k. k || list_any test f) none
 

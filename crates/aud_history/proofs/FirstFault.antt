@@ -147,7 +147,7 @@ goes_on : (es : List Event) (e : Event) (r : Result TxState Rule) → run Idle (
 goes_on es e (Ok next) leads ok = Continues-from_Passes Idle (es ++ e ∷ []) (Passes-from_run Idle (es ++ e ∷ []) next leads)
 goes_on es e (Err rule) breaks ok = absurd (cc)
 
--- behind a beginning of `O F` the table is in a state, and tells a rule exactly where the next event does not fit
+-- after a beginning of `O F` the table is in a state, and reports a rule exactly where the next event does not fit
 pub told_rule : (es : List Event) → IsTransaction es → (s : TxState) × ((run Idle es ≡ Ok s) × ((e : Event) → IsTransaction (es ++ e ∷ []) ↔ IsOk (after s e)))
 told_rule es goes =
     let (s, leads) = run-from_Passes Idle es (Passes-from_IsTransaction es goes) in

@@ -53,7 +53,7 @@ tried_left (new_event {e = TryA} fits i) p c a = absurd p
 tried_left (new_event {e = Commit} fits i) p c a = ended_left i p
 tried_left (new_event {e = Abort} fits i) p c a = ended_left i p
 
--- behind a completing event that was inserted a live transaction did nothing
+-- after a completing event that was inserted a live transaction did nothing
 new_left : (s : TxState) (e : Event) {es fs : List Event} → is_completing e ≡ true → IsFilled es fs → Passes s (e ∷ fs) →
     list_any is_commit es ≡ false → list_any is_abort es ≡ false → es ≡ []
 new_left s (Inv _ _) fits i p c a = absurd (cc)

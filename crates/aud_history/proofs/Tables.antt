@@ -74,7 +74,7 @@ filter-same t (s ∷ ts) =
       | false ↦ ap (λ l. s ∷ l) (filter-same t ts)
     ]
 
--- one more event may bring one more transaction, behind the others
+-- one more event may bring one more transaction, after the others
 pub transactions-push : (h : History) (e : ℕ × Event) → transactions (h ++ e ∷ []) ≡ with_number (transactions h) e.0
 transactions-push [] e = refl
 transactions-push (x ∷ h) e =

@@ -57,6 +57,6 @@ abbrev pub from_first : ℕ → History → History
 from_first u [] = []
 from_first u (e ∷ h) = if nat_eq e.0 u then e ∷ h else from_first u h
 
--- T is before U in H: T is completed, and no event of it stands behind the first event of U
+-- T is before U in H: T is completed, and no event of it stands after the first event of U
 abbrev pub is_before : History → ℕ → ℕ → Bool
 is_before h t u = is_completed h t && is_in h u && not (is_in (from_first u h) t)

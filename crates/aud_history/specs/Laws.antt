@@ -20,7 +20,7 @@ BeginningsAreWellFormed = (a b : History) → IsWellFormed (a ++ b) → IsWellFo
 abbrev pub TableIsDefinition : Type 0
 TableIsDefinition = (es : List Event) → IsTransaction es ↔ Passes Idle es
 
--- behind a beginning of O F the table is in a state, and the next event goes on exactly where the table tells no rule
+-- after a beginning of O F the table is in a state, and the next event goes on exactly where the table reports no rule
 abbrev pub TableTellsTheRule : Type 0
 TableTellsTheRule = (es : List Event) → IsTransaction es →
     (s : TxState) × ((run Idle es ≡ Ok s) × ((e : Event) → IsTransaction (es ++ e ∷ []) ↔ IsOk (after s e)))

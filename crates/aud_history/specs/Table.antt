@@ -21,7 +21,7 @@ status_of es =
     else (if list_any is_try_commit es then CommitPending
     else Live))
 
--- the executions among the events of a transaction, and the invocation behind them that has no response
+-- the executions among the events of a transaction, and the invocation after them that has no response
 abbrev pub block_of : List Event → BlockOf
 block_of (Inv ob op ∷ []) = record { executions = []; trailing = Some (record { object = ob; op = op }) }
 block_of (Inv ob op ∷ Ret _ _ answer ∷ es) = record {
@@ -75,7 +75,7 @@ with_event r stamp Abort = record r { status = Aborted; last = stamp }
 abbrev pub fresh_row : ℕ → ℕ → RowOf
 fresh_row t stamp = record { tx = t; block = record { executions = []; trailing = None }; status = Live; first = stamp; last = 0 }
 
--- the rows with one more event at the stamp, of a transaction that has a row or gets one behind the others
+-- the rows with one more event at the stamp, of a transaction that has a row or gets one after the others
 abbrev pub rows_with : List RowOf → ℕ → ℕ → Event → List RowOf
 rows_with [] t stamp e = with_event (fresh_row t stamp) stamp e ∷ []
 rows_with (r ∷ rs) t stamp e = if nat_eq r.tx t then with_event r stamp e ∷ rs else r ∷ rows_with rs t stamp e

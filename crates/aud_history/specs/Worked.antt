@@ -59,7 +59,7 @@ one_is_written = executed 1 0 (Write (pos 1)) Done
 abbrev pub reader_behind_commit : History
 reader_behind_commit = one_is_written ++ commits 1 ++ executed 2 0 Read (Int (pos 1)) ++ commits 2
 
--- T2 sees x from before T1 and y from behind it. That it aborts does not excuse it
+-- T2 sees x from before T1 and y from after it. That it aborts does not excuse it
 abbrev pub torn_read_then_abort : History
 torn_read_then_abort =
     executed 2 0 Read (Int (pos 0)) ++ one_is_written ++ executed 1 1 (Write (pos 1)) Done ++ commits 1
@@ -73,7 +73,7 @@ pending_commit_is_seen = one_is_written ++ (1, TryC) ∷ [] ++ executed 2 0 Read
 abbrev pub pending_commit_is_unseen : History
 pending_commit_is_unseen = one_is_written ++ (1, TryC) ∷ [] ++ executed 2 0 Read (Int (pos 0)) ++ commits 2
 
--- T2 begins behind the commit of T1 and misses what it wrote
+-- T2 begins after the commit of T1 and misses what it wrote
 abbrev pub stale_read_behind_commit : History
 stale_read_behind_commit = one_is_written ++ commits 1 ++ executed 2 0 Read (Int (pos 0)) ++ commits 2
 
@@ -91,13 +91,13 @@ item_is_passed_on =
     (2, Inv 0 Deq) ∷ [] ++ executed 1 0 (Enq (pos 5)) Done ++ commits 1 ++ executed 3 0 Deq Empty ++ commits 3
     ++ (2, Ret 0 (name_of Deq) (Int (pos 5))) ∷ [] ++ commits 2
 
--- T1 writes the opening value, but has to stand behind T2 all the same
+-- T1 writes the opening value, but has to stand after T2 all the same
 abbrev pub idle_write_stands_later : History
 idle_write_stands_later =
     (1, Inv 0 (Write (pos 5))) ∷ [] ++ executed 2 0 (Write (pos 7)) Done ++ commits 2 ++ executed 3 0 Read (Int (pos 5)) ++ commits 3
     ++ (1, Ret 0 (name_of (Write (pos 5))) Done) ∷ [] ++ commits 1
 
--- T2 sees the count of commit-pending T1, and T3 behind it does not
+-- T2 sees the count of commit-pending T1, and T3 after it does not
 abbrev pub count_is_lost : History
 count_is_lost =
     executed 1 0 Inc Done ++ (1, TryC) ∷ [] ++ executed 2 0 Get (Int (pos 1)) ++ commits 2 ++ executed 3 0 Get (Int (pos 0)) ++ commits 3

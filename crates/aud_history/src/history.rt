@@ -55,7 +55,7 @@ fn all_fit<A: Allocator>(plan: &Plan<A>, events: &[(u32, Event)]) -> bool
 }
 
 impl<A: Allocator + Drop> History<A> {
-    /// The history of these events, where each fits the plan and there are at most 262,144. It takes no memory.
+    /// The history of these events, where each fits the plan and there are at most 262,144. It does not allocate.
     pub fn checked(plan: Arc<Plan<A>, A>, events: Vec<(u32, Event), A>) -> Option<History<A>>
         ensures { MatchOption result (IsWithinLimits plan.value events.items → ⊥) (λ h. h ≡ record { plan = plan.value; events = events.items }) }
     {
@@ -68,7 +68,7 @@ impl<A: Allocator + Drop> History<A> {
 }
 
 impl<A: Allocator> History<A> {
-    /// The history of events that are known to fit. It takes no memory.
+    /// The history of events that are known to fit. It does not allocate.
     pub fn new(plan: Arc<Plan<A>, A>, events: Vec<(u32, Event), A>) -> History<A>
         requires { IsWithinLimits plan.value events.items }
         ensures { result ≡ record { plan = plan.value; events = events.items } }

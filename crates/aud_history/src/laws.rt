@@ -12,7 +12,7 @@ pub fn table_is_definition()
     ensures { TableIsDefinition }
 {}
 
-/// The table tells a rule exactly for an event that a well-formed transaction cannot go on with.
+/// The table reports a rule exactly for an event that a well-formed transaction cannot go on with.
 pub fn table_tells_the_rule()
     ensures { TableTellsTheRule }
 {}
@@ -27,7 +27,7 @@ pub fn block_is_events()
     ensures { BlockIsEvents }
 {}
 
-/// Real time is told by the stamps of the rows: the earlier transaction is completed, and its last stamp is below the
+/// Real time is known by the stamps of the rows: the earlier transaction is completed, and its last stamp is below the
 /// later one's first.
 pub fn before_is_by_stamps()
     ensures { BeforeIsByStamps }

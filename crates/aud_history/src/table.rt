@@ -121,7 +121,7 @@ impl<A: Allocator + Copy> Model for TxTable<A> {
     ghost invariant = { λ t. t.numbers.keys ≡ map (λ r. r.tx) t.rows.items };
 }
 
-/// Adds an event to its transaction's row, or to a row of its own behind the others.
+/// Adds an event to its transaction's row, or to a row of its own after the others.
 fn add_event<A: Allocator + Copy>(
     alloc: A,
     numbers: &mut Numbers<A>,

@@ -35,19 +35,19 @@ use Rattle.aud_know.specs.declared.verdict.Verdict.TheVariants as verdict
 abbrev pub OfStatus : {X : Type 0} → PlanOf → Held → FactStatus → Verdict X → Type 0
 OfStatus plan held s v = StatusTells (λ told. told) (hist held.facts) (OfWellFormed (IsClosed plan.objects (hist held.facts) held.cover []) held.witness) (status_told s) v
 
--- only of sealed facts the status tells nothing
+-- only of sealed facts the status says nothing
 pub tells_nothing : (X : Type 0) (s : FactStatus) → status_told {X = X} s ≡ None → s ≡ status.Sealed
 tells_nothing X (status.Conflict kind log at) e = cc
 tells_nothing X (status.Waiting log) e = cc
 tells_nothing X (status.Gap stamp) e = cc
 tells_nothing X status.Sealed e = refl
 
--- of facts with a well-formed history the answer is told
+-- of facts with a well-formed history the answer is reported
 pub answered : {X S : Type 0} (told : Verdict X → S) (logs : ℕ) (facts : List Fact) (Answers : S → Type 0) (s : S) →
     status_of logs facts ≡ status.Sealed → IsWellFormed (hist facts) → Answers s → FactsTell told logs facts Answers s
 answered told logs facts Answers s sealed well answer = subst (λ st. StatusTells told (hist facts) Answers (status_told st) s) (sym sealed) (inr (well, answer))
 
--- of facts with a history the rule is told that it breaks first
+-- of facts with a history the rule is reported that it breaks first
 pub ill_formed : (X : Type 0) (facts : FactsOf) (h : History) (stamp : ℕ) (rule : Rule) → IsSealedWith facts h → IsFirstFault h stamp rule →
     FactsTellAtOnce {X = X} facts.plan.logs facts.facts (verdict.IllFormed stamp rule)
 ill_formed X facts h stamp rule s fault =
@@ -63,7 +63,7 @@ read facts v value (Ok s) is sealed h =
     (ap (λ (w : SealedOf). w.facts) h.0 ∙ is, both.0, both.1)
 read facts v value (Err told) is sealed h = subst (λ (f : FactsOf). FactsTellAtOnce f.plan.logs f.facts told) is h
 
--- what is told at once is told whatever is asked
+-- what is reported at once is reported whatever is asked
 pub told_at_once : {X S : Type 0} (told : Verdict X → S) (logs : ℕ) (facts : List Fact) (Answers : S → Type 0) (v : Verdict X) →
     FactsTellAtOnce logs facts v → FactsTell told logs facts Answers (told v)
 told_at_once {X} {S} told logs facts Answers v = by_status (status_told (status_of logs facts))

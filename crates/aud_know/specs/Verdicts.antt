@@ -18,7 +18,7 @@ abbrev pub OfWellFormed : {X : Type 0} → Type 0 → Option (List Decision) →
 OfWellFormed Closed (Some p) v = v ≡ verdict.Opaque p
 OfWellFormed Closed None v = ((v ≡ verdict.NotOpaque) × Closed) ⊎ ((v ≡ verdict.Unfinished) × (Closed → ⊥))
 
--- what is told of facts by their status alone
+-- what is reported of facts by their status alone
 abbrev pub status_told : {X : Type 0} → FactStatus → Option (Verdict X)
 status_told (status.Conflict kind log at) = Some (verdict.Conflict kind log at)
 status_told (status.Waiting log) = Some (verdict.Waiting log)
@@ -35,15 +35,15 @@ StatusTells told h Answers (Some v) s = s ≡ told v
 StatusTells told h Answers None s = HistoryTells told h Answers s
 
 -- of facts: the first that holds of a conflict, a log that waits, a gap, and a rule that their history breaks, as it is
--- told; else what is answered of the history
+-- reported; else what is answered of the history
 abbrev pub FactsTell : {X S : Type 0} → (Verdict X → S) → ℕ → List Fact → (S → Type 0) → S → Type 0
 FactsTell told logs facts Answers s = StatusTells told (hist facts) Answers (status_told (status_of logs facts)) s
 
--- what is told before any answer
+-- what is reported before any answer
 abbrev pub FactsTellAtOnce : {X : Type 0} → ℕ → List Fact → Verdict X → Type 0
 FactsTellAtOnce logs facts v = FactsTell (λ told. told) logs facts (λ answer. ⊥) v
 
--- the verdict on what is known: what its facts tell, the answer being the witness, or whether the cover closes all orders
+-- the verdict on what is known: what its facts say, the answer being the witness, or whether the cover closes all orders
 abbrev pub IsVerdict : {X : Type 0} → KnowledgeOf → Verdict X → Type 0
 IsVerdict k v =
     FactsTell (λ told. told) k.plan.logs k.held.facts

@@ -19,7 +19,7 @@ pub enum Item<A: Allocator + Copy = Global> {
 
 impl<A: Allocator + Copy> Item<A> {
     /// Whether the item is of the plan: a fact that the plan does not refuse, or what was found or is known under an equal
-    /// plan. It takes no memory.
+    /// plan. It does not allocate.
     pub fn is_of(&self, plan: &Plan<A>) -> bool
         ensures { IsTrue result ↔ IsOfPlan plan.now self.now }
     {

@@ -97,7 +97,7 @@ impl<A: Allocator + Copy> Knowledge<A> {
         }
     }
 
-    /// Whether a beginning of the list is refuted; the list itself counts. It takes no memory.
+    /// Whether a beginning of the list is refuted; the list itself counts. It does not allocate.
     pub fn knows(&self, list: &Prefix<A>) -> bool
         ensures { IsTrue result ↔ IsCovered self.now.held.cover list.now }
     {
@@ -107,7 +107,7 @@ impl<A: Allocator + Copy> Knowledge<A> {
         }
     }
 
-    /// Takes a fact that the plan does not refuse. A fact that is there already takes no memory. A refused call leaves
+    /// Takes a fact that the plan does not refuse. A fact that is there already needs no allocation. A refused call leaves
     /// the value.
     pub fn take_fact(&mut self, next: &Fact) -> Result<(), KnowFault>
         ensures taken { OnOk result (Takes self.old.held self.new.held (fact next.now ∷ [])) }
@@ -172,7 +172,7 @@ impl<A: Allocator + Copy> Knowledge<A> {
         Ok(())
     }
 
-    /// Whether both have equal plans and the same facts, refuted lists and witness. It takes no memory.
+    /// Whether both have equal plans and the same facts, refuted lists and witness. It does not allocate.
     pub fn same(&self, other: &Knowledge<A>) -> bool
         ensures { IsTrue result ↔ (self.now ≡ other.now) }
     {

@@ -12,7 +12,7 @@ use std::alloc::Allocator;
 use std::sync::Arc;
 
 impl<A: Allocator> Verdict<A> {
-    // What is told of facts by their status alone, if it tells anything.
+    // What is reported of facts by their status alone, if it says anything.
     pub(crate) fn of_status(status: FactStatus) -> Option<Verdict<A>>
         ensures { result ≡ status_told status }
     {

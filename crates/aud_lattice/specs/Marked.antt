@@ -1,4 +1,4 @@
--- What a mark tells of the members of a cover.
+-- What a mark says of the members of a cover.
 use Rattle.std.proofs.Common.{◌≡◌, Bool, true, false, List, refl, sym, ap, ◌∙◌, ◌↔◌, if◌then◌else◌}
 use mathlib.Core.Bool.{true≢false}
 use Rattle.std.specs.declared.cmp.Ordering.{Ordering}

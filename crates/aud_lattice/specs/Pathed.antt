@@ -45,7 +45,7 @@ absorbs false b h = refl
 marked : (a b : Bool) (x y : Bool) → a ≡ x → b ≡ y → (if a then Covered else (if b then Inner else Outside)) ≡ (if x then Covered else (if y then Inner else Outside))
 marked a b x y e f i = if e i then Covered else (if f i then Inner else Outside)
 
--- the lists are put one by one, each behind the path
+-- the lists are put one by one, each after the path
 pub pushed : {D : Type 0} (P : List D) (x : D) (ps rest all : List (List D)) → (all ++ map (λ p. P ++ x ∷ p) ps) ++ map (λ p. P ++ p) rest ≡ all ++ map (λ p. P ++ p) (map (λ p. x ∷ p) ps ++ rest)
 pushed P x ps rest all = append_assoc all (map (λ p. P ++ x ∷ p) ps) (map (λ p. P ++ p) rest) ∙ ap (λ z. all ++ z) (inner ps)
   where

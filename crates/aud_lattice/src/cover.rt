@@ -35,7 +35,7 @@ impl<D: Key + Dup, A: Allocator + Copy> Model for Cover<D, A> {
 }
 
 impl<D: Key + Dup, A: Allocator + Copy> Cover<D, A> {
-    /// No list. It takes no memory.
+    /// No list. It does not allocate.
     pub fn empty(alloc: A) -> Cover<D, A>
         ensures { result ≡ [] }
     {
@@ -45,7 +45,7 @@ impl<D: Key + Dup, A: Allocator + Copy> Cover<D, A> {
         }
     }
 
-    /// The trie of the lists: they are the paths to its members. It takes no memory.
+    /// The trie of the lists: they are the paths to its members. It does not allocate.
     pub fn trie(&self) -> &Trie<D, A>
         ensures lists { paths result.now ≡ self.now }
         ensures good { IsTrie D.Ord.cmp result.now }
@@ -66,7 +66,7 @@ impl<D: Key + Dup, A: Allocator + Copy> Cover<D, A> {
     }
 
     /// Keeps the list where no beginning of it is there, and then drops the lists that it begins. A list that is covered
-    /// takes no memory.
+    /// does not allocate.
     pub fn insert(&mut self, list: &[D]) -> Result<(), OutOfMemory>
         ensures ok { OnOk result (self.new ≡ with_list D.Ord.cmp list.now self.old) }
         ensures kept { OnOk result ((p : List D) → Contains self.new p ↔ IsKept D.Ord.cmp (list.now ∷ []) self.old p) }
@@ -76,7 +76,7 @@ impl<D: Key + Dup, A: Allocator + Copy> Cover<D, A> {
         put(&mut self.root, &self.alloc, list)
     }
 
-    /// How the list stands to the cover. It takes no memory.
+    /// How the list stands to the cover. It does not allocate.
     #[tactic(auto, using(crate::specs::Marked::covered_is, crate::specs::Marked::inner_is))]
     pub fn mark(&self, list: &[D]) -> Mark
         ensures mark { result ≡ mark_of D.Ord.cmp self.now list.now }
@@ -86,7 +86,7 @@ impl<D: Key + Dup, A: Allocator + Copy> Cover<D, A> {
         marked(&self.root, list)
     }
 
-    /// Whether a beginning of each of the other's lists is there. It takes no memory, and one walk of both.
+    /// Whether a beginning of each of the other's lists is there. It does not allocate, and takes one walk of both.
     pub fn covers_all(&self, other: &Cover<D, A>) -> bool
         ensures { IsTrue result ↔ All (λ list. covers D.Ord.cmp self.now list ≡ true) other.now }
     {

@@ -1,4 +1,4 @@
-//! A walk over the items of a tree, least first, that takes no memory.
+//! A walk over the items of a tree, least first, that does not allocate.
 
 ghost use Rattle.std.specs.Prelude.{◌≡◌, ◌<◌, ◌≤◌, ◌+◌, List, length, drop};
 ghost use Rattle.std.specs.Iterator.{YieldsFirstRef, item_count};

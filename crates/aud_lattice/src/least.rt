@@ -38,7 +38,7 @@ impl<T: Key + Dup> Least<T> {
         self.item.as_ref()
     }
 
-    /// Keeps the lesser of the item and the least so far. It takes no memory.
+    /// Keeps the lesser of the item and the least so far. It does not allocate.
     pub fn put(&mut self, item: T)
         ensures { self.new ≡ least_of T.Ord.cmp self.old (Some item) }
     {

@@ -55,7 +55,7 @@ pub trait Lattice {
         ensures ok { OnOk result (self.new ≡ join_of self.old other.now) }
         ensures err { OnErr result (self.new ≡ self.old) };
 
-    /// Whether both stand for the same. It takes no memory.
+    /// Whether both stand for the same. It does not allocate.
     fn same(&self, other: &Self) -> bool
         ensures same_value { IsTrue result ↔ (self.now ≡ other.now) }
         ensures same_meaning { IsTrue result ↔ (meaning self.now ≡ meaning other.now) };

@@ -11,7 +11,7 @@ use aud_event::{Dup, Key, OutOfMemory};
 use std::alloc::Allocator;
 use std::cmp::Ordering;
 
-// The tree with a copy of the item. One that is there already takes no memory.
+// The tree with a copy of the item. One that is there already needs no allocation.
 #[tactic(auto, using(crate::specs::Splits::with_there))]
 fn added<T: Key + Dup, A: Allocator + Clone>(
     alloc: &A,

@@ -87,7 +87,7 @@ fn own_nodes<D: Key + Dup, A: Allocator + Copy>(
 }
 
 impl<D: Key + Dup, A: Allocator + Copy> Trie<D, A> {
-    /// The trie of no list. It takes no memory.
+    /// The trie of no list. It does not allocate.
     pub(crate) fn empty(alloc: A) -> Trie<D, A>
         ensures nothing { walk D.Ord.cmp result ≡ nothing }
         ensures good { IsTrie D.Ord.cmp result }
@@ -95,7 +95,7 @@ impl<D: Key + Dup, A: Allocator + Copy> Trie<D, A> {
         Trie::Fork(BTreeMap::new(alloc))
     }
 
-    /// How the list stands to the trie. It takes no memory.
+    /// How the list stands to the trie. It does not allocate.
     pub fn mark(&self, list: &[D]) -> Mark
         ensures { result ≡ walk_mark D.Ord.cmp self.now list.now }
     {
@@ -117,7 +117,7 @@ impl<D: Key + Dup, A: Allocator + Copy> Trie<D, A> {
         }
     }
 
-    /// The node that the list leads to, if it leads to one. It takes no memory.
+    /// The node that the list leads to, if it leads to one. It does not allocate.
     pub fn node(&self, list: &[D]) -> Option<&Trie<D, A>>
         ensures { option_copied result ≡ node_at D.Ord.cmp list.now self.now }
     {
@@ -308,7 +308,7 @@ impl<D: Key + Dup, A: Allocator + Copy> Trie<D, A> {
         }
     }
 
-    /// Whether each list with a beginning here has one there. It takes no memory.
+    /// Whether each list with a beginning here has one there. It does not allocate.
     #[cycle(withins)]
     pub(crate) fn is_within(&self, other: &Trie<D, A>) -> bool
         requires here { IsTrie D.Ord.cmp self.now }
@@ -347,7 +347,7 @@ impl<D: Key + Dup, A: Allocator + Copy> Trie<D, A> {
         }
     }
 
-    /// Puts the lists at the end, each behind the path.
+    /// Puts the lists at the end, each after the path.
     #[cycle(pushes)]
     pub(crate) fn push_paths(
         &self,

@@ -33,7 +33,7 @@ impl<T: Key + Dup, A: Allocator + Clone> Model for UnionSet<T, A> {
 }
 
 impl<T: Key + Dup, A: Allocator + Clone> UnionSet<T, A> {
-    /// No items. It takes no memory.
+    /// No items. It does not allocate.
     pub fn empty(alloc: A) -> UnionSet<T, A>
         ensures { result ≡ [] }
     {
@@ -50,7 +50,7 @@ impl<T: Key + Dup, A: Allocator + Clone> UnionSet<T, A> {
         Ok(UnionSet { alloc, root })
     }
 
-    /// How many items there are. It takes no memory.
+    /// How many items there are. It does not allocate.
     pub fn len(&self) -> usize
         ensures { result ≡ length self.now }
     {
@@ -64,7 +64,7 @@ impl<T: Key + Dup, A: Allocator + Clone> UnionSet<T, A> {
         self.len() == 0
     }
 
-    /// The items, least first. The walk takes no memory.
+    /// The items, least first. The walk does not allocate.
     pub fn iter(&self) -> Iter<'_, T, A>
         ensures all { result ≡ self.now }
         ensures sorted { IsStrictlySortedBy T.Ord.cmp self.now }
@@ -72,7 +72,7 @@ impl<T: Key + Dup, A: Allocator + Clone> UnionSet<T, A> {
         all_of(&self.root)
     }
 
-    /// Whether the item is there. It takes no memory, and as many comparisons as the tree is deep.
+    /// Whether the item is there. It does not allocate, and takes as many comparisons as the tree is deep.
     #[tactic(auto, using(crate::specs::Members::has_is))]
     pub fn contains(&self, item: &T) -> bool
         ensures test { result ≡ has T.Ord.cmp self.now item.now }
@@ -81,7 +81,7 @@ impl<T: Key + Dup, A: Allocator + Clone> UnionSet<T, A> {
         contains(&self.root, item)
     }
 
-    /// Puts the item in, and tells whether it is new. One that is there already takes no memory; a new one takes as many
+    /// Puts the item in, and says whether it is new. One that is there already needs no allocation; a new one takes as many
     /// nodes as the tree is deep, and shares all others with the set before.
     #[tactic(auto, using(crate::specs::Splits::with_there, crate::specs::Sorted::sorted_with_item, crate::specs::Members::contains_with_item))]
     pub fn insert(&mut self, item: T) -> Result<bool, OutOfMemory>

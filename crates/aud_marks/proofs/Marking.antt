@@ -210,7 +210,7 @@ next-found words count from place at before past next inside = (
         let own : (place - place % 64 + at) % 64 ≡ at = omega arith in
         (λ i. nat_eq (bit_at (get_or words (word i) 0) (own i)) 1) ∙ ap (λ n. nat_eq n 1) is
 
--- nothing is left behind the last place
+-- nothing is left after the last place
 pub next-past : (words : List ℕ) (count from place : ℕ) → AreUnmarked (marks_of words count) from place → count ≤ place → IsNextMark (marks_of words count) from None
 next-past words count from place before past = λ k behind. elim (split (nat_lt k place)) [
   | inl low ↦ before k behind (grind (arith, nat_tests))

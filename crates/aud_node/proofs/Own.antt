@@ -85,7 +85,7 @@ pub own_offered : (s n : ℕ) (item : Item Global) (v log w : List Entry) → Is
 own_offered s n item v log w p le count is =
     ap (own s) is ∙ (own-append s log ((s, item) ∷ []) ∙ (ap (λ xs. xs ++ own s ((s, item) ∷ [])) (mine_whole s n v log p le count) ∙ ap (λ xs. take n (own s v) ++ xs) (own_mine s (s, item) refl)))
 
--- an offer behind one log is an offer behind an equal one
+-- an offer after one log is an offer after an equal one
 pub same_offer : (new held log : List Entry) (s t : ℕ) (v item : Item Global) → new ≡ held ++ (s, v) ∷ [] → held ≡ log → s ≡ t → v ≡ item → new ≡ log ++ (t, item) ∷ []
 same_offer new held log s t v item is logs seats items =
     is

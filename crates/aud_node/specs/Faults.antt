@@ -21,7 +21,7 @@ IsSeats seats = (1 ≤ seats) × (seats ≤ 32)
 abbrev pub MayOffer : NodeOf → PassOf → Item Global → Type 0
 MayOffer n p item = IsOfPlan n.plan item × IsAt n p
 
--- the fault of an offer: the plan is looked at first, then the node, and want of memory is told only where neither is
+-- the fault of an offer: the plan is looked at first, then the node, and out of memory is reported only where neither is
 abbrev pub IsOfferFault : NodeOf → PassOf → Item Global → OfferFault → Type 0
 IsOfferFault n p item offer.PlanMismatch = IsOfPlan n.plan item → ⊥
 IsOfferFault n p item offer.WrongNode = IsOfPlan n.plan item × (p.number ≢ n.number)
@@ -69,8 +69,8 @@ IsFirstForeign number passes index = (index < length passes) × AreAtBefore numb
 abbrev pub MayClose : NodeOf → List PassOf → Type 0
 MayClose n passes = HasSeats n.number n.seats passes × AreAt n.number passes
 
--- why a node is not closed: the least seat whose pass is missing, else the first pass of another node; want of memory is
--- told only where neither is
+-- why a node is not closed: the least seat whose pass is missing, else the first pass of another node; out of memory is
+-- reported only where neither is
 abbrev pub IsCloseFault : NodeOf → List PassOf → CloseFault → Type 0
 IsCloseFault n passes (close.PassMissing seat) = (seat < n.seats) × HasSeats n.number seat passes × IsMissing n.number seat passes
 IsCloseFault n passes (close.ForeignPass index) = HasSeats n.number n.seats passes × IsFirstForeign n.number passes index

@@ -29,7 +29,7 @@ Begins front other = (front.number ≡ other.number) × IsPrefix front.log other
 abbrev pub IsNoBeginning : FrontOf → FrontOf → Type 0
 IsNoBeginning front other = front.number ≡ other.number → IsPrefix other.log front.log
 
--- the test tells whether the first front begins the second
+-- the test says whether the first front begins the second
 abbrev pub TellsWhetherBegins : Bool → FrontOf → FrontOf → Type 0
 TellsWhetherBegins test front other = MatchBool test (Begins front other) (IsNoBeginning front other)
 

@@ -116,7 +116,7 @@ impl Model for Front {
     ghost invariant = { λ f. f.len ≡ length f.seen.log };
 }
 
-/// A new history, in which nothing stands. It takes no memory.
+/// A new history, in which nothing stands. It does not allocate.
 pub fn open(number: u32) -> (Head, Front)
     ensures head { result.0.number ≡ number }
     ensures front { result.1 ≡ unseen number result.0.word.book }
@@ -150,7 +150,7 @@ impl Front {
         self.number
     }
 
-    /// A copy. It takes no memory.
+    /// A copy. It does not allocate.
     pub fn copy(&self) -> Front
         ensures { result ≡ self.now }
     {

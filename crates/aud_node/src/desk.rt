@@ -130,7 +130,7 @@ struct Shares {
 }
 
 impl Shares {
-    // Three owners of the Knowledge. It takes no memory.
+    // Three owners of the Knowledge. It does not allocate.
     fn of(known: Arc<Knowledge>) -> Result<Shares, AllocError>
         ensures { IfOk result (λ s. s.readers.value ≡ known.value) }
     {
@@ -298,7 +298,7 @@ impl<J: Fleet, R: Wait + Drop> Desk<J, R> {
             return Err(AllocError);
         }
         self.log.reserve(1)?;
-        // What is published already is told once more: then the writer can take one operation more without growing.
+        // What is published already is said once more: then the writer can take one operation more without growing.
         if !self.scribe.writer.has_pending_operations() {
             let again = self.held.latest.copy()?;
             if self.scribe.writer.append(again).is_err() {

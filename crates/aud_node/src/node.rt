@@ -42,7 +42,7 @@ impl Model for Opened {
 }
 
 impl Opened {
-    /// Opens the history of the node of the number. It takes no memory. Different nodes have different numbers.
+    /// Opens the history of the node of the number. It does not allocate. Different nodes have different numbers.
     pub fn new(number: u32) -> Opened
         ensures { result.number ≡ number }
     {
@@ -89,7 +89,7 @@ impl<J: Fleet, D: Drop> Node<J, D> {
         self.home.head.number
     }
 
-    /// The plan. It takes no memory.
+    /// The plan. It does not allocate.
     pub fn plan(&self) -> &Plan
         ensures { result.now ≡ self.now.plan }
     {
@@ -113,7 +113,7 @@ impl<J: Fleet, D: Drop> Node<J, D> {
         }
     }
 
-    /// Whether a beginning of the list is refuted in the pass's new view; the list itself counts. It takes no memory, and
+    /// Whether a beginning of the list is refuted in the pass's new view; the list itself counts. It does not allocate, and
     /// errs by `WrongNode` alone.
     pub fn knows(&self, pass: &mut Pass<J>, list: &Prefix) -> Result<bool, ReadFault>
         ensures view { GoesOn pass.old pass.new }

@@ -88,21 +88,21 @@ impl<J: Fleet> Pass<J> {
         })
     }
 
-    /// The seat, from 0. It takes no memory.
+    /// The seat, from 0. It does not allocate.
     pub fn seat(&self) -> u32
         ensures { result ≡ self.now.seat }
     {
         self.seat
     }
 
-    /// How many of its offers were answered Ok. It takes no memory.
+    /// How many of its offers were answered Ok. It does not allocate.
     pub fn offers(&self) -> u64
         ensures { result ≡ self.now.offers }
     {
         self.offers
     }
 
-    /// The number of its node. It takes no memory.
+    /// The number of its node. It does not allocate.
     pub fn number(&self) -> u32
         ensures { result ≡ self.now.number }
     {

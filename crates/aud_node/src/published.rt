@@ -22,7 +22,7 @@ pub struct Published {
 }
 
 impl Published {
-    /// A copy that shares the knowledge. It takes no memory: it fails only where the knowledge has all the owners that it
+    /// A copy that shares the knowledge. It does not allocate: it fails only where the knowledge has all the owners that it
     /// may have.
     pub fn copy(&self) -> Result<Published, AllocError>
         ensures front { IfOk result (λ p. p.front ≡ self.now.front) }

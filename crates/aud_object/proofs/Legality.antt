@@ -199,7 +199,7 @@ opening_is_legality objects es = (
   λ legal ob d at. legal ob (opening_of d) (get-map objects ob ∙ ap (option_map opening_of) at),
 )
 
--- one part behind another
+-- one part after another
 get-after : (first i k : ℕ) (ss : List ObjState) (es : List Event) → k ≡ first + i → slice_get (states_after_from first ss es) i ≡ option_map (λ s. state_after s (on_object k es)) (slice_get ss i)
 get-after first i k [] es e = refl
 get-after first zero k (s ∷ ss) es e =

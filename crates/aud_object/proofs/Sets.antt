@@ -35,7 +35,7 @@ without-below v [] h = refl
 without-below v ((x, true) ∷ es) h = grind (arith, without-below v es h.1, lt-not_eq v x h.0)
 without-below v ((x, false) ∷ es) h = without-below v es h.1
 
--- a value that is kept behind x is above x
+-- a value that is kept after x is above x
 pub found-above : (x v : ℤ) (b : Bool) (es : Flags) → AreAbove x es → flag_of es v ≡ Some b → int_lt x v ≡ true
 found-above x v b [] h n = cc
 found-above x v b (e ∷ es) h n = grind (arith, common_steps, found-above x v b es h.1, eq-is v e.0)

@@ -1,4 +1,4 @@
--- Blocks of a transaction: its executions, and at most one invocation behind them.
+-- Blocks of a transaction: its executions, and at most one invocation after them.
 use Rattle.std.specs.Prelude.{◌<◌, List, [], ◌∷◌, ◌++◌, Option, Some, None, length}
 use Rattle.aud_event.specs.declared.object.Answer.{Answer}
 use Rattle.aud_event.specs.declared.fact.Event.{Event}
@@ -27,7 +27,7 @@ events_of_trailing (Some i) = Inv i.object i.op ∷ []
 abbrev pub events_of_block : BlockOf → List Event
 events_of_block b = events_of_executions b.executions ++ events_of_trailing b.trailing
 
--- a block with one more invocation behind its executions
+-- a block with one more invocation after its executions
 abbrev pub invoked : BlockOf → Invocation → BlockOf
 invoked b i = record { executions = b.executions; trailing = Some i }
 

@@ -1,4 +1,4 @@
--- A number for the states of objects, the same for states that mean the same.
+-- A number for the state of an object, the same for states that mean the same.
 use Rattle.std.specs.Prelude.{ℕ, ℤ, ◌*◌, ◌/◌, ◌%◌, ◌^◌, List, [], ◌∷◌}
 use Rattle.std.specs.Int.Bits.{bit_xor}
 use Rattle.std.specs.Int.{w64, cast_unsigned}
@@ -19,8 +19,3 @@ digest_of (register v) = stirred 1 (cast_unsigned w64 v)
 digest_of (counter v) = stirred 2 (cast_unsigned w64 v)
 digest_of (set_of s) = digest_values 3 s
 digest_of (queue q) = digest_values 4 q
-
--- more objects of a digest
-abbrev pub digest_states : ℕ → List ObjState → ℕ
-digest_states digest [] = digest
-digest_states digest (s ∷ ss) = digest_states (stirred digest (digest_of s)) ss

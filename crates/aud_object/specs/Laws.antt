@@ -22,13 +22,13 @@ OpeningIsLegality = (objects : List Declared) (es : List Event) → IsLegal obje
 abbrev pub AreExecutionsOnEach : List Event → Type 0
 AreExecutionsOnEach es = (ob : ℕ) → AreExecutions (on_object ob es)
 
--- events behind whole executions are legal exactly where both are, the later ones from the states after the earlier ones
+-- events after whole executions are legal exactly where both are, the later ones from the states after the earlier ones
 abbrev pub LegalityIsByParts : Type 0
 LegalityIsByParts = (states : List ObjState) (es later : List Event) → AreExecutionsOnEach es →
     (IsLegalFrom states (es ++ later) ↔ (IsLegalFrom states es × IsLegalFrom (states_after states es) later))
     × (states_after states (es ++ later) ≡ states_after (states_after states es) later)
 
--- a block behind whole executions that are legal: its replay from the states after them decides whether all is legal
+-- a block after whole executions that are legal: its replay from the states after them decides whether all is legal
 abbrev pub BlocksReplayInTurn : Type 0
 BlocksReplayInTurn = (states : List ObjState) (es : List Event) (block : BlockOf) → AreExecutionsOnEach es → IsLegalFrom states es → AreThere states block.executions →
     MatchOption (replayed (states_after states es) block)

@@ -48,7 +48,7 @@ abbrev pub front_of : List ℤ → Answer
 front_of [] = Empty
 front_of (v ∷ q) = Int v
 
--- the items behind the front one
+-- the items after the front one
 abbrev pub behind_front : List ℤ → List ℤ
 behind_front [] = []
 behind_front (v ∷ q) = q

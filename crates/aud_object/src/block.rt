@@ -1,4 +1,4 @@
-//! What a transaction did: its executions, and at most one invocation behind them.
+//! What a transaction did: its executions, and at most one invocation after them.
 
 ghost use Rattle.std.specs.Prelude.{◌≡◌, [], None, Some, OnOk, OnErr};
 ghost use Rattle.aud_object.specs.Blocks.{invoked, answered};
@@ -24,7 +24,7 @@ impl<A: Allocator> Model for Block<A> {
 }
 
 impl<A: Allocator> Block<A> {
-    /// The block of these executions, and of the invocation that waits behind them. It takes no memory.
+    /// The block of these executions, and of the invocation that waits after them. It does not allocate.
     pub fn new(executions: Vec<Execution, A>, trailing: Option<Invocation>) -> Block<A>
         ensures { result ≡ record { executions = executions.items; trailing = trailing } }
     {
@@ -34,7 +34,7 @@ impl<A: Allocator> Block<A> {
         }
     }
 
-    /// The block of a transaction that did nothing yet. It takes no memory.
+    /// The block of a transaction that did nothing yet. It does not allocate.
     pub fn empty(alloc: A) -> Block<A>
         ensures { result ≡ record { executions = []; trailing = None } }
     {

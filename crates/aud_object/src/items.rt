@@ -48,7 +48,7 @@ fn digest_list(start: u64, values: &[i64]) -> u64
 }
 
 impl<A: Allocator + Drop> Items<A> {
-    /// No items. It takes no memory.
+    /// No items. It does not allocate.
     pub(crate) fn new(alloc: A) -> Items<A>
         ensures { items_in result ≡ [] }
     {
@@ -84,7 +84,7 @@ impl<A: Allocator + Drop> Items<A> {
         &self.all[self.gone..]
     }
 
-    /// Puts an item behind the others.
+    /// Puts an item after the others.
     pub(crate) fn enqueue(&mut self, item: i64) -> Result<(), OutOfMemory>
         ensures items { OnOk result (items_in self.new ≡ items_in self.old ++ item ∷ []) }
         ensures back { OnOk result (back_items self.new Change.Enq ≡ self.old) }

@@ -18,7 +18,7 @@ pub fn opening_is_legality()
     ensures { OpeningIsLegality }
 {}
 
-/// Events behind whole executions are legal exactly where both are, the later ones from the states after the earlier ones.
+/// Events after whole executions are legal exactly where both are, the later ones from the states after the earlier ones.
 pub fn legality_is_by_parts()
     ensures { LegalityIsByParts }
 {}

@@ -93,7 +93,7 @@ fn kept_members<A: Allocator + Clone>(
 }
 
 impl<A: Allocator + Drop> Members<A> {
-    /// No members. It takes no memory.
+    /// No members. It does not allocate.
     pub(crate) fn new(alloc: A) -> Members<A>
         ensures { result ≡ [] }
     {

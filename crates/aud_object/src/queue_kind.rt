@@ -13,7 +13,7 @@ use aud_event::{Answer, Dup, Op, OutOfMemory};
 use std::alloc::{Allocator, Global};
 use std::marker::PhantomData;
 
-/// A queue of i64, at first empty, first in, first out: Enq puts an item behind the others, Deq takes the front one.
+/// A queue of i64, at first empty, first in, first out: Enq puts an item after the others, Deq takes the front one.
 pub struct Queue<A = Global> {
     of: PhantomData<A>,
 }

@@ -22,7 +22,7 @@ pub trait ObjectSpec {
     // what a state means
     ghost means: { Self.State → ObjState };
 
-    /// The state at which an object opens. It takes no memory.
+    /// The state at which an object opens. It does not allocate.
     fn opening(alloc: Self::Alloc, value: i64) -> Self::State
         ensures { means result ≡ opens_at kind value };
 

@@ -1,16 +1,15 @@
 //! The states of all objects of a plan, with a log by which a block is taken back with no memory.
 
-ghost use Rattle.std.specs.Prelude.{◌≡◌, ◌≢◌, ◌↔◌, ◌≤◌, IsTrue, [], ◌∷◌, length, true, false, map, IfOk, OnErr, OnOk, MatchOption, option_map, is_some};
+ghost use Rattle.std.specs.Prelude.{◌≡◌, ◌≢◌, ◌↔◌, ◌≤◌, IsTrue, [], ◌∷◌, length, true, false, map, IfOk, OnErr, OnOk, MatchOption, option_map, is_some, slice_get};
 ghost use Rattle.aud_object.specs.Objects.{opening_of};
 ghost use Rattle.aud_object.specs.States.{meaning};
 ghost use Rattle.aud_object.specs.Shown.{shown};
 ghost use Rattle.aud_object.specs.Logs.{back_at};
-ghost use Rattle.aud_object.specs.Digests.{digest_states};
+ghost use Rattle.aud_object.specs.Digests.{digest_of};
 ghost use Rattle.aud_object.specs.Replayed.{same_answer, after_at, answer_at, answers, replayed, Replays, Runs};
 
 use crate::block::Block;
 use crate::change::Change;
-use crate::digest::stir;
 use crate::execution::Execution;
 use crate::log::Entry;
 use crate::shown::{Shown, show_all};
@@ -134,30 +133,23 @@ fn size_of_all<A: Allocator + Drop>(states: &[State<A>]) -> usize
     size
 }
 
-fn digest_all<A: Allocator + Drop>(states: &[State<A>]) -> u64
-    ensures { result ≡ digest_states 0 (map meaning states.now) }
-{
-    let mut digest = 0;
-    for state in states {
-        digest = stir(digest, state.digest());
-    }
-    digest
-}
-
 impl<A: Allocator + Drop> Store<A> {
-    /// Whether all states mean the same now. It takes no memory, and time linear in the sizes of the states.
+    /// Whether all states mean the same now. It does not allocate, and takes time linear in the sizes of the states.
     pub fn same(&self, other: &Store<A>) -> bool
         ensures { IsTrue result ↔ (self.now.now ≡ other.now.now) }
     {
         have_same_meanings(&self.states, &other.states)
     }
 
-    /// A number that is the same for stores whose states mean the same now. It takes no memory, and time linear in the sizes
-    /// of the states.
-    pub fn digest(&self) -> u64
-        ensures { result ≡ digest_states 0 self.now.now }
+    /// A number for the object's state now, the same for states that mean the same, if there is such an object. It does not
+    /// allocate, and takes time linear in the size of the state.
+    pub fn digest(&self, object: usize) -> Option<u64>
+        ensures { result ≡ option_map digest_of (slice_get self.now.now object) }
     {
-        digest_all(&self.states)
+        match self.states.get(object) {
+            Some(state) => Some(state.digest()),
+            None => None,
+        }
     }
 
     /// How many numbers the states keep, or more, and one for each object: what a copy costs.
@@ -174,7 +166,7 @@ impl<A: Allocator + Drop> Store<A> {
         self.states.len()
     }
 
-    /// Takes back the block that was replayed last and not taken back yet. It takes no memory.
+    /// Takes back the block that was replayed last and not taken back yet. It does not allocate.
     pub fn undo(&mut self)
         requires { self.old.past ≢ [] }
         ensures { self.old.past ≡ self.new.now ∷ self.new.past }
@@ -248,7 +240,7 @@ impl<A: Allocator + Clone> Store<A> {
     }
 
     /// Whether each recorded answer is the object's. If so the block has run, and `undo` takes it back; if not, and where
-    /// memory is wanting, the store is as it was. It costs what the block touches.
+    /// memory runs out, the store is as it was. It costs what the block touches.
     pub fn replay<B: Allocator>(&mut self, block: &Block<B>) -> Result<bool, OutOfMemory>
         ensures right { IfOk result (λ right. Replays self.old block.now right self.new) }
         ensures refused { OnErr result (self.new ≡ self.old) }

@@ -67,7 +67,7 @@ silent-moves-forward plan h p q d fine within silent next shown =
     root : Spot
     root = first_spot (table_of h) plan.objects
 
--- a list is refuted where it is once a silent transaction is placed behind it
+-- a list is refuted where it is once a silent transaction is placed after it
 pub refuted-by_silent : (plan : PlanOf) (h : History) (p : List Decision) (d : Decision) → IsWellFormed h → IsWithinLimits plan h →
     silent_fate h d.tx ≡ Some d.fate → IsGoodNext plan.objects h p d → Refuted plan.objects h (p ++ d ∷ []) → Refuted plan.objects h p
 refuted-by_silent plan h p d fine within silent next refuted q shown = refuted (without d.tx q) (silent-moves-forward plan h p q d fine within silent next shown)

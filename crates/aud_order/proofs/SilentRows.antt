@@ -1,4 +1,4 @@
--- A row of the table tells the silent fate of its transaction.
+-- A row of the table gives the silent fate of its transaction.
 use Rattle.std.specs.Prelude.{◌≡◌, ℕ, suc, zero, ◌<◌, Bool, true, false, ◌&&◌, ◌||◌, nat_eq, List, [], ◌∷◌, map, length, Some, None, slice_get, refl}
 use Rattle.std.specs.List.{list_any, list_all, position}
 use Rattle.std.proofs.Common.{sym, ◌∙◌, ap, subst, cond, inl, inr, arith, get_or}
@@ -69,7 +69,7 @@ asked-from_allowed h t allowed =
       | inr pending ↦ or_right (is_committed h t) (list_any is_try_commit (events_of t h)) (and_true (is_live h t) (list_any is_try_commit (events_of t h)) pending).1
     ]
 
--- the row of a transaction tells its silent fate
+-- the row of a transaction gives its silent fate
 pub silent-row : (h : History) (t : ℕ) → IsWellFormed h → is_in h t ≡ true → silent_row (row_of h t) ≡ silent_fate h t
 silent-row h t fine there =
     ap (λ b. silent_by b observes) (status-allowed h t C fine)

@@ -33,7 +33,7 @@ use Rattle.aud_order.proofs.Opens.{placed-before}
 use Rattle.aud_order.proofs.Lists.{length-push, push-parts, take-push}
 use Rattle.aud_order.proofs.KidLemmas.{in-transactions}
 
--- what is told of one more decision
+-- what is reported of one more decision
 pub told-next : (plan : PlanOf) (h : History) (p : List Decision) (s : Spot) (d : Decision) → IsWellFormed h → IsWithinLimits plan h → Stands plan.objects h p s →
     Told plan.objects h p d (stepped (table_of h) s d)
 told-next plan h p s d fine fits stands = stepped-told plan.objects h p s d fine (fit-from_plan plan d.tx h fits.1) stands
@@ -173,7 +173,7 @@ back-at shape p new count d q o at back is place =
         placed-before (table_of (history_of shape)) new.spot p.spot d count i (subst (λ (x : Decision). stepped (table_of (history_of shape)) new.spot x ≡ Ok p.spot) same step) (sym place ∙ some) at.opens in
         subst (λ n. ArePlaced new.spot.placed (min count n)) (sym (ap (λ y. unwrap_or y 0) some)) low
 
--- # What is told
+-- # What is reported
 
 pub good-told : (objects : List Declared) (h : History) (p : List Decision) (d : Decision) → place_fault objects h p d ≡ None → (told.Good ≡ told.Good) ↔ IsGoodNext objects h p d
 good-told objects h p d none = ((λ _. IsGoodNext-from_no_fault objects h p d none), (λ _. refl))

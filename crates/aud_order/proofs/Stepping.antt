@@ -24,7 +24,7 @@ use Rattle.aud_order.specs.Moves.{without}
 
 -- # One step
 
--- the spot behind a decision on the row at the place
+-- the spot after a decision on the row at the place
 abbrev pub spot_behind : Spot → Fate → ℕ → List ObjState → Spot
 spot_behind s f k after = record { placed = slice_set s.placed k true; states = states_with f s.states after }
 

@@ -24,7 +24,7 @@ abbrev pub IsBehind : ShapeOf → List Decision → Option CursorOf → Type 0
 IsBehind shape p None = IsGood (objects_of shape) (history_of shape) p → ⊥
 IsBehind shape p (Some c) = (c ≡ record { shape = shape; path = p }) × IsGood (objects_of shape) (history_of shape) p
 
--- the decision is good behind those of the cursor
+-- the decision is good after those of the cursor
 abbrev pub IsGoodAt : CursorOf → Decision → Type 0
 IsGoodAt c d = IsGoodNext (objects_of c.shape) (history_of c.shape) c.path d
 
@@ -44,7 +44,7 @@ cursor_back c = record { shape = c.shape; path = take (length c.path - 1) c.path
 abbrev pub transaction_at : CursorOf → ℕ → ℕ
 transaction_at c place = slice_index_or (transactions (history_of c.shape)) place 0
 
--- what a cursor tells of a decision in which something is wrong
+-- what a cursor says of a decision in which something is wrong
 abbrev pub pushed_by_fault : OrderFault → Pushed
 pushed_by_fault (UnknownTx _) = told.NotAChoice
 pushed_by_fault (Twice _) = told.NotAChoice
@@ -53,16 +53,16 @@ pushed_by_fault (RealTime _) = told.NotEnabled
 pushed_by_fault (Illegal _) = told.Illegal
 pushed_by_fault (Missing _) = told.NotAChoice
 
--- what a cursor tells of a decision, by what is wrong with it
+-- what a cursor says of a decision, by what is wrong with it
 abbrev pub pushed_by : Option OrderFault → Pushed
 pushed_by None = told.Good
 pushed_by (Some fault) = pushed_by_fault fault
 
--- what a cursor tells of a decision
+-- what a cursor says of a decision
 abbrev pub pushed_at : CursorOf → Decision → Pushed
 pushed_at c d = pushed_by (place_fault (objects_of c.shape) (history_of c.shape) c.path d)
 
--- the decisions lead from the first spot to a spot, over the spots behind it, the last one first
+-- the decisions lead from the first spot to a spot, over the spots after it, the last one first
 abbrev pub Leads : List RowOf → Spot → List Decision → Spot → List Spot → Type 0
 Leads rows root path s [] = (path ≡ []) × (s ≡ root)
 Leads rows root path s (t ∷ past) =

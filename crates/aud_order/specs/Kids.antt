@@ -16,15 +16,15 @@ use Rattle.aud_order.specs.Shapes.{objects_of, history_of}
 abbrev pub both_fates : ℕ → List Decision
 both_fates t = record { tx = t; fate = C } ∷ record { tx = t; fate = A } ∷ []
 
--- the decisions on some transactions that are good behind p
+-- the decisions on some transactions that are good after p
 abbrev pub goods : List Declared → History → List Decision → List ℕ → List Decision
 goods objects h p ts = filter (is_good_next objects h p) (flat_map both_fates ts)
 
--- the same behind the list of a cursor
+-- the same after the list of a cursor
 abbrev pub goods_at : CursorOf → List ℕ → List Decision
 goods_at c ts = goods (objects_of c.shape) (history_of c.shape) c.path ts
 
--- exactly the decisions that are good behind p, each once, the least first
+-- exactly the decisions that are good after p, each once, the least first
 pub record AreKids (objects : List Declared) (h : History) (p : List Decision) (ks : List Decision) : Type 0 where
   pub each : (d : Decision) → Contains ks d ↔ IsGoodNext objects h p d
   pub once : IsPermutation (kids objects h p) ks

@@ -15,13 +15,13 @@ abbrev pub without : ℕ → List Decision → List Decision
 without t [] = []
 without t (d ∷ p) = if nat_eq d.tx t then p else d ∷ without t p
 
--- A silent transaction that is good behind p with its silent fate can be moved from any later place, whatever fate it has
--- there, to the place behind p with its silent fate, and the list still shows.
+-- A silent transaction that is good after p with its silent fate can be moved from any later place, whatever fate it has
+-- there, to the place after p with its silent fate, and the list still shows.
 abbrev pub SilentMovesForward : Type 0
 SilentMovesForward = (plan : PlanOf) (h : History) (p q : List Decision) (d : Decision) → IsWellFormed h → IsWithinLimits plan h →
     silent_fate h d.tx ≡ Some d.fate → IsGoodNext plan.objects h p d → Shows plan.objects h (p ++ q) → Shows plan.objects h ((p ++ d ∷ []) ++ without d.tx q)
 
--- behind two good lists that name the same transactions and leave the same states, the same shows
+-- after two good lists that name the same transactions and leave the same states, the same shows
 abbrev pub SpotsDecide : Type 0
 SpotsDecide = (plan : PlanOf) (h : History) (p q rest : List Decision) → IsWellFormed h → IsWithinLimits plan h → IsGood plan.objects h p → IsGood plan.objects h q →
     ((t : ℕ) → is_named p t ≡ is_named q t) → states_after (map opening_of plan.objects) (kept h p) ≡ states_after (map opening_of plan.objects) (kept h q) →

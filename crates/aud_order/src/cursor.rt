@@ -122,7 +122,7 @@ impl<'a, A: Allocator + Copy> Cursor<'a, A> {
         self.placing.path().len() == self.shape.table().rows().len()
     }
 
-    /// Places a decision behind the others if it is good there, or tells the first thing that is wrong with it. Only where
+    /// Places a decision after the others if it is good there, or reports the first thing that is wrong with it. Only where
     /// it is good the cursor changes.
     pub fn push(&mut self, decision: Decision) -> Result<Pushed, OutOfMemory>
         ensures told { IfOk result (λ pushed. pushed ≡ pushed_at self.old decision) }
@@ -143,7 +143,7 @@ impl<'a, A: Allocator + Copy> Cursor<'a, A> {
         }
     }
 
-    /// Takes the last decision back; at the empty list it changes nothing and answers false. It takes no memory.
+    /// Takes the last decision back; at the empty list it changes nothing and answers false. It does not allocate.
     pub fn pop(&mut self) -> bool
         ensures root { result ≡ false → (self.old.path ≡ []) × (self.new ≡ self.old) }
         ensures back { result ≡ true → (self.old.path ≢ []) × (self.new ≡ cursor_back self.old) }
@@ -225,7 +225,7 @@ impl<'a, A: Allocator + Copy> Cursor<'a, A> {
     }
 
     /// The decisions that are good there, the least first. It costs what the blocks of the transactions cost that are
-    /// ready, and looks at no row behind the first that began too late. The cursor stays as it is.
+    /// ready, and looks at no row after the first that began too late. The cursor stays as it is.
     pub fn kids(&mut self, alloc: A) -> Result<Vec<Decision, A>, OutOfMemory>
         ensures kids { IfOk result (λ kids. AreKids (objects_of self.old.shape) (history_of self.old.shape) self.old.path kids.items) }
         ensures stays { self.new ≡ self.old }

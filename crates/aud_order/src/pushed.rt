@@ -1,4 +1,4 @@
-//! What a cursor tells of a decision.
+//! What a cursor says of a decision.
 
 ghost use Rattle.std.specs.Prelude.{◌≡◌, ◌↔◌, IsTrue};
 ghost use Rattle.aud_order.specs.Cursors.{pushed_by_fault};
@@ -29,7 +29,7 @@ impl Pushed {
         }
     }
 
-    /// What is told where something is wrong with the decision.
+    /// What is reported where something is wrong with the decision.
     pub(crate) fn of_fault(fault: OrderFault) -> Pushed
         ensures { result ≡ pushed_by_fault fault }
     {

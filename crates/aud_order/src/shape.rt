@@ -80,7 +80,7 @@ impl<A: Allocator + Copy> Shape<A> {
     }
 
     /// The silent fate of the transaction, if it is one that no other can see: A where every completion aborts it, C where it
-    /// may commit and all its operations are observing. It takes no memory.
+    /// may commit and all its operations are observing. It does not allocate.
     pub fn silent(&self, tx: u32) -> Option<Fate>
         ensures { result ≡ silent_fate (history_of self.now) tx }
     {

@@ -24,6 +24,6 @@ pub record BeginsOnly (old new text : List ℕ) : Type 0 where
   pub bytes : new ≡ old ++ went
 
 -- what a sink in memory holds, and whether it failed
-pub record Held : Type 0 where
+pub record HeldBytes : Type 0 where
   pub bytes : List ℕ
   pub failed : Bool

@@ -15,12 +15,12 @@ use Rattle.aud_report.specs.declared.report.ReportFault.TheVariants.{OutputFaile
 use Rattle.aud_report.specs.declared.said.Said.{Said}
 use Rattle.aud_report.specs.declared.said.Said.TheVariants as said
 
--- the number behind 8 and behind 10
+-- the number after 8 and after 10
 abbrev pub inner_text : Option ℕ → List ℕ
 inner_text None = []
 inner_text (Some n) = codes " " ++ decimal n
 
--- a text's fault: its number, and the inner fault's behind it
+-- a text's fault: its number, and the inner fault's after it
 abbrev pub fault_text : TextFault → List ℕ
 fault_text e = decimal (fault_number e) ++ inner_text (inner_number e)
 

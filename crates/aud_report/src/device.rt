@@ -13,7 +13,7 @@ pub struct SourceFault;
 #[derive(Clone, Copy, Debug, PartialEq, Eq)]
 pub struct SinkFault;
 
-/// What gives bytes. It tells the bytes that it has left, and counts its failures.
+/// What gives bytes. It says which bytes it has left, and counts its failures.
 ///
 /// A read that gives nothing into a buffer with room says that no bytes are left. A read that fails takes none.
 pub trait Source {
@@ -32,7 +32,7 @@ pub trait Source {
         ensures failed { OnErr result (failures self.new ≡ failures self.old + 1) };
 }
 
-/// What takes bytes. It tells the bytes that it holds, and counts its failures.
+/// What takes bytes. It says which bytes it holds, and counts its failures.
 ///
 /// A write that takes nothing of something is a failure too. A write that fails takes nothing.
 pub trait Sink {

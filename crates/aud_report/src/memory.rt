@@ -24,7 +24,7 @@ impl<A: Allocator> Model for MemorySource<A> {
 }
 
 impl<A: Allocator> MemorySource<A> {
-    /// A source that has these bytes. It takes no memory.
+    /// A source that has these bytes. It does not allocate.
     pub fn new(bytes: Vec<u8, A>) -> MemorySource<A>
         ensures { result ≡ bytes.items }
     {
@@ -49,7 +49,7 @@ impl<A: Allocator> Source for MemorySource<A> {
     }
 }
 
-/// What was written, in memory. Want of memory is its only failure, and it is written to no more behind one.
+/// What was written, in memory. Running out of memory is its only failure, and it is written to no more after one.
 #[derive(Drop)]
 pub struct MemorySink<A: Allocator = Global> {
     bytes: Vec<u8, A>,
@@ -57,15 +57,15 @@ pub struct MemorySink<A: Allocator = Global> {
 }
 
 impl<A: Allocator> Model for MemorySink<A> {
-    ghost use Rattle.aud_report.specs.Devices.{Held};
+    ghost use Rattle.aud_report.specs.Devices.{HeldBytes};
 
-    ghost Value = { Held };
+    ghost Value = { HeldBytes };
 
     ghost view = { λ s. record { bytes = s.bytes.items; failed = s.failed } };
 }
 
 impl<A: Allocator> MemorySink<A> {
-    /// A sink that holds nothing. It takes no memory.
+    /// A sink that holds nothing. It does not allocate.
     pub fn new(alloc: A) -> MemorySink<A>
         ensures { result ≡ record { bytes = []; failed = false } }
     {

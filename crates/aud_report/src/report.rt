@@ -55,7 +55,7 @@ pub fn write_report<A: Allocator + Clone + Drop, B: Allocator, W: Sink>(
     // A failed write leaves a beginning of the line.
     ensures cut { result ≡ Err ReportFault.OutputFailed → BeginsOnly (W.held sink.old) (W.held sink.new) (verdict_line verdict.now) }
     ensures failed { result ≡ Err ReportFault.OutputFailed → W.failures sink.new ≡ W.failures sink.old + 1 }
-    // Want of memory leaves the sink as it was.
+    // Running out of memory leaves the sink as it was.
     ensures nothing { result ≡ Err ReportFault.OutOfMemory → W.held sink.new ≡ W.held sink.old }
     ensures memory { result ≡ Err ReportFault.OutOfMemory → W.failures sink.new ≡ W.failures sink.old }
 {

@@ -24,7 +24,7 @@ pub enum Said {
     OrderTextRefused(TextFault),
     /// The input does not begin with a plan.
     PlanRefused(PlanTextFault),
-    /// A line behind the plan is no record or end mark. Lines are counted over the whole input, from 1.
+    /// A line after the plan is no record or end mark. Lines are counted over the whole input, from 1.
     RecordRefused(usize, TextFault),
 }
 

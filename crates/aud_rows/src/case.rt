@@ -27,7 +27,7 @@ impl Case {
         self.commands.as_slice()
     }
 
-    /// Takes a line behind the heading.
+    /// Takes a line after the heading.
     pub fn push(&mut self, alloc: Global, line: &str) -> Result<(), AllocError> {
         match line.strip_prefix("$ ") {
             Some(command) => self.commands.push(String::from_str(alloc, command)?)?,

@@ -20,7 +20,7 @@ length-one : {X : Type 0} (xs : List X) (x : X) → length (xs ++ x ∷ []) ≡ 
 length-one [] x = refl
 length-one (y ∷ xs) x = ap suc (length-one xs x)
 
--- one more behind the others
+-- one more after the others
 on-push : {A : Type 0} (h : History) (all : List (List ObjState)) (ks : List (Kept A)) (k : Kept A) → states_on h all (ks ++ k ∷ []) ≡ states_on h all ks ++ state_from h (states_on h all ks) k ∷ []
 on-push h all [] k = refl
 on-push h all (x ∷ ks) k = on-push h (all ++ state_from h all x ∷ []) ks k
@@ -70,7 +70,7 @@ get-take [] (suc n) k d inside = refl
 get-take (x ∷ xs) (suc n) zero d inside = refl
 get-take (x ∷ xs) (suc n) (suc k) d inside = get-take xs n k d (omega arith)
 
--- what is kept behind others
+-- what is kept after others
 behind-at : {A : Type 0} (h : History) (ks : List (Kept A)) (k : ℕ) (d kept : Kept A) (step : Step) (cost : Cost) → k < length ks → kept ≡ get_or ks k d → kept ≡ Behind step cost → step.from < k →
     slice_get (states_of h ks) k ≡ Some (unwrap_or (replayed (get_or (states_of h ks) step.from []) (row_of h step.tx).block) [])
 behind-at h ks k d kept step cost inside is behind before =

@@ -10,6 +10,7 @@ use Rattle.aud_history.specs.Histories.{History}
 use Rattle.aud_history.specs.WellFormed.{IsWellFormed}
 use Rattle.aud_history.specs.FirstFault.{IsWithinLimits}
 use Rattle.aud_witness.specs.declared.decision.Decision.{Decision}
+use Rattle.aud_witness.specs.Prefixes.{BeginsWith}
 use Rattle.aud_witness.specs.Orders.{IsFull, IsGood, IsGoodNext, Shows, Refuted}
 use Rattle.aud_witness.proofs.Good.{Shows-from_IsGood}
 use Rattle.aud_order.proofs.Moves.{refuted-by_silent}
@@ -17,7 +18,7 @@ use Rattle.aud_order.proofs.Lists.{length-push, push-parts, take-push}
 use Rattle.aud_order.proofs.Lengths.{length-full, full-from_length}
 use Rattle.aud_search.specs.declared.choice.Choice.{Choice}
 use Rattle.aud_search.specs.Choices.{AreChoices}
-use Rattle.aud_search.specs.Searches.{IsOpen, SpentBy, BeginsWith}
+use Rattle.aud_search.specs.Searches.{IsExpandable, SpentBy}
 use Rattle.aud_search.specs.Levels.{AreTried, AreBelow, IsSearching}
 use Rattle.aud_search.specs.Tried.{IsBehind}
 use Rattle.aud_search.proofs.Refuting.{refuted-bad, refuted-longer, refuted-by_kids}
@@ -75,7 +76,7 @@ search-start objects h p cs good unfull = record {
   es = p ∷ [];
   count = refl;
   different = ((λ member. contains_none p member), tt);
-  opens = λ e member. subst (λ l. IsOpen objects h l) (only e member) (good, unfull);
+  opens = λ e member. subst (λ l. IsExpandable objects h l) (only e member) (good, unfull);
   extend = λ e member. ([], sym (only e member) ∙ sym (append-nil p));
   parents = λ e d member. inl (sym (only (e ++ d ∷ []) member));
   unfull = λ e d member _ _. sym (only e member);
@@ -121,7 +122,7 @@ not_full : (objects : List Declared) (h : History) (path : List Decision) (c d :
 not_full objects h path c d good unfull other full =
     unfull (full-from_length objects h (path ++ c ∷ []) good (length-push path c ∙ sym (length-push path d) ∙ length-full objects h (path ++ d ∷ []) other full))
 
--- and so are those behind it, where it is of a silent transaction
+-- and so are those after it, where it is of a silent transaction
 pub tried-behind : (plan : PlanOf) (h : History) (cs : List Choice) (path : List Decision) (k g : ℕ) (c : Choice) → IsWellFormed h → IsWithinLimits plan h → AreChoices h cs → IsBehind cs k g →
     slice_get cs k ≡ Some c → AreTried plan.objects h cs path k → IsGoodNext plan.objects h path c.decision → Refuted plan.objects h (path ++ c.decision ∷ []) → AreTried plan.objects h cs path g
 tried-behind plan h cs path k g c fine within choices behind at tried good refuted =
@@ -157,7 +158,7 @@ search-deeper objects h p cs used path next gs k g c choices s past behind at tr
   es = new ∷ s.es;
   count = omega (arith, s.count);
   different = (s.fresh k c past at, s.different);
-  opens = λ e member. elim (contains_cases new s.es e member) [ inl same ↦ subst (λ l. IsOpen objects h l) same (good, unfull) | inr old ↦ s.opens e old ];
+  opens = λ e member. elim (contains_cases new s.es e member) [ inl same ↦ subst (λ l. IsExpandable objects h l) same (good, unfull) | inr old ↦ s.opens e old ];
   extend = λ e member. elim (contains_cases new s.es e member) [ inl same ↦ subst (λ l. (q : List Decision) × (l ≡ p ++ q)) same longer | inr old ↦ s.extend e old ];
   parents = λ e d member. elim (contains_cases new s.es (e ++ d ∷ []) member) [
     | inl same ↦ inr (contains_behind new s.es e (subst (λ l. Contains s.es l) (push-parts path e c.decision d same).0 s.here))
@@ -257,7 +258,7 @@ there-below [] k c at = absurd (cc)
 there-below (x ∷ cs) zero c at = omega arith
 there-below (x ∷ cs) (suc k) c at = let low : k < length cs = there-below cs k c at in omega arith
 
--- where all choices are refuted behind a list, it is refuted
+-- where all choices are refuted after a list, it is refuted
 pub refuted-here : (objects : List Declared) (h : History) (p : List Decision) (cs : List Choice) (used : ℕ) (path : List Decision) (next : ℕ) (gs : List ℕ) →
     AreChoices h cs → IsSearching objects h p cs used path next gs → AreTried objects h cs path (length cs) → Refuted objects h path
 refuted-here objects h p cs used path next gs choices s tried =

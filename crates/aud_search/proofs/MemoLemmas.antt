@@ -82,7 +82,7 @@ true-more shape all more entries leads sound = record {
   true_leads = λ l there. let t = sound.true_leads l there in record { before = t.before; after = t.after; from = get-front all more l.from t.before t.from; to = get-front all more l.to t.after t.to; runs = t.runs };
 }
 
--- once states came behind the others
+-- once states came after the others
 pub true-states : (shape : ShapeOf) (old new : List (List ObjState)) (entries : List EntryOf) (leads : List Lead) → IsMoreOf old new → IsTrueMemo shape old entries leads → IsTrueMemo shape new entries leads
 true-states shape old new entries leads (more, grown) sound = subst (λ l. IsTrueMemo shape l entries leads) (sym grown) (true-more shape old more entries leads sound)
 
@@ -197,7 +197,7 @@ dead-refuted shape all placed n at same fine within good is names dead rest show
     d.refuted rest (shown-same (plan_of at.shape) (history_of at.shape) at.path d.path rest fine within good d.good (sym is ∙ d.placed)
     (one-at (states_behind at.shape at.path) (states_behind at.shape d.path) (slice_get all n) names d.states) shown)
 
--- # The choice behind a list
+-- # The choice after a list
 
 named-own : (p : List Decision) (d : Decision) → is_named (p ++ d ∷ []) d.tx ≡ true
 named-own p d = is_named-append p (d ∷ []) d.tx ∙ or_right (is_named p d.tx) (nat_eq d.tx d.tx || false) (true_or (nat_eq d.tx d.tx) false (nat_eq-refl d.tx))

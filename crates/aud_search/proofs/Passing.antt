@@ -67,13 +67,13 @@ tried-passed start cur cs next from same tried (past, passed) j c below there =
       | inr after ↦ let high : next ≤ j = grind (arith, nat_tests) in seen-here start cur c.decision same (passed j c high below there)
     ]
 
--- the search goes on behind what was passed over
+-- the search goes on after what was passed over
 pub passed-search : (start cur : CursorOf) (cs : List Choice) (used next from : ℕ) (gs : List ℕ) → cur.shape ≡ start.shape → IsSearching (objects_of start.shape) (history_of start.shape) start.path cs used cur.path next gs → ArePassed cur cs next from →
     IsSearching (objects_of start.shape) (history_of start.shape) start.path cs used cur.path from gs
 passed-search start cur cs used next from gs same s passed =
     search-on (objects_of start.shape) (history_of start.shape) start.path cs used cur.path next gs from s passed.0 (tried-passed start cur cs next from same s.tried passed)
 
--- the choice that is followed stands behind them
+-- the choice that is followed stands after them
 pub passed-follows : (start cur new : CursorOf) (cs : List Choice) (used next from k : ℕ) (gs : List ℕ) → cur.shape ≡ start.shape → IsSearching (objects_of start.shape) (history_of start.shape) start.path cs used cur.path next gs → ArePassed cur cs next from →
     IsFound cur new cs from (Some k) → Follows start cur new cs next k
 passed-follows start cur new cs used next from k gs same s passed found =

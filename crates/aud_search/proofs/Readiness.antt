@@ -18,14 +18,13 @@ use Rattle.aud_witness.specs.OrderFaults.{is_enabled}
 use Rattle.aud_witness.proofs.Bridge.{tx-rows, named-at}
 use Rattle.aud_witness.proofs.Beginnings.{is_named-append}
 use Rattle.aud_order.specs.Shapes.{ShapeOf, objects_of, history_of}
-use Rattle.aud_order.specs.Cursors.{CursorOf}
+use Rattle.aud_order.specs.Cursors.{CursorOf, IsGoodAt}
 use Rattle.aud_order.proofs.KidLemmas.{late-behind}
 use Rattle.aud_order.proofs.SilentRows.{row-found}
 use Rattle.aud_search.specs.declared.choice.Choice.{Choice}
 use Rattle.aud_search.specs.declared.ready.RowChoices.{RowChoices}
 use Rattle.aud_search.specs.Choices.{AreChoices}
 use Rattle.aud_search.specs.Readiness.{ReadyOf, chosen, no_choices, HasRows, IsLeft, IsReady, IsReadyBehind, IsReadyBefore, IsRowMarked}
-use Rattle.aud_search.specs.Tried.{IsGoodAt}
 use Rattle.aud_search.proofs.Steps.{AreBad, Follows, ready-good, no_choice, choice-at, went-back}
 
 -- # Rows
@@ -85,7 +84,7 @@ named-back p d t named =
       | inr last ↦ elim (or_true (nat_eq d.tx t) false last) [ inl own ↦ inr (nat_eq-is d.tx t own) | inr no_more ↦ absurd (cc) ]
     ]
 
--- what waits behind a longer list waits behind a shorter one
+-- what waits after a longer list waits after a shorter one
 late-back : (h : History) (p : List Decision) (d : Decision) (u : ℕ) → is_enabled h (p ++ d ∷ []) u ≡ false → is_enabled h p u ≡ false
 late-back h p d u late = is_false (is_enabled h p u) (λ enabled. let more : is_enabled h (p ++ d ∷ []) u ≡ true = go h enabled in cc)
   where

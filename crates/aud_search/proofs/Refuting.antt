@@ -14,7 +14,11 @@ pub next-shown : (objects : List Declared) (h : History) (p : List Decision) (d 
 next-shown objects h p d q shows =
     IsGood-last objects h p d (IsGood-from_Shows objects h (p ++ d ∷ []) q shows)
 
--- behind a decision that is not good nothing shows
+-- what begins with a list that is not good does not show
+pub refuted-unless_good : (objects : List Declared) (h : History) (p : List Decision) → (IsGood objects h p → ⊥) → Refuted objects h p
+refuted-unless_good objects h p bad q shows = bad (IsGood-from_Shows objects h p q shows)
+
+-- after a decision that is not good nothing shows
 pub refuted-bad : (objects : List Declared) (h : History) (p : List Decision) (d : Decision) → (IsGoodNext objects h p d → ⊥) → Refuted objects h (p ++ d ∷ [])
 refuted-bad objects h p d bad q shows = bad (next-shown objects h p d q shows)
 

@@ -27,7 +27,7 @@ chunk-at w items (suc n) (suc k) d inside =
     let up : w + k * w ≡ suc k * w = (let e = suc-mul k w in omega arith) in
     chunk-at w (drop w items) n k d (omega arith) ∙ ap (take w) (drop-more (k * w) w items ∙ ap (λ m. drop m items) up)
 
--- a list comes behind the others
+-- a list comes after the others
 pub chunks-push : {X : Type 0} (w : ℕ) (items l : List X) (n : ℕ) → length items ≡ n * w → length l ≡ w → chunks w (items ++ l) (suc n) ≡ chunks w items n ++ l ∷ []
 chunks-push w items l zero long own =
     let none : items ≡ [] = nil_from_length items (long ∙ zero-mul w) in
@@ -63,7 +63,7 @@ one-longer count width marks long all is own grown = let split : suc count * wid
 pub rest-all : (xs : List ℕ) (n : ℕ) → take (length xs - n) (drop n xs) ≡ drop n xs
 rest-all xs n = take_all (length xs - n) (drop n xs) (let long = length-drop n xs in omega (arith, long))
 
--- words of which those before a place and behind it are the same, and the one there is another
+-- words of which those before a place and after it are the same, and the one there is another
 pub set-between : (xs ys : List ℕ) (i v : ℕ) → i < length xs → i < length ys → get_or ys i 0 ≡ v → take i ys ≡ take i xs → drop (i + 1) ys ≡ drop (i + 1) xs → ys ≡ set xs i v
 set-between [] ys i v inside there at front back = absurd (omega arith)
 set-between (x ∷ xs) [] i v inside there at front back = absurd (omega arith)
@@ -100,7 +100,7 @@ pub found-entry : (spots : List (List ℕ)) (place : ℕ) (placed : List ℕ) (m
 found-entry spots place placed marks n further inside is there spot =
     subst (λ (e : EntryOf). Contains (map (entry_of (length marks)) spots) e) (spot-entry (get_or spots place []) placed marks n further is there spot) (map-at (entry_of (length marks)) spots place [] inside)
 
--- what is contained in a list with one behind it
+-- what is contained in a list with one after it
 last-of : {X : Type 0} (xs : List X) (x y : X) → Contains (xs ++ x ∷ []) y → Contains xs y ⊎ (y ≡ x)
 last-of [] x y (zero, inside, is) = inr (sym is)
 last-of [] x y (suc k, inside, is) = absurd (omega arith)
@@ -121,7 +121,7 @@ width-same items zero other w either long = (long ∙ zero-mul other ∙ sym (ze
 width-same items (suc count) other w (inl none) long = absurd (omega arith)
 width-same items (suc count) other w (inr same) long = (long ∙ ap (λ m. suc count * m) same, ap (λ m. chunks m items (suc count)) (sym same))
 
--- a spot came behind the others
+-- a spot came after the others
 pub spots-with : (other w : ℕ) (old new placed : List ℕ) (marks : List Bool) (seen : List (List ℕ)) (count n : ℕ) → (count ≡ 0) ⊎ (other ≡ w) → length old ≡ count * other → w ≡ length placed + 1 → marks ≡ marks_of placed (length marks) →
     new ≡ old ++ n ∷ placed → chunks other old count ≡ seen → AreWith (map (entry_of (length marks)) seen) (map (entry_of (length marks)) (chunks w new (count + 1))) (record { placed = marks; states = n })
 spots-with other w old new placed marks seen count n either long own is grown view =

@@ -1,8 +1,8 @@
--- What the parts of a search tell, put together.
+-- What the parts of a search say, put together.
 use Rattle.std.specs.Prelude.{◌≡◌, ℕ, zero, suc, ◌+◌, ◌-◌, ◌<◌, ◌≤◌, Bool, true, false, not, ◌&&◌, nat_lt, List, [], ◌∷◌, ◌++◌, map, length, reverse, Option, Some, None, slice_get, slice_index_or, refl}
-use Rattle.std.proofs.Common.{sym, ◌∙◌, ap, subst, inl, inr, arith, get_or, take, drop, append_assoc}
+use Rattle.std.proofs.Common.{sym, ◌∙◌, ap, subst, inl, inr, arith, take}
 use Rattle.std.proofs.lemmas.Bool.Decides.{nat_tests}
-use Rattle.std.proofs.lemmas.List.{map-append, append-nil, take_more, take_all, take-append-drop, reverse-append}
+use Rattle.std.proofs.lemmas.List.{map-append, append-nil, reverse-append}
 use Rattle.aud_event.specs.Meanings.{Declared}
 use Rattle.aud_event.proofs.Bools.{and_true, split}
 use Rattle.aud_history.specs.Histories.{History, is_in}
@@ -11,12 +11,13 @@ use Rattle.aud_history.specs.FirstFault.{IsWithinLimits}
 use Rattle.aud_history.specs.Table.{transactions}
 use Rattle.aud_witness.specs.declared.decision.Fate.TheVariants.{C}
 use Rattle.aud_witness.specs.declared.decision.Decision.{Decision}
+use Rattle.aud_witness.specs.Prefixes.{BeginsWith}
 use Rattle.aud_witness.specs.Orders.{is_allowed, is_named, kept, block, IsFull, IsGood, IsGoodNext, Shows, Refuted}
 use Rattle.aud_witness.specs.Enumeration.{is_legal_from}
 use Rattle.aud_witness.specs.OrderFaults.{is_enabled}
 use Rattle.aud_witness.proofs.Good.{IsGood-last, IsGood-push, Shows-from_IsGood}
 use Rattle.aud_order.specs.Shapes.{ShapeOf, plan_of, objects_of, history_of}
-use Rattle.aud_order.specs.Cursors.{CursorOf}
+use Rattle.aud_order.specs.Cursors.{CursorOf, IsGoodAt, cursor_with}
 use Rattle.aud_order.specs.Silent.{silent_fate}
 use Rattle.aud_order.proofs.KidLemmas.{good-from_next}
 use Rattle.aud_order.proofs.Lists.{length-push, take-push}
@@ -27,46 +28,15 @@ use Rattle.aud_search.specs.declared.outcome.Outcome.{Outcome}
 use Rattle.aud_search.specs.declared.search.Turn.{Turn}
 use Rattle.aud_search.specs.declared.outcome.Outcome.TheVariants as outcome
 use Rattle.aud_search.specs.Choices.{AreChoices}
-use Rattle.aud_search.specs.Searches.{SpentBy, BeginsWith, Tells}
+use Rattle.aud_search.specs.Searches.{SpentBy, Tells}
 use Rattle.aud_search.specs.Levels.{AreTried, IsSearching, IsOneLess}
 use Rattle.aud_search.specs.Memos.{MemoOf, states_behind, Names, NameWay, IsStep}
-use Rattle.aud_search.specs.Tried.{IsGoodAt, cursor_with, IsTried, IsFound, IsBehind, ArePushed, Spends, TellsFrom}
-use Rattle.aud_search.proofs.Refuting.{refuted-bad, refuted-longer}
+use Rattle.aud_search.specs.Tried.{IsTried, IsFound, IsBehind, Spends, TellsFrom}
 use Rattle.aud_search.proofs.Levels.{tried-more, tried-behind, search-on, search-deeper, search-spent, search-unspent, refuted-here, search-back, search-refuted, search-begins}
 use Rattle.aud_search.proofs.Weights.{weigh, lighter-deeper, lighter-on, lighter-back}
 
--- # A prefix
-
-abbrev pub cursor_behind : CursorOf → List Decision → CursorOf
-cursor_behind c ds = record { shape = c.shape; path = c.path ++ ds }
-
 abbrev pub no_decision : Decision
 no_decision = record { tx = 0; fate = C }
-
-pub pushed-none : (c : CursorOf) (ds : List Decision) → c ≡ cursor_behind c (take 0 ds)
-pushed-none c ds = λ i. record { shape = c.shape; path = sym (append-nil c.path) i }
-
-pub pushed-more : (start cur new : CursorOf) (ds : List Decision) (i : ℕ) → i < length ds → cur ≡ cursor_behind start (take i ds) → new ≡ cursor_with cur (slice_index_or ds i no_decision) → new ≡ cursor_behind start (take (i + 1) ds)
-pushed-more start cur new ds i inside is grown =
-    let more : take (i + 1) ds ≡ take i ds ++ get_or ds i no_decision ∷ [] = take_more ds i no_decision inside in
-    grown ∙ ap (λ (c : CursorOf). cursor_with c (get_or ds i no_decision)) is
-    ∙ (λ j. record { shape = start.shape; path = (append_assoc start.path (take i ds) (get_or ds i no_decision ∷ []) ∙ ap (λ l. start.path ++ l) (sym more)) j })
-
-pub pushed-all : (start cur : CursorOf) (ds : List Decision) (i : ℕ) → length ds ≤ i → cur ≡ cursor_behind start (take i ds) → cur ≡ cursor_behind start ds
-pushed-all start cur ds i past is = is ∙ ap (cursor_behind start) (take_all i ds past)
-
-pub pushed-bad : (start cur : CursorOf) (ds : List Decision) (i : ℕ) → i < length ds → cur ≡ cursor_behind start (take i ds) → (IsGoodAt cur (slice_index_or ds i no_decision) → ⊥) →
-    Refuted (objects_of start.shape) (history_of start.shape) (start.path ++ ds)
-pushed-bad start cur ds i inside is bad =
-    let d = get_or ds i no_decision in
-    let more : take (i + 1) ds ≡ take i ds ++ d ∷ [] = take_more ds i no_decision inside in
-    let seen : IsGoodAt (cursor_behind start (take i ds)) d → ⊥ = subst (λ (c : CursorOf). IsGoodAt c d → ⊥) is bad in
-    let here : Refuted (objects_of start.shape) (history_of start.shape) ((start.path ++ take i ds) ++ d ∷ []) = refuted-bad (objects_of start.shape) (history_of start.shape) (start.path ++ take i ds) d seen in
-    let whole : ((start.path ++ take i ds) ++ d ∷ []) ++ drop (i + 1) ds ≡ start.path ++ ds =
-    ap (λ l. l ++ drop (i + 1) ds) (append_assoc start.path (take i ds) (d ∷ []) ∙ ap (λ l. start.path ++ l) (sym more))
-    ∙ append_assoc start.path (take (i + 1) ds) (drop (i + 1) ds) ∙ ap (λ l. start.path ++ l) (take-append-drop (i + 1) ds) in
-    subst (λ l. Refuted (objects_of start.shape) (history_of start.shape) l) whole
-    (refuted-longer (objects_of start.shape) (history_of start.shape) ((start.path ++ take i ds) ++ d ∷ []) (drop (i + 1) ds) here)
 
 -- # Choices
 
@@ -277,7 +247,7 @@ loop-known start cur new popped cs used next k g below on s f behind refuted is 
     (search-on (objects_of start.shape) (history_of start.shape) start.path cs used cur.path next (reverse below) g s (omega arith)
     (followed-tried start cur new cs next k g on f behind (followed-refuted start cur new cs next k f refuted)))
 
--- the followed choice is a step on from a list behind which the states have the number
+-- the followed choice is a step on from a list after which the states have the number
 pub step-at : (start cur new : CursorOf) (cs : List Choice) (next k : ℕ) (memo : MemoOf) (n : Option ℕ) (ns : List (Option ℕ)) → Grounds start.shape cs → Follows start cur new cs next k → memo.shape ≡ start.shape →
     NameWay start.shape memo.states (n ∷ ns) cur.path → IsStep memo n (slice_index_or cs k no_choice) new
 step-at start cur new cs next k memo n ns on f same way =
@@ -373,14 +343,6 @@ loop-back-lighter shape cur mid new cs next g below less stayed shorter is =
 
 abbrev pub cursor_at : ShapeOf → List Decision → CursorOf
 cursor_at shape p = record { shape = shape; path = p }
-
-pub root-pushed : (shape : ShapeOf) (root new : CursorOf) (p : List Decision) (b : Bool) → root ≡ cursor_at shape [] → ArePushed root new p b → b ≡ true → new ≡ cursor_at shape p
-root-pushed shape root new p true is pushed so = subst (λ (v : CursorOf). new ≡ record { shape = v.shape; path = v.path ++ p }) is pushed
-root-pushed shape root new p false is pushed so = absurd (cc)
-
-pub root-refuted : (shape : ShapeOf) (root new : CursorOf) (p : List Decision) (b : Bool) → root ≡ cursor_at shape [] → ArePushed root new p b → b ≡ false → Refuted (objects_of shape) (history_of shape) p
-root-refuted shape root new p false is pushed not_so = subst (λ (v : CursorOf). Refuted (objects_of v.shape) (history_of v.shape) (v.path ++ p)) is pushed
-root-refuted shape root new p true is pushed not_so = absurd (cc)
 
 pub whole-witness : (shape : ShapeOf) (cur : CursorOf) (p w : List Decision) → cur ≡ cursor_at shape p → IsGood (objects_of cur.shape) (history_of cur.shape) cur.path → IsFull (history_of cur.shape) cur.path → w ≡ p →
     BeginsWith p w × Shows (objects_of shape) (history_of shape) w

@@ -13,7 +13,7 @@ abbrev pub state_from : {A : Type 0} → History → List (List ObjState) → Ke
 state_from h all (Whole s) = s.now
 state_from h all (Behind step cost) = unwrap_or (replayed (slice_index_or all step.from []) (row_of h step.tx).block) []
 
--- the states of more numbers, behind those that are known
+-- the states of more numbers, after those that are known
 abbrev pub states_on : {A : Type 0} → History → List (List ObjState) → List (Kept A) → List (List ObjState)
 states_on h all [] = all
 states_on h all (k ∷ ks) = states_on h (all ++ state_from h all k ∷ []) ks
@@ -41,6 +41,6 @@ abbrev pub LeadsFrom : {A : Type 0} → History → Kept A → List ℕ → List
 LeadsFrom h (Whole s) way states = run_way h s.now way ≡ Some states
 LeadsFrom h (Behind step cost) way states = ⊥
 
--- some more behind the others
+-- some more after the others
 abbrev pub IsMoreOf : {X : Type 0} → List X → List X → Type 0
 IsMoreOf {X} old new = (more : List X) × (new ≡ old ++ more)

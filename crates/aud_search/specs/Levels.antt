@@ -1,4 +1,4 @@
--- Where a search stands: what was tried behind the list of its cursor and behind each beginning of it.
+-- Where a search stands: what was tried after the list of its cursor and after each beginning of it.
 use Rattle.std.specs.Prelude.{◌≡◌, ℕ, ◌<◌, ◌≤◌, ◌+◌, List, [], ◌∷◌, ◌++◌, length, Option, Some, None, slice_get, ◌⊎◌}
 use Rattle.std.specs.List.{Contains}
 use Rattle.aud_event.specs.Meanings.{Declared}
@@ -6,13 +6,13 @@ use Rattle.aud_history.specs.Histories.{History}
 use Rattle.aud_witness.specs.declared.decision.Decision.{Decision}
 use Rattle.aud_witness.specs.Orders.{IsFull, IsGood, Refuted}
 use Rattle.aud_search.specs.declared.choice.Choice.{Choice}
-use Rattle.aud_search.specs.Searches.{IsOpen, AreDifferent}
+use Rattle.aud_search.specs.Searches.{IsExpandable, AreDifferent}
 
--- behind the list the first choices are refuted
+-- after the list the first choices are refuted
 abbrev pub AreTried : List Declared → History → List Choice → List Decision → ℕ → Type 0
 AreTried objects h cs path count = (k : ℕ) (c : Choice) → k < count → slice_get cs k ≡ Some c → Refuted objects h (path ++ c.decision ∷ [])
 
--- behind the list none of the other choices was expanded
+-- after the list none of the other choices was expanded
 abbrev pub AreFresh : List Choice → List (List Decision) → List Decision → ℕ → Type 0
 AreFresh cs es path count = (k : ℕ) (c : Choice) → count ≤ k → slice_get cs k ≡ Some c → Contains es (path ++ c.decision ∷ []) → ⊥
 
@@ -27,7 +27,7 @@ pub record IsSearching (objects : List Declared) (h : History) (p : List Decisio
   pub es : List (List Decision)
   pub count : length es ≡ used
   pub different : AreDifferent es
-  pub opens : (e : List Decision) → Contains es e → IsOpen objects h e
+  pub opens : (e : List Decision) → Contains es e → IsExpandable objects h e
   pub extend : (e : List Decision) → Contains es e → (q : List Decision) × (e ≡ p ++ q)
   pub parents : (e : List Decision) (d : Decision) → Contains es (e ++ d ∷ []) → (e ++ d ∷ [] ≡ p) ⊎ Contains es e
   pub unfull : (e : List Decision) (d : Decision) → Contains es e → IsGood objects h (e ++ d ∷ []) → IsFull h (e ++ d ∷ []) → e ≡ path

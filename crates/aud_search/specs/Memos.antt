@@ -31,7 +31,7 @@ abbrev pub Names : List (List ObjState) → Option ℕ → List ObjState → Typ
 Names all None states = Unit {0}
 Names all (Some n) states = slice_get all n ≡ Some states
 
--- the numbers of the states behind a list and behind each beginning of it, the longest first, as far as they go
+-- the numbers of the states after a list and after each beginning of it, the longest first, as far as they go
 abbrev pub NameWay : ShapeOf → List (List ObjState) → List (Option ℕ) → List Decision → Type 0
 NameWay shape all [] p = Unit {0}
 NameWay shape all (n ∷ ns) p = Names all n (states_behind shape p) × NameWay shape all ns (take (length p - 1) p)
@@ -67,7 +67,7 @@ pub record IsGrown (old new : MemoOf) : Type 0 where
   pub more : List (List ObjState)
   pub states : new.states ≡ old.states ++ more
 
--- the cursor is one choice further than a list behind which the states have the number
+-- the cursor is one choice further than a list after which the states have the number
 pub record IsStep (memo : MemoOf) (from : Option ℕ) (c : Choice) (at : CursorOf) : Type 0 where
   pub shape : memo.shape ≡ at.shape
   pub path : List Decision
@@ -75,7 +75,7 @@ pub record IsStep (memo : MemoOf) (from : Option ℕ) (c : Choice) (at : CursorO
   pub names : Names memo.states from (states_behind at.shape path)
   pub silent : c.effect ≡ Silent → silent_fate (history_of at.shape) c.decision.tx ≡ Some c.decision.fate
 
--- behind the cursor's list, where the states have the number, the choice is one of its row's transaction
+-- after the cursor's list, where the states have the number, the choice is one of its row's transaction
 pub record IsNext (memo : MemoOf) (states : Option ℕ) (c : Choice) (at : CursorOf) : Type 0 where
   pub shape : memo.shape ≡ at.shape
   pub names : Names memo.states states (states_behind at.shape at.path)
@@ -87,6 +87,6 @@ abbrev pub LeavesStates : Choice → Bool → Type 0
 LeavesStates c true = (c.decision.fate ≡ A) ⊎ (c.effect ≡ Silent)
 LeavesStates c false = c.decision.fate ≡ C
 
--- behind the choice the states have the number: it leaves them, or a lead of its block is known
+-- after the choice the states have the number: it leaves them, or a lead of its block is known
 abbrev pub IsAfter : MemoOf → ℕ → Choice → ℕ → Type 0
 IsAfter memo n c to = (LeavesStates c true × (to ≡ n)) ⊎ ((c.decision.fate ≡ C) × IsLead memo.shape memo.states (record { from = n; tx = c.decision.tx; to = to }))

@@ -4,6 +4,7 @@ use Rattle.std.specs.List.{Contains}
 use Rattle.aud_event.specs.Meanings.{Declared}
 use Rattle.aud_history.specs.Histories.{History}
 use Rattle.aud_witness.specs.declared.decision.Decision.{Decision}
+use Rattle.aud_witness.specs.Prefixes.{BeginsWith}
 use Rattle.aud_witness.specs.Orders.{IsFull, IsGood, Shows, Refuted}
 use Rattle.aud_witness.specs.Orders as orders
 use Rattle.aud_search.specs.declared.outcome.Outcome.{Outcome}
@@ -12,10 +13,10 @@ use Rattle.aud_search.specs.declared.outcome.Decided.{Decided}
 use Rattle.aud_search.specs.declared.outcome.Decided.TheVariants as decided
 
 -- p is good, and some transaction is not placed
-abbrev pub IsOpen : List Declared → History → List Decision → Type 0
-IsOpen objects h p = IsGood objects h p × (IsFull h p → ⊥)
+abbrev pub IsExpandable : List Declared → History → List Decision → Type 0
+IsExpandable objects h p = IsGood objects h p × (IsFull h p → ⊥)
 
--- each is different from those behind it
+-- each is different from those after it
 abbrev pub AreDifferent : List (List Decision) → Type 0
 AreDifferent [] = Unit {0}
 AreDifferent (e ∷ es) = (Contains es e → ⊥) × AreDifferent es
@@ -23,14 +24,14 @@ AreDifferent (e ∷ es) = (Contains es e → ⊥) × AreDifferent es
 -- different prefixes that are good and not full, each p or an extension of p, with the parent of each but p's, and no full kid
 pub record AreExpanded (objects : List Declared) (h : History) (p : List Decision) (es : List (List Decision)) : Type 0 where
   pub different : AreDifferent es
-  pub opens : (e : List Decision) → Contains es e → IsOpen objects h e
+  pub opens : (e : List Decision) → Contains es e → IsExpandable objects h e
   pub extend : (e : List Decision) → Contains es e → (q : List Decision) × (e ≡ p ++ q)
   pub parents : (e : List Decision) (d : Decision) → Contains es (e ++ d ∷ []) → (e ++ d ∷ [] ≡ p) ⊎ Contains es e
   pub unfull : (e : List Decision) (d : Decision) → Contains es e → IsGood objects h (e ++ d ∷ []) → IsFull h (e ++ d ∷ []) → ⊥
 
 -- one more prefix that is good and not full: p, or a kid of one that was expanded
 pub record IsLeft (objects : List Declared) (h : History) (p : List Decision) (es : List (List Decision)) (next : List Decision) : Type 0 where
-  pub opens : IsOpen objects h next
+  pub opens : IsExpandable objects h next
   pub outside : Contains es next → ⊥
   pub place : (next ≡ p) ⊎ ((e : List Decision) × ((d : Decision) × (Contains es e × (next ≡ e ++ d ∷ []))))
 
@@ -38,10 +39,6 @@ pub record IsLeft (objects : List Declared) (h : History) (p : List Decision) (e
 abbrev pub SpentBy : List Declared → History → List Decision → ℕ → Type 0
 SpentBy objects h p b =
     (es : List (List Decision)) × ((length es ≡ b) × AreExpanded objects h p es × ((next : List Decision) × IsLeft objects h p es next))
-
--- q begins with p
-abbrev pub BeginsWith : List Decision → List Decision → Type 0
-BeginsWith p q = (rest : List Decision) × (q ≡ p ++ rest)
 
 -- what an outcome says of the lists that begin with p, where there is a budget and where there is none
 abbrev pub Tells : {X : Type 0} → List Declared → History → List Decision → Option ℕ → Outcome X → Type 0

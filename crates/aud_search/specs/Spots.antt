@@ -3,12 +3,12 @@ use Rattle.std.specs.Prelude.{◌≡◌, ℕ, zero, suc, ◌/◌, ◌%◌, ◌<�
 use Rattle.std.specs.List.{Contains}
 use Rattle.aud_marks.specs.Marked.{marks_of, IsBitWritten}
 
--- which rows were placed behind a refuted list, and the number of the states there
+-- which rows were placed after a refuted list, and the number of the states there
 pub record EntryOf : Type 0 where
   pub placed : List Bool
   pub states : ℕ
 
--- so many lists of one length, which stand one behind the other
+-- so many lists of one length, which stand one after the other
 abbrev pub chunks : {X : Type 0} → ℕ → List X → ℕ → List (List X)
 chunks width items zero = []
 chunks width items (suc count) = take width items ∷ chunks width (drop width items) count

@@ -1,27 +1,17 @@
 -- What became of choices that a search tried.
-use Rattle.std.specs.Prelude.{◌≡◌, ℕ, ◌+◌, ◌-◌, ◌<◌, ◌≤◌, take, Bool, true, false, List, [], ◌∷◌, ◌++◌, length, Option, Some, None, slice_get, ◌⊎◌}
+use Rattle.std.specs.Prelude.{◌≡◌, ℕ, ◌+◌, ◌<◌, ◌≤◌, Bool, true, false, List, [], ◌∷◌, ◌++◌, length, Option, Some, None, slice_get, ◌⊎◌}
 use Rattle.aud_event.specs.Meanings.{Declared}
 use Rattle.aud_history.specs.Histories.{History}
 use Rattle.aud_witness.specs.declared.decision.Decision.{Decision}
-use Rattle.aud_witness.specs.Orders.{IsGoodNext, Shows, Refuted}
+use Rattle.aud_witness.specs.Prefixes.{BeginsWith}
+use Rattle.aud_witness.specs.Orders.{Shows, Refuted}
 use Rattle.aud_order.specs.Shapes.{objects_of, history_of}
-use Rattle.aud_order.specs.Cursors.{CursorOf}
+use Rattle.aud_order.specs.Cursors.{CursorOf, IsGoodAt, cursor_with}
 use Rattle.aud_search.specs.declared.choice.Effect.TheVariants.{Silent}
 use Rattle.aud_search.specs.declared.choice.Choice.{Choice}
 use Rattle.aud_search.specs.declared.outcome.Outcome.{Outcome}
 use Rattle.aud_search.specs.declared.outcome.Outcome.TheVariants as outcome
-use Rattle.aud_search.specs.Searches.{BeginsWith, SpentBy}
-
-abbrev pub IsGoodAt : CursorOf → Decision → Type 0
-IsGoodAt c d = IsGoodNext (objects_of c.shape) (history_of c.shape) c.path d
-
--- the cursor one decision further
-abbrev pub cursor_with : CursorOf → Decision → CursorOf
-cursor_with c d = record { shape = c.shape; path = c.path ++ d ∷ [] }
-
--- the cursor without its last decision, if it has one
-abbrev pub cursor_back : CursorOf → CursorOf
-cursor_back c = record { shape = c.shape; path = take (length c.path - 1) c.path }
+use Rattle.aud_search.specs.Searches.{SpentBy}
 
 -- one choice was tried: it is good, and the cursor went on, or it is not, and nothing changed
 abbrev pub IsTried : CursorOf → CursorOf → Decision → Bool → Type 0
@@ -39,16 +29,11 @@ IsFound old new cs from (Some k) =
 abbrev pub ArePassed : CursorOf → List Choice → ℕ → ℕ → Type 0
 ArePassed at cs from to = (from ≤ to) × ((j : ℕ) (c : Choice) → from ≤ j → j < to → slice_get cs j ≡ Some c → Refuted (objects_of at.shape) (history_of at.shape) (at.path ++ c.decision ∷ []))
 
--- the place of the next choice once the one at k is refuted: behind one of a silent transaction it may be any
+-- the place of the next choice once the one at k is refuted: after one of a silent transaction it may be any
 pub record IsBehind (cs : List Choice) (k g : ℕ) : Type 0 where
   pub past : k < g
   pub inside : g ≤ length cs
   pub silent : (c : Choice) → slice_get cs k ≡ Some c → (g ≡ k + 1) ⊎ (c.effect ≡ Silent)
-
--- the decisions were all placed, or no list that begins with them shows
-abbrev pub ArePushed : CursorOf → CursorOf → List Decision → Bool → Type 0
-ArePushed old new ds true = new ≡ record { shape = old.shape; path = old.path ++ ds }
-ArePushed old new ds false = Refuted (objects_of old.shape) (history_of old.shape) (old.path ++ ds)
 
 -- of a budget some is used, and the rest is left; one expansion is not of the budget
 abbrev pub Spends : Option ℕ → ℕ → Option ℕ → Type 0
@@ -57,7 +42,7 @@ Spends (Some whole) used (Some left) = used + left ≡ whole + 1
 Spends None used (Some left) = ⊥
 Spends (Some whole) used None = ⊥
 
--- what is told of the lists that begin with one that was expanded, where so much of the budget is left
+-- what is reported of the lists that begin with one that was expanded, where so much of the budget is left
 abbrev pub TellsFrom : {X : Type 0} → List Declared → History → List Decision → Option ℕ → Outcome X → Type 0
 TellsFrom objects h p left outcome.Refuted = Refuted objects h p
 TellsFrom objects h p left (outcome.Witness q) = BeginsWith p q × Shows objects h q

@@ -16,7 +16,7 @@ struct Slot {
 /// What stands in a slot.
 #[derive(Clone, Copy, Debug, PartialEq, Eq)]
 pub(crate) enum Look {
-    /// Nothing, nor in the slots behind it.
+    /// Nothing, nor in the slots after it.
     Free,
     /// Something under another hash.
     Other,
@@ -55,7 +55,7 @@ fn half_of(hash: u64) -> u32 {
     (hash >> 32) as u32
 }
 
-/// The slot of the half hash, so many steps behind its first.
+/// The slot of the half hash, so many steps after its first.
 fn slot_of(hash: u32, step: usize, count: usize) -> usize {
     (hash as usize).wrapping_add(step) & count.saturating_sub(1)
 }
@@ -74,7 +74,7 @@ fn put_into(slots: &mut [Slot], taken: Slot) {
 }
 
 impl<A: Allocator + Copy> Index<A> {
-    /// An index of nothing. It takes no memory.
+    /// An index of nothing. It does not allocate.
     pub(crate) fn new(alloc: A) -> Index<A> {
         Index {
             alloc,
@@ -83,7 +83,7 @@ impl<A: Allocator + Copy> Index<A> {
         }
     }
 
-    /// What stands so many steps behind the first slot of the hash.
+    /// What stands so many steps after the first slot of the hash.
     pub(crate) fn look(&self, hash: u64, step: usize) -> Look {
         let half = half_of(hash);
         match self.slots.get(slot_of(half, step, self.slots.len())) {

@@ -7,6 +7,7 @@ ghost use Rattle.aud_order.specs.Shapes.{history_of};
 ghost use Rattle.aud_search.specs.Memos.{Names};
 ghost use Rattle.aud_search.specs.Kept.{IsMoreOf, states_of, state_from, run_way, IsWay, LeadsTo, LeadsFrom};
 
+use crate::digests::Digests;
 use crate::index::{Index, Look};
 use crate::room::takes;
 use aud_object::{Block, Store};
@@ -33,6 +34,33 @@ pub(crate) struct Step {
 pub(crate) struct Cost {
     pub blocks: usize,
     pub operations: usize,
+}
+
+/// What finds states again: where those of a digest are, the digest of those where the search stands, and room for a way. It is
+/// trusted with nothing.
+#[derive(Drop)]
+pub(crate) struct Finder<A: Allocator + Copy = Global> {
+    by_digest: Index<A>,
+    digests: Digests<A>,
+    way: Vec<u32, A>,
+}
+
+impl<A: Allocator + Copy> Finder<A> {
+    /// Of nothing. It does not allocate.
+    pub(crate) fn new(alloc: A) -> Finder<A> {
+        Finder {
+            by_digest: Index::new(alloc),
+            digests: Digests::new(alloc),
+            way: Vec::new(alloc),
+        }
+    }
+
+    /// The transaction's block ran where the search stands, or was taken back.
+    pub(crate) fn touch(&mut self, shape: &Shape<A>, tx: u32) {
+        if let Some(block) = block_of(shape, tx) {
+            self.digests.touch(block);
+        }
+    }
 }
 
 /// How many slots are looked at before states count as not found.
@@ -144,9 +172,8 @@ fn is_kept<A: Allocator + Copy>(
 /// The number of the store's states, if it is found.
 fn find_states<A: Allocator + Copy>(
     kept: &mut Vec<Kept<A>, A>,
-    by_digest: &Index<A>,
+    finder: &mut Finder<A>,
     shape: &Shape<A>,
-    way: &mut Vec<u32, A>,
     digest: u64,
     store: &Store<A>,
 ) -> Option<usize>
@@ -154,11 +181,11 @@ fn find_states<A: Allocator + Copy>(
     ensures stays { kept.new.items ≡ kept.old.items }
 {
     for step in 0..LOOKS {
-        match by_digest.look(digest, step) {
+        match finder.by_digest.look(digest, step) {
             Look::Free => return None,
             Look::Other => {}
             Look::At(number) => {
-                if is_kept(kept, shape, way, number, store) {
+                if is_kept(kept, shape, &mut finder.way, number, store) {
                     return Some(number);
                 }
             }
@@ -183,7 +210,7 @@ fn cost_of<A: Allocator + Copy>(kept: &[Kept<A>], shape: &Shape<A>, step: Step) 
     }
 }
 
-/// How the store's states are kept: behind others, where few blocks run from whole ones on, with no more operations than a copy
+/// How the store's states are kept: after others, where few blocks run from whole ones on, with no more operations than a copy
 /// has numbers, or whole.
 fn kept_as<A: Allocator + Copy>(
     kept: &[Kept<A>],
@@ -214,12 +241,11 @@ fn size_of<A: Allocator + Copy>(fresh: &Kept<A>) -> usize {
     }
 }
 
-/// The number of the store's states, which may come behind the others, if there is room and memory for them.
+/// The number of the store's states, which may come after the others, if there is room and memory for them.
 pub(crate) fn keep_states<A: Allocator + Copy>(
     kept: &mut Vec<Kept<A>, A>,
-    by_digest: &mut Index<A>,
+    finder: &mut Finder<A>,
     shape: &Shape<A>,
-    way: &mut Vec<u32, A>,
     room: &mut usize,
     step: Option<Step>,
     store: &Store<A>,
@@ -228,8 +254,8 @@ pub(crate) fn keep_states<A: Allocator + Copy>(
     ensures grown { IsMoreOf (states_of (history_of shape.now) kept.old.items) (states_of (history_of shape.now) kept.new.items) }
     ensures there { Names (states_of (history_of shape.now) kept.new.items) result store.now.now }
 {
-    let digest = store.digest();
-    if let Some(number) = find_states(kept, by_digest, shape, way, digest, store) {
+    let digest = finder.digests.all(store)?;
+    if let Some(number) = find_states(kept, finder, shape, digest, store) {
         return Some(number);
     }
     let fresh = kept_as(kept, shape, step, store)?;
@@ -237,7 +263,7 @@ pub(crate) fn keep_states<A: Allocator + Copy>(
         return None;
     }
     let number = kept.len();
-    if by_digest.put(digest, number).is_err() {
+    if finder.by_digest.put(digest, number).is_err() {
         return None;
     }
     let Ok(()) = kept.push(fresh) else {

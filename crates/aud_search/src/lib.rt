@@ -2,6 +2,7 @@
 //! The search for an order that shows a history opaque.
 
 mod choice;
+mod digests;
 mod index;
 mod kept;
 mod memo;

@@ -1,5 +1,5 @@
 //! What a search remembers of the lists that it refuted: which transactions were placed, and the states of all objects.
-//! Behind two lists of which these are the same, the same shows.
+//! After two lists of which these are the same, the same shows.
 
 ghost use Rattle.std.specs.Prelude.{◌≡◌, ◌++◌, [], ◌∷◌, Some, IsTrue, MatchOption};
 ghost use Rattle.std.specs.List.{Contains};
@@ -12,12 +12,12 @@ ghost use Rattle.aud_search.specs.Spots.{AreWith};
 
 use crate::choice::{Choice, Effect};
 use crate::index::{Index, Look, hash_of};
-use crate::kept::{Kept, Step, keep_states};
+use crate::kept::{Finder, Kept, Step, keep_states};
 use crate::room::takes;
 use crate::spots::Spots;
 use aud_event::OutOfMemory;
 use aud_order::{Cursor, Shape};
-use aud_witness::Fate;
+use aud_witness::{Decision, Fate};
 use std::alloc::{Allocator, Global};
 use std::marker::Model;
 
@@ -32,14 +32,13 @@ pub(crate) struct Lead {
 /// Spots of refuted lists of one shape, and where blocks lead. States that many spots share are kept once, under a number.
 ///
 /// A spot is kept as words: the number of the states, then the marks of the rows that were placed. When its room is full,
-/// the spots are forgotten and others come; where memory is wanting a new one is.
+/// the spots are forgotten and others come; where memory runs out a new one is.
 #[derive(Drop)]
 pub(crate) struct Memo<'a, A: Allocator + Copy = Global> {
     alloc: A,
     shape: &'a Shape<A>,
     kept: Vec<Kept<A>, A>,
-    kept_by_digest: Index<A>,
-    way: Vec<u32, A>,
+    finder: Finder<A>,
     leads: Vec<Lead, A>,
     leads_by_hash: Index<A>,
     spots: Spots<A>,
@@ -102,7 +101,7 @@ fn leaves_states(choice: &Choice) -> bool
     }
 }
 
-/// A lead comes behind the others, if there is memory for it.
+/// A lead comes after the others, if there is memory for it.
 fn keep_lead<A: Allocator + Copy>(
     leads: &mut Vec<Lead, A>,
     by_hash: &mut Index<A>,
@@ -116,7 +115,7 @@ fn keep_lead<A: Allocator + Copy>(
 }
 
 impl<'a, A: Allocator + Copy> Memo<'a, A> {
-    /// A memo of nothing. It takes no memory.
+    /// A memo of nothing. It does not allocate.
     pub(crate) fn new(alloc: A, shape: &'a Shape<A>) -> Memo<'a, A>
         ensures { result ≡ record { shape = shape.entry.now; states = [] } }
     {
@@ -124,8 +123,7 @@ impl<'a, A: Allocator + Copy> Memo<'a, A> {
             alloc,
             shape,
             kept: Vec::new(alloc),
-            kept_by_digest: Index::new(alloc),
-            way: Vec::new(alloc),
+            finder: Finder::new(alloc),
             leads: Vec::new(alloc),
             leads_by_hash: Index::new(alloc),
             spots: Spots::new(alloc),
@@ -142,13 +140,22 @@ impl<'a, A: Allocator + Copy> Memo<'a, A> {
     {
         keep_states(
             &mut self.kept,
-            &mut self.kept_by_digest,
+            &mut self.finder,
             self.shape,
-            &mut self.way,
             &mut self.room,
             step,
             cursor.store(),
         )
+    }
+
+    /// The search went on by the decision, or took it back.
+    pub(crate) fn touch(&mut self, decision: Decision)
+        ensures { self.new ≡ self.old }
+    {
+        match decision.fate {
+            Fate::A => {}
+            Fate::C => self.finder.touch(self.shape, decision.tx),
+        }
     }
 
     /// Where the transaction's block leads from the states of the number, if that is known.
@@ -158,7 +165,7 @@ impl<'a, A: Allocator + Copy> Memo<'a, A> {
         find_lead(&self.leads, &self.leads_by_hash, from, tx)
     }
 
-    /// The number of the states behind a choice that is good where the states have the number, if that is known.
+    /// The number of the states after a choice that is good where the states have the number, if that is known.
     fn after(&self, before: usize, choice: &Choice) -> Option<usize>
         ensures { MatchOption result (choice.now.decision.fate ≡ C) (λ to. IsAfter self.now before choice.now to) }
     {
@@ -179,7 +186,7 @@ impl<'a, A: Allocator + Copy> Memo<'a, A> {
         }
     }
 
-    /// The number of the states where the cursor stands, behind a choice that was good where the states have the number
+    /// The number of the states where the cursor stands, after a choice that was good where the states have the number
     /// `from`, if it is known or there is room and memory for it. Where nothing was refuted yet, no number is asked for.
     pub(crate) fn follow(
         &mut self,
@@ -218,7 +225,7 @@ impl<'a, A: Allocator + Copy> Memo<'a, A> {
     }
 
     /// Whether a refuted list placed the transactions that the cursor's list places, and left the same states, which have the
-    /// number. It takes no memory.
+    /// number. It does not allocate.
     pub(crate) fn knows(&self, states: Option<usize>, cursor: &Cursor<A>) -> bool
         requires shape { self.now.shape ≡ cursor.now.shape }
         requires named { Names self.now.states states (states_behind cursor.now.shape cursor.now.path) }
@@ -233,8 +240,8 @@ impl<'a, A: Allocator + Copy> Memo<'a, A> {
         }
     }
 
-    /// Whether the cursor's list with the choice behind it is known to be refuted, by where its block leads. No block runs,
-    /// and it takes no memory.
+    /// Whether the cursor's list with the choice after it is known to be refuted, by where its block leads. No block runs,
+    /// and it does not allocate.
     pub(crate) fn knows_behind(
         &self,
         states: Option<usize>,

@@ -10,7 +10,8 @@ ghost use Rattle.aud_search.specs.Choices.{AreChoices};
 ghost use Rattle.aud_search.specs.Levels.{IsOneLess};
 ghost use Rattle.aud_search.specs.Readiness.{IsReady};
 ghost use Rattle.aud_search.specs.Searches.{Tells, Decides};
-ghost use Rattle.aud_search.specs.Tried.{IsTried, IsFound, IsBehind, ArePassed, ArePushed, TellsFrom, cursor_back};
+ghost use Rattle.aud_order.specs.Cursors.{cursor_back, cursor_with};
+ghost use Rattle.aud_search.specs.Tried.{IsTried, IsFound, IsBehind, ArePassed, TellsFrom};
 ghost use Rattle.aud_search.specs.Memos.{Names, states_behind};
 
 use crate::choice::{Choice, Effect, choices_of};
@@ -33,29 +34,6 @@ fn spend(left: Option<u64>) -> Option<Option<u64>>
     }
 }
 
-/// The list with a memory of its own.
-fn copied<A: Allocator + Copy>(alloc: A, decisions: &[Decision]) -> Result<Prefix<A>, OutOfMemory>
-    ensures { IfOk result (λ prefix. prefix ≡ decisions.now) }
-{
-    let decisions = Vec::from_slice(alloc, decisions)?;
-    Ok(Prefix::from_decisions(decisions))
-}
-
-/// Places the decisions one behind the other, up to the first that is not good.
-fn push_all<A: Allocator + Copy>(
-    cursor: &mut Cursor<A>,
-    decisions: &[Decision],
-) -> Result<bool, OutOfMemory>
-    ensures { IfOk result (ArePushed cursor.old cursor.new decisions.now) }
-{
-    for decision in decisions {
-        if !cursor.push(*decision)?.is_good() {
-            return Ok(false);
-        }
-    }
-    Ok(true)
-}
-
 /// Goes on by the decision if it is good.
 fn try_decision<A: Allocator + Copy>(
     cursor: &mut Cursor<A>,
@@ -67,7 +45,7 @@ fn try_decision<A: Allocator + Copy>(
     Ok(pushed.is_good())
 }
 
-/// Goes on by the first choice from a place on that is good, and tells its place.
+/// Goes on by the first choice from a place on that is good, and answers its place.
 fn try_from<A: Allocator + Copy>(
     cursor: &mut Cursor<A>,
     choices: &[Choice],
@@ -89,7 +67,7 @@ fn try_from<A: Allocator + Copy>(
     Ok(None)
 }
 
-/// Passes over choices that are known to be refuted, from a place on, and tells where the others begin.
+/// Passes over choices that are known to be refuted, from a place on, and answers where the others begin.
 fn pass_known<A: Allocator + Copy>(
     memo: &Memo<A>,
     cursor: &Cursor<A>,
@@ -114,20 +92,32 @@ fn pass_known<A: Allocator + Copy>(
     from
 }
 
-/// Takes the last decision back.
-fn go_back<A: Allocator + Copy>(cursor: &mut Cursor<A>, ready: &mut Ready<A>)
+/// Takes the last decision back, and reports it.
+fn take_back<A: Allocator + Copy>(cursor: &mut Cursor<A>, memo: &mut Memo<A>) -> Option<Decision>
+    ensures last { MatchOption result (cursor.old.path ≡ []) (λ last. cursor.old ≡ cursor_with cursor.new last) }
+    ensures back { cursor.new ≡ cursor_back cursor.old }
+    ensures memo { memo.new ≡ memo.old }
+{
+    let last = cursor.prefix().last().copied()?;
+    let _ = cursor.pop();
+    memo.touch(last);
+    Some(last)
+}
+
+/// Takes the last decision back, and its choices may be good again.
+fn go_back<A: Allocator + Copy>(cursor: &mut Cursor<A>, ready: &mut Ready<A>, memo: &mut Memo<A>)
     requires { IsReady ready.old cursor.old }
     ensures back { cursor.new ≡ cursor_back cursor.old }
     ensures ready { IsReady ready.new cursor.new }
     ensures choices { ready.new.choices ≡ ready.old.choices }
+    ensures memo { memo.new ≡ memo.old }
 {
-    if let Some(last) = cursor.prefix().last().copied() {
-        let _ = cursor.pop();
+    if let Some(last) = take_back(cursor, memo) {
         ready.go_back(last, cursor);
     }
 }
 
-/// The place of the next choice once this one is refuted. Behind one of a silent transaction none is left to try.
+/// The place of the next choice once this one is refuted. After one of a silent transaction none is left to try.
 fn place_behind(choices: &[Choice], place: usize) -> usize
     requires { place < length choices.now }
     ensures { IsBehind choices.now place result }
@@ -139,7 +129,7 @@ fn place_behind(choices: &[Choice], place: usize) -> usize
     }
 }
 
-/// Which choice behind a list is tried next, and the number of the states there, if they have one.
+/// Which choice after a list is tried next, and the number of the states there, if they have one.
 #[derive(Clone, Copy, Debug, PartialEq, Eq)]
 struct Turn {
     next: usize,
@@ -147,7 +137,7 @@ struct Turn {
 }
 
 impl Turn {
-    /// Behind a list that was just expanded.
+    /// After a list that was just expanded.
     fn new(states: Option<usize>) -> Turn
         ensures { result ≡ record { next = 0; states = states } }
     {
@@ -183,18 +173,19 @@ fn search_from<'a, A: Allocator + Copy>(
                 return Ok(Outcome::Refuted);
             };
             memo.learn(here.states, cursor);
-            go_back(cursor, &mut ready);
+            go_back(cursor, &mut ready, &mut memo);
             here = turn;
             continue;
         };
         if cursor.full() {
-            let witness = copied(alloc, cursor.prefix())?;
+            let witness = Prefix::copy_of(alloc, cursor.prefix())?;
             return Ok(Outcome::Witness(witness));
         }
         here.next = place_behind(choices, place);
+        memo.touch(choices[place].decision);
         let states = memo.follow(here.states, &choices[place], cursor);
         if memo.knows(states, cursor) {
-            let _known = cursor.pop();
+            take_back(cursor, &mut memo);
             continue;
         }
         let Some(rest) = spend(left) else {
@@ -216,13 +207,12 @@ fn search<A: Allocator + Copy>(
 ) -> Result<Outcome<A>, OutOfMemory>
     ensures { IfOk result (Tells (objects_of shape.now) (history_of shape.now) prefix.now budget) }
 {
-    let mut cursor = Cursor::root(alloc, shape)?;
-    if !push_all(&mut cursor, prefix)? {
+    let Some(mut cursor) = Cursor::behind(alloc, shape, prefix)? else {
         return Ok(Outcome::Refuted);
-    }
+    };
     let _ = cursor.prefix();
     if cursor.full() {
-        let witness = copied(alloc, prefix)?;
+        let witness = Prefix::copy_of(alloc, prefix)?;
         return Ok(Outcome::Witness(witness));
     }
     let Some(left) = spend(budget) else {
@@ -234,7 +224,7 @@ fn search<A: Allocator + Copy>(
 }
 
 /// Whether some list that begins with the prefix shows the history, as far as the budget goes: exactly so many prefixes
-/// are expanded before it is told as spent. A prefix is expanded when the choices behind it are tried for the first time;
+/// are expanded before it is reported as spent. A prefix is expanded when the choices after it are tried for the first time;
 /// one that is not good is refuted, and a full one is the witness, without an expansion.
 pub fn explore<A: Allocator + Copy>(
     alloc: A,
@@ -254,6 +244,7 @@ pub fn decide<A: Allocator + Copy>(alloc: A, shape: &Shape<A>) -> Result<Decided
     match search(alloc, shape, &[], None)? {
         Outcome::Witness(witness) => Ok(Decided::Opaque(witness)),
         Outcome::Refuted => Ok(Decided::NotOpaque),
-        Outcome::Spent => Ok(Decided::NotOpaque),
+        // Without a budget none is spent.
+        Outcome::Spent => unreachable!(),
     }
 }

@@ -92,7 +92,7 @@ fn is_spot(words: &[u64], states: usize, placed: &[u64], further: Option<usize>)
     }
 }
 
-/// Whether spots of the width can come behind so many of another.
+/// Whether spots of the width can come after so many of another.
 fn is_width(count: usize, other: usize, width: usize) -> bool
     ensures { IsTrue result → (count ≡ 0) ⊎ (other ≡ width) }
 {
@@ -107,7 +107,7 @@ fn part(words: &[u64], from: usize, width: usize) -> &[u64]
     &words[from..from + width]
 }
 
-/// Puts the number and the marks behind the words, if there is memory for them.
+/// Puts the number and the marks after the words, if there is memory for them.
 fn append<A: Allocator>(words: &mut Vec<u64, A>, states: usize, marks: &[u64]) -> bool
     ensures { words.new.items ≡ (if result then words.old.items ++ states ∷ marks.now else words.old.items) }
 {
@@ -120,7 +120,7 @@ fn append<A: Allocator>(words: &mut Vec<u64, A>, states: usize, marks: &[u64]) -
 }
 
 impl<A: Allocator + Copy> Spots<A> {
-    /// No spots. It takes no memory.
+    /// No spots. It does not allocate.
     pub(crate) fn new(alloc: A) -> Spots<A>
         ensures { result ≡ [] }
     {
@@ -169,7 +169,7 @@ impl<A: Allocator + Copy> Spots<A> {
         false
     }
 
-    /// Puts a spot behind the others, if it has as many words as they have and there is memory for it.
+    /// Puts a spot after the others, if it has as many words as they have and there is memory for it.
     pub(crate) fn keep(&mut self, states: usize, placed: &Marks<A>)
         ensures { AreWith (map (entry_of (length placed.now)) self.old) (map (entry_of (length placed.now)) self.new) (record { placed = placed.now; states = states }) }
     {

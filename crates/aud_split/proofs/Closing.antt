@@ -17,7 +17,7 @@ use Rattle.aud_split.specs.Tasks.{HasNoKids, IsTask}
 use Rattle.aud_split.specs.Laws.{TasksClose}
 use Rattle.aud_split.proofs.Tasks.{full-no_kids, task-itself, task-of_kid}
 
--- # What can be told
+-- # What can be said
 
 module _ (objects : List Declared) (h : History) where
   -- a list is good or not
@@ -55,7 +55,7 @@ module _ (objects : List Declared) (h : History) where
 
 -- # Beginnings of one list
 
--- of two beginnings of a list the first begins the second, or goes on behind it
+-- of two beginnings of a list the first begins the second, or goes on after it
 compared : (m p a b : List Decision) → m ++ a ≡ p ++ b → ((s : List Decision) × (p ≡ m ++ s)) ⊎ ((d : Decision) × ((s : List Decision) × (m ≡ p ++ d ∷ s)))
 compared [] p a b is = inl (p, refl)
 compared (x ∷ m) [] a b is = inr (x, (m, refl))
@@ -70,7 +70,7 @@ compared (x ∷ m) (y ∷ p) a b is =
 -- # Closed
 
 module _ (objects : List Declared) (h : History) (cover : List (List Decision)) where
-  -- a list with a kid, of which all kids are closed, and a list that goes on behind it has a beginning in the cover
+  -- a list with a kid, of which all kids are closed, and a list that goes on after it has a beginning in the cover
   closed-by_kids : (p q : List Decision) (d : Decision) (rest : List Decision) → IsGood objects h (p ++ d ∷ []) → q ≡ p ++ d ∷ rest → IsCovered cover q →
       ((e : Decision) → IsGood objects h (p ++ e ∷ []) → IsClosed objects h cover (p ++ e ∷ [])) → IsClosed objects h cover p
   closed-by_kids p q d rest longer is (m, (more, (member, so))) all = elim (compared m p more (d ∷ rest) (sym so ∙ is)) [

@@ -26,7 +26,7 @@ pub on_ok : {X E : Type 0} (r : Result X E) (P Q : Type 0) → (P → Q) → OnO
 on_ok (Ok x) P Q f holds = f holds
 on_ok (Err e) P Q f holds = holds
 
--- by its length a list is told to be empty
+-- by its length a list is known to be empty
 pub none_by_length : (b : Bool) (n : ℕ) (ks : List Decision) → b ≡ (n == 0) → n ≡ length ks → b ≡ true → ks ≡ []
 none_by_length b n [] told long is = refl
 none_by_length b n (k ∷ ks) told long is = let none : n ≡ 0 = nat_eq-is n 0 (sym told ∙ is) in absurd (omega arith)

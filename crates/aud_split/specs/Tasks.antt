@@ -13,7 +13,7 @@ use Rattle.aud_witness.specs.Orders.{IsFull, IsGood}
 abbrev pub HasNoKids : List Declared → History → List Decision → Type 0
 HasNoKids objects h p = (d : Decision) → IsGood objects h (p ++ d ∷ []) → ⊥
 
--- q is good, and has exactly so many decisions behind p, or fewer, and then it is full or has no kids
+-- q is good, and has exactly so many decisions after p, or fewer, and then it is full or has no kids
 pub record IsTask (objects : List Declared) (h : History) (p : List Decision) (depth : ℕ) (q : List Decision) : Type 0 where
   pub good : IsGood objects h q
   pub rest : List Decision

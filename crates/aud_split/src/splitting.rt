@@ -7,21 +7,8 @@ ghost use Rattle.aud_split.specs.Tasks.{AreAdded, AreTasks};
 
 use aud_event::OutOfMemory;
 use aud_order::{Cursor, Shape};
-use aud_witness::{Decision, Prefix};
+use aud_witness::{Decision, Prefix, add_copy};
 use std::alloc::Allocator;
-
-/// Adds the list with a memory of its own.
-fn add<A: Allocator + Copy>(
-    alloc: A,
-    decisions: &[Decision],
-    list: &mut Vec<Prefix<A>, A>,
-) -> Result<(), OutOfMemory>
-    ensures { OnOk result (list.new.items ≡ list.old.items ++ decisions.now ∷ []) }
-{
-    let copy = Vec::from_slice(alloc, decisions)?;
-    list.push(Prefix::from_decisions(copy))?;
-    Ok(())
-}
 
 /// Adds the tasks below the cursor's list, the least first. The cursor comes back to it.
 fn split_here<A: Allocator + Copy>(
@@ -35,11 +22,11 @@ fn split_here<A: Allocator + Copy>(
 {
     let path = cursor.prefix();
     if depth == 0 || cursor.full() {
-        return add(alloc, path, list);
+        return add_copy(alloc, path, list);
     }
     let kids = cursor.kids(alloc)?;
     if kids.is_empty() {
-        return add(alloc, cursor.prefix(), list);
+        return add_copy(alloc, cursor.prefix(), list);
     }
     for kid in &kids {
         let _ = cursor.push(*kid)?;

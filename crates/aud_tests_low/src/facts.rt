@@ -285,7 +285,7 @@ fn has_just<A: Allocator + Copy>(facts: &Facts<A>, lines: &[Fact]) -> bool {
     set.len() == lines.len()
 }
 
-/// Whether a status and a comparison go, which take no memory.
+/// Whether a status and a comparison go, which do not allocate.
 fn is_itself<A: Allocator + Copy>(facts: &Facts<A>) -> bool {
     facts.status();
     facts.same(facts)
@@ -301,7 +301,7 @@ fn insert_is_refused<A: Allocator + Copy>(rt: &impl Abort, facts: &mut Facts<A>)
     is_refused
 }
 
-/// The last line of the worked run, put in behind the others.
+/// The last line of the worked run, put in after the others.
 struct Inserts;
 
 impl Trial for Inserts {

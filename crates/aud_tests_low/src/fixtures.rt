@@ -123,7 +123,7 @@ pub fn each_holds<R: Abort + AllocGlobal, C: Case>(rt: &R, cases: &[C]) {
 
 /// A run of which one growth may be refused.
 pub trait Trial {
-    /// Whether what is tried was refused, where a growth by `alloc` may be, and none by `ample` is. An `Err` tells that a
+    /// Whether what is tried was refused, where a growth by `alloc` may be, and none by `ample` is. An `Err` says that a
     /// growth was refused before that.
     fn is_refused<R: Abort, A: Allocator + Copy>(
         rt: &R,
@@ -132,7 +132,7 @@ pub trait Trial {
     ) -> Result<bool, OutOfMemory>;
 }
 
-/// Whether a tried run was refused, as it tells. One that is not refused has what is wanted.
+/// Whether a tried run was refused, as it says. One that is not refused has what is wanted.
 pub fn is_refused(rt: &impl Abort, tried: Result<bool, OutOfMemory>) -> bool {
     match tried {
         Err(OutOfMemory) => true,

@@ -252,7 +252,7 @@ fn a_trie_leads_to_its_nodes(rt: HostRuntime) {
     holds(&rt, trie_leads(rt.alloc()));
 }
 
-/// Whether two covers that differ behind a long list join.
+/// Whether two covers that differ after a long list join.
 fn long_lists_join(alloc: Global) -> Result<bool, OutOfMemory> {
     let mut list = Vec::new(alloc);
     for item in 0..1024u32 {
@@ -436,7 +436,7 @@ fn insert_is_refused<A: Allocator + Copy>(
     is_refused
 }
 
-/// An insert into a set of seven, and before it a copy and a look for an item, which take no memory.
+/// An insert into a set of seven, and before it a copy and a look for an item, which do not allocate.
 struct SetInsert;
 
 impl Trial for SetInsert {
@@ -554,7 +554,7 @@ fn cover_is_refused<A: Allocator + Copy>(
     is_refused
 }
 
-/// An insert into a cover of two lists and copies of it, and before it a mark, which takes no memory.
+/// An insert into a cover of two lists and copies of it, and before it a mark, which does not allocate.
 struct CoverInsert;
 
 impl Trial for CoverInsert {

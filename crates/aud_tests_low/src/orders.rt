@@ -142,7 +142,7 @@ fn an_agenda_has_a_row_for_each_transaction(rt: HostRuntime) {
     holds(&rt, has_two_rows(&rt, rt.alloc()));
 }
 
-/// Places each decision that can be placed. Whether what is told of each is what is wanted.
+/// Places each decision that can be placed. Whether what is reported of each is what is wanted.
 fn place_all<A: Allocator + Copy>(
     placing: &mut Placing<'_, A>,
     cases: &[(Decision, Result<(), OrderFault>)],
@@ -155,7 +155,7 @@ fn place_all<A: Allocator + Copy>(
     Ok(true)
 }
 
-/// What is told of decisions from the root on, of which one is placed.
+/// What is reported of decisions from the root on, of which one is placed.
 const TOLD: [(Decision, Result<(), OrderFault>); 5] = [
     (C7, Err(OrderFault::UnknownTx(7))),
     (A2, Err(OrderFault::FateNotAllowed(2))),

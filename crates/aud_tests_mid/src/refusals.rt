@@ -53,11 +53,11 @@ enum Asked {
     IsOnlyWitness,
     /// Nothing yet of the order.
     Nothing(&'static str),
-    /// Whether this is told of the order.
+    /// Whether this is reported of the order.
     IsTold(&'static str, Option<OrderFault>),
 }
 
-/// Whether this is told of the order, of the history of a sealed set.
+/// Whether this is reported of the order, of the history of a sealed set.
 fn is_told<A: Allocator + Copy>(
     alloc: A,
     sealed: &Sealed<A>,
@@ -132,11 +132,11 @@ fn answer<A: Allocator + Copy>(
 enum Outcome {
     /// It was not asked for, and the answer was right.
     Unmet,
-    /// Want of memory was told.
+    /// Out of memory was reported.
     Told,
     /// The answer was right all the same.
     Passed,
-    /// The answer was wrong, or want of memory was told where there was none.
+    /// The answer was wrong, or out of memory was reported where there was none.
     Wrong,
 }
 
@@ -157,7 +157,7 @@ fn refused(
     })
 }
 
-/// How often want of memory was told, and how often the answer was right all the same, where each growth is refused in turn
+/// How often out of memory was reported, and how often the answer was right all the same, where each growth is refused in turn
 /// up to the first that is not asked for; none where an outcome was wrong.
 fn outcomes(
     alloc: Global,
@@ -251,7 +251,7 @@ fn brute_force_meets_each_refusal(rt: HostRuntime) -> Result<(), Fail> {
     Ok(())
 }
 
-/// Each growth of making the history and the order, and of what is told of it, is told.
+/// Each growth of making the history and the order, and of what is reported of it, is reported.
 #[test]
 fn showing_meets_each_refusal(rt: HostRuntime) -> Result<(), Fail> {
     let cases: [(&'static str, Option<OrderFault>); 2] = [

@@ -210,7 +210,7 @@ fn a_byte_a_write(rt: HostRuntime) {
     }
 }
 
-/// How the report of a gap ends on a sink that fails behind so many bytes, and how many it took, if they begin the line.
+/// How the report of a gap ends on a sink that fails after so many bytes, and how many it took, if they begin the line.
 fn reported<A: Allocator + Copy>(
     alloc: A,
     outside: Global,
@@ -239,7 +239,7 @@ fn a_verdict_is_reported(rt: HostRuntime) {
     assert_eq!(rt; found, (Ok(()), Some(15)));
 }
 
-/// Whether a verdict is reported. Where memory is wanted nothing goes out.
+/// Whether a verdict is reported. Where memory runs out nothing goes out.
 pub(crate) fn is_reported<A: Allocator + Copy>(alloc: A, outside: Global) -> Result<bool, Unread> {
     match reported(alloc, outside, 15) {
         (Ok(()), taken) => Ok(taken == Some(15)),

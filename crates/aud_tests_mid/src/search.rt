@@ -52,7 +52,7 @@ fn histories_are_decided(rt: HostRuntime) -> Result<(), Fail> {
     Ok(())
 }
 
-/// What a search with a budget told, the order aside.
+/// What a search with a budget reported, the order aside.
 #[derive(Clone, Copy, Debug, PartialEq, Eq)]
 enum Told {
     Refuted,
@@ -68,7 +68,7 @@ fn without_order(outcome: Outcome) -> Told {
     }
 }
 
-/// What is told of the lists that begin with the prefix.
+/// What is reported of the lists that begin with the prefix.
 fn explored(alloc: Global, shape: &Shape, prefix: &str, budget: u64) -> Result<Told, Unread> {
     let prefix = order(alloc, prefix)?;
     Ok(without_order(explore(alloc, shape, &prefix, budget)?))
@@ -138,7 +138,7 @@ fn budgets_are_enough(rt: HostRuntime) -> Result<(), Fail> {
     Ok(())
 }
 
-/// What is told of all lists, of the facts' history.
+/// What is reported of all lists, of the facts' history.
 fn explored_whole(alloc: Global, facts: &Facts, budget: u64) -> Result<Told, Unread> {
     let shape = shape_from(alloc, facts)?;
     explored(alloc, &shape, "none", budget)

@@ -10,7 +10,7 @@ fn job(alloc: Global) -> Result<Job, AllocError> {
     Ok(Job::Check(String::from_str(alloc, "1c 2c")?))
 }
 
-/// How a run ends on a source that gives a byte a read and fails behind so many, whether it writes the line, and how
+/// How a run ends on a source that gives a byte a read and fails after so many, whether it writes the line, and how
 /// often the source failed.
 fn dripped(
     alloc: Global,
@@ -46,7 +46,7 @@ fn source_drips_and_fails(rt: HostRuntime) -> Result<(), Fail> {
     Ok(())
 }
 
-/// How a run ends on a sink that takes a byte a write and fails behind so many, and how many bytes it took, if they are a
+/// How a run ends on a sink that takes a byte a write and fails after so many, and how many bytes it took, if they are a
 /// beginning of the line.
 fn choked(
     alloc: Global,

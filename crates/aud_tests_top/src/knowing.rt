@@ -46,7 +46,7 @@ pub enum Judgement {
 /// The verdict, how many facts and how many refuted lists are known, and whether a witness is.
 type Summary = (Judgement, usize, usize, bool);
 
-/// What is to be told by all facts of the torn read and its refuted list, however they came.
+/// What is to be reported by all facts of the torn read and its refuted list, however they came.
 const TORN: Summary = (Judgement::NotOpaque, 14, 1, false);
 
 /// Takes an item, or leaves it where it is of another plan.
@@ -217,7 +217,7 @@ fn told(known: &Knowledge) -> Result<Summary, OutOfMemory> {
     ))
 }
 
-/// What is told of an input's run by the steps.
+/// What is reported of an input's run by the steps.
 fn told_by(alloc: Global, input: &str, steps: &[Step]) -> Result<Summary, Unread> {
     let known = known_of(alloc, input, steps)?;
     Ok(told(&known)?)

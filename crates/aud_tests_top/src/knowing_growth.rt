@@ -27,7 +27,7 @@ fn has<A: Allocator + Copy>(alloc: A, known: &Knowledge<A>, facts: usize) -> Res
     Ok(known.facts().len() == facts && known.knows(&list))
 }
 
-/// Whether the take was refused for want of memory and left the value, or none where it was not refused.
+/// Whether the take was refused since memory ran out and left the value, or none where it was not refused.
 fn refusal<A: Allocator + Copy>(
     known: &mut Knowledge<A>,
     item: &Item<A>,

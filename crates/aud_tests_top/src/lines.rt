@@ -62,14 +62,14 @@ fn cut_at_every_byte(rt: HostRuntime) -> Result<(), Fail> {
     Ok(())
 }
 
-/// Puts the line behind the text.
+/// Puts the line after the text.
 fn put_line(text: &mut Vec<u8>, line: &[u8]) -> Result<(), AllocError> {
     text.extend_from_slice(line)?;
     text.push(b'\n')?;
     Ok(())
 }
 
-/// Puts the lines behind the text.
+/// Puts the lines after the text.
 fn put_lines(text: &mut Vec<u8>, lines: &[&[u8]]) -> Result<(), AllocError> {
     for line in lines {
         put_line(text, *line)?;
@@ -77,7 +77,7 @@ fn put_lines(text: &mut Vec<u8>, lines: &[&[u8]]) -> Result<(), AllocError> {
     Ok(())
 }
 
-/// Puts the lines of a text behind another, with more lines behind so many of them.
+/// Puts the lines of a text after another, with more lines after so many of them.
 fn put_with_lines(
     whole: &mut Vec<u8>,
     text: &str,
@@ -93,7 +93,7 @@ fn put_with_lines(
     Ok(())
 }
 
-/// The text with more lines put in behind so many of its lines.
+/// The text with more lines put in after so many of its lines.
 fn with_lines(
     alloc: Global,
     text: &str,
@@ -152,7 +152,7 @@ fn late_record_anywhere(rt: HostRuntime) -> Result<(), Fail> {
     Ok(())
 }
 
-/// Puts the lines of a text behind another, each with a carriage return.
+/// Puts the lines of a text after another, each with a carriage return.
 fn put_returned(whole: &mut Vec<u8>, text: &str) -> Result<(), AllocError> {
     for line in text.lines() {
         whole.extend_from_slice(line.as_bytes())?;
@@ -208,7 +208,7 @@ fn no_last_line_feed(rt: HostRuntime) -> Result<(), Fail> {
     Ok(())
 }
 
-/// Puts so many lines of a text, from the place on, behind another.
+/// Puts so many lines of a text, from the place on, after another.
 fn put_part(whole: &mut String, text: &str, place: usize, count: usize) -> Result<(), AllocError> {
     for line in text.lines().skip(place).take(count) {
         whole.push_str(line)?;
@@ -217,14 +217,14 @@ fn put_part(whole: &mut String, text: &str, place: usize, count: usize) -> Resul
     Ok(())
 }
 
-/// Puts the plan of two lines of a text behind another, and then its other lines turned round by so many.
+/// Puts the plan of two lines of a text after another, and then its other lines turned round by so many.
 fn put_turned(whole: &mut String, text: &str, by: usize) -> Result<(), AllocError> {
     put_part(whole, text, 0, 2)?;
     put_part(whole, text, by.saturating_add(2), usize::MAX)?;
     put_part(whole, text, 2, by)
 }
 
-/// The text with the lines behind its plan of two lines turned round by so many.
+/// The text with the lines after its plan of two lines turned round by so many.
 fn turned(alloc: Global, text: &str, by: usize) -> Result<String, AllocError> {
     let mut whole = String::new(alloc);
     put_turned(&mut whole, text, by)?;

@@ -25,7 +25,7 @@ const UNFINISHED: Reading = (Ok(false), Ok(Judgement::Unfinished));
 
 const REFUTED: Reading = (Ok(true), Ok(Judgement::NotOpaque));
 
-/// Offers each fact in turn, and tells how many were taken.
+/// Offers each fact in turn, and answers how many were taken.
 pub fn offer_facts<J: Fleet, R: Wait, S: Wait + Drop>(
     rt: &R,
     alloc: Global,

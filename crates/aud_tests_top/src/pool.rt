@@ -200,8 +200,14 @@ fn one_refused_worker_leaves_no_task(rt: HostRuntime) -> Result<(), Fail> {
         panic!(rt; "the pool did not begin");
     };
     assert!(rt; end.left.is_empty());
-    assert_eq!(rt; end.workers.iter().filter(|worker| worker.failed).count(), 1);
-    assert_eq!(rt; all_of(rt.alloc(), &end)?.as_slice(), [1, 2, 3, 4].as_slice());
+    assert_eq!(rt;
+        end.workers.iter().filter(|worker| worker.failed).count(),
+        1
+    );
+    assert_eq!(rt;
+        all_of(rt.alloc(), &end)?.as_slice(),
+        [1, 2, 3, 4].as_slice()
+    );
     Ok(())
 }
 

@@ -122,7 +122,7 @@ const LOGS: u32 = 8;
 
 const PLACES: u32 = 64;
 
-/// Records of eight logs, each log's one behind the other.
+/// Records of eight logs, each log's one after the other.
 fn records(alloc: Global) -> Result<Vec<Fact>, Unread> {
     let mut facts = Vec::new(alloc);
     for number in 0..LOGS * PLACES {

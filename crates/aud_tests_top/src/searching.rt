@@ -183,7 +183,15 @@ fn what_a_pool_found_is_known(rt: HostRuntime) -> Result<(), Fail> {
             let plan = plan_of(alloc, &run)?;
             let search = split_of(alloc, &run, budget)?;
             let search = search.ok_or("well-formed")?;
-            let said = searched::<Brand, _, _>(&rt, alloc, Opened::new(0), plan, workers, search, &Open);
+            let said = searched::<Brand, _, _>(
+                &rt,
+                alloc,
+                Opened::new(0),
+                plan,
+                workers,
+                search,
+                &Open,
+            );
             assert!(rt; said == Some(expected));
         }
     }

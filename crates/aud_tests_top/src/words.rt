@@ -4,7 +4,7 @@ use aud_cli::{Command, Job, Usage, job_of};
 use std::alloc::{AllocError, Global};
 use std::test::Fail;
 
-/// Puts the words of the line, parted by blanks, behind the others.
+/// Puts the words of the line, parted by blanks, after the others.
 fn put_words(alloc: Global, words: &mut Vec<String>, line: &str) -> Result<(), AllocError> {
     for word in line.split(' ') {
         words.push(String::from_str(alloc, word)?)?;
@@ -66,6 +66,10 @@ fn texts_for_the_user(rt: HostRuntime) -> Result<(), Fail> {
         ("opaq audit --nodes 2", "unrecognized subcommand"),
         ("opaq verify", "unrecognized subcommand"),
         ("opaq --help", "Commands:"),
+        ("opaq --help", "Example: transaction 1 writes 1 to x"),
+        ("opaq --version", "opaq 0.1.0, proved with rattle-kit-"),
+        ("opaq -V", "opaq 0.1.0, proved with rattle-kit-"),
+        ("opaq check --version", "unexpected argument"),
         ("opaq check --help", "Example: opaq check"),
         ("opaq decide --help", "Example: opaq decide"),
         ("opaq help check", "--order <TEXT>"),

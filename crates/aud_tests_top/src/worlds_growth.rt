@@ -32,14 +32,14 @@ fn facts_at<A: Allocator + Copy>(world: &World<A>, number: u32) -> usize {
     }
 }
 
-/// How many facts each node has, and how many packets there are, behind the first so many moves of the list.
+/// How many facts each node has, and how many packets there are, after the first so many moves of the list.
 const SIZES: [(usize, usize, usize); 5] = [(0, 0, 0), (1, 0, 0), (1, 0, 1), (1, 1, 1), (1, 2, 1)];
 
 fn sizes<A: Allocator + Copy>(world: &World<A>) -> (usize, usize, usize) {
     (facts_at(world, 0), facts_at(world, 1), world.packets())
 }
 
-/// The place at which want of memory is told, or the end of the list.
+/// The place at which out of memory is reported, or the end of the list.
 fn place_of(run: Result<(), (usize, MoveFault)>) -> Option<usize> {
     match run {
         Ok(()) => Some(4),
@@ -48,7 +48,7 @@ fn place_of(run: Result<(), (usize, MoveFault)>) -> Option<usize> {
     }
 }
 
-/// Whether want of memory was told, and whether the world was left as the moves before left it.
+/// Whether out of memory was reported, and whether the world was left as the moves before left it.
 fn tried<A: Allocator + Copy>(alloc: A, run: &Facts) -> Result<(bool, bool), Unread> {
     let moves = short_list(alloc)?;
     let mut world = World::new(alloc, plan_of(alloc, run)?, 2)?;

@@ -98,7 +98,7 @@ id_exact ds f d h =
     let low : digits_value 10 ds < 1024 = grind (arith, r.1) in
     (sym (ap (λ e. decimal e.tx) (sym r.2) ∙ plain_decimal ds r.0 low), ap (λ e. e.fate) r.2)
 
--- the last element stands behind the others
+-- the last element stands after the others
 last_apart : (x : ℕ) (xs : List ℕ) → (ds : List ℕ) × (y : ℕ) × (x ∷ xs ≡ ds ++ y ∷ [])
 last_apart x [] = ([], x, refl)
 last_apart x (y ∷ ys) = let r = last_apart y ys in (x ∷ r.0, r.1, ap (λ zs. x ∷ zs) r.2)
@@ -123,7 +123,7 @@ word_exact (x ∷ xs) d h =
 
 -- ---- what was read so far
 
--- the decisions so far before those of the rest, or, where an unknown word was met, what is told then
+-- the decisions so far before those of the rest, or, where an unknown word was met, what is reported then
 abbrev pub so_far : List Decision → Bool → Result (List Decision) TextFault → Result (List Decision) TextFault
 so_far ds true (Ok rest) = Ok (ds ++ rest)
 so_far ds true (Err e) = Err e

@@ -31,7 +31,7 @@ answer_of_word w = if bytes_eq w (codes "done") then Some Done else (if bytes_eq
 
 -- ---- which keys
 
--- what a word at `ev` makes of a line; an invocation is told by its operation, where `op` has the word of one
+-- what a word at `ev` makes of a line; an invocation is known by its operation, where `op` has the word of one
 abbrev pub shape_of_event : Data → List ℕ → Shape
 shape_of_event d w =
     if bytes_eq w (codes "inv") then Invoke (option_and_then op_of_word (word_at (codes "op") d))

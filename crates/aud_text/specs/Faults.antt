@@ -1,4 +1,4 @@
--- The numbers under which faults are told.
+-- The numbers under which faults are reported.
 use Rattle.std.specs.Prelude.{ℕ, Option, Some, None}
 use Rattle.aud_event.specs.Facts.{fact_fault_number}
 use Rattle.aud_event.specs.Plans.{plan_fault_number}
@@ -18,7 +18,7 @@ fault_number (fault.Fact _) = 8
 fault_number fault.OutOfMemory = 9
 fault_number (fault.Plan _) = 10
 
--- the number that is told behind 8 and behind 10
+-- the number that is reported after 8 and after 10
 abbrev pub inner_number : TextFault → Option ℕ
 inner_number (fault.Fact e) = Some (fact_fault_number e)
 inner_number (fault.Plan e) = Some (plan_fault_number e)

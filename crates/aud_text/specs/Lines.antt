@@ -27,7 +27,7 @@ pub record Filled : Type 0 where
   pub line : List ℕ
   pub ends : ℕ
 
--- the lines that are not empty, where the first of all these lines has this number and begins behind so many bytes
+-- the lines that are not empty, where the first of all these lines has this number and begins after so many bytes
 abbrev pub filled_from : ℕ → ℕ → ℕ → List (List ℕ) → List Filled
 filled_from all number before [] = []
 filled_from all number before ([] ∷ ls) = filled_from all (number + 1) (before + 1) ls
@@ -38,7 +38,7 @@ filled_from all number before ((b ∷ bs) ∷ ls) =
 abbrev pub filled_left : ℕ → ℕ → List ℕ → List Filled
 filled_left all number rest = filled_from all number (all - length rest) (lines_of rest)
 
--- such a line, by what stands behind it
+-- such a line, by what stands after it
 abbrev pub filled_at : ℕ → ℕ → List ℕ → List ℕ → Filled
 filled_at all number line rest = record { number = number; line = line; ends = all - length rest }
 

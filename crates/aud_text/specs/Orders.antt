@@ -47,7 +47,7 @@ abbrev pub words_left : Option (List ℕ) → List (List ℕ)
 words_left None = []
 words_left (Some text) = words_of text
 
--- a number that is too great is told before an unknown word, wherever the two stand
+-- a number that is too great is reported before an unknown word, wherever the two stand
 abbrev pub with_word : WordRead → Result (List Decision) TextFault → Result (List Decision) TextFault
 with_word TooGreat r = Err fault.TypeOrRange
 with_word Unknown (Err fault.TypeOrRange) = Err fault.TypeOrRange

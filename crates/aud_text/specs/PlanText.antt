@@ -151,7 +151,7 @@ objects_read after used (suc k) (l ∷ ls) = with_object l.number (object_read l
 abbrev pub objects_left : List ℕ → List ℕ → ℕ → ℕ → Result (List Declared × ℕ) PlanTextFault
 objects_left text left number count = objects_read (length (lines_of text) + 1) (length text - length left) count (filled_left (length text) number left)
 
--- a fault of the objects together, as it is told
+-- a fault of the objects together, as it is reported
 abbrev pub told_as : PlanFault → TextFault
 told_as OutOfMemory = fault.OutOfMemory
 told_as e = fault.Plan e

@@ -208,7 +208,7 @@ fn fault_of(value: &Value, members: &Map<String, Value>, shape: Shape) -> TextFa
     }
 }
 
-/// The fact that a JSON value says in the plan, or the least fault that it deserves. It takes no memory.
+/// The fact that a JSON value says in the plan, or the least fault that it deserves. It does not allocate.
 pub fn judge<A: Allocator>(plan: &Plan<A>, value: &Value) -> Result<Fact, TextFault>
     ensures { result ≡ judged plan.now (view value.now) }
 {

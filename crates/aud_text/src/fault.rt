@@ -1,4 +1,4 @@
-//! Why a text is refused, and the numbers under which that is told.
+//! Why a text is refused, and the numbers under which that is reported.
 
 ghost use Rattle.std.specs.Prelude.{◌≡◌};
 ghost use Rattle.aud_text.specs.Faults.{fault_number, inner_number};
@@ -6,7 +6,7 @@ ghost use Rattle.aud_text.specs.Faults.{fault_number, inner_number};
 use aud_event::{FactFault, PlanFault};
 use thiserror::Error;
 
-/// Why a line, or an order text, is refused. Of several faults the one with the least number is told.
+/// Why a line, or an order text, is refused. Of several faults the one with the least number is reported.
 #[derive(Clone, Copy, Debug, PartialEq, Eq, Error)]
 pub enum TextFault {
     #[error("too long")]

@@ -4,14 +4,14 @@ ghost use Rattle.std.specs.Prelude.{◌≡◌, ℕ, ◌≤◌, ◌<◌, ◌+◌,
 ghost use Rattle.std.specs.List.{position_from};
 ghost use Rattle.aud_text.specs.Lines.{lines_of, line_len, Splits, filled_left, filled_at};
 
-/// A line without its line feed, and what stands behind it.
+/// A line without its line feed, and what stands after it.
 #[derive(Clone, Copy, Debug)]
 pub struct LineAt<'a> {
     pub line: &'a [u8],
     pub rest: &'a [u8],
 }
 
-/// A line that is not empty, its number, and what stands behind it.
+/// A line that is not empty, its number, and what stands after it.
 #[derive(Clone, Copy, Debug)]
 pub struct FilledLine<'a> {
     pub number: usize,

@@ -15,7 +15,7 @@ use std::alloc::Allocator;
 /// The most bytes that an order text may have.
 pub const ORDER_MAX: usize = 32_768;
 
-/// A word, and what stands behind the space at its end, if one stands there.
+/// A word, and what stands after the space at its end, if one stands there.
 #[derive(Clone, Copy, Debug)]
 struct WordAt<'a> {
     word: &'a [u8],

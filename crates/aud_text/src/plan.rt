@@ -75,7 +75,7 @@ fn read_objects(
 
 /// The plan that a text begins with, and the bytes up to the end of its last line, its line feed included.
 ///
-/// A fault of the objects together is told at line 0, and a text that ends too early at the line after its last.
+/// A fault of the objects together is reported at line 0, and a text that ends too early at the line after its last.
 pub fn read_plan(alloc: Global, text: &[u8]) -> Result<(Plan, usize), PlanTextFault>
     ensures { MatchResult result (λ p. plan_read text.now ≡ Ok (p.0, p.1))
         (λ e. (e.fault ≡ TextFault.OutOfMemory) ⊎ (plan_read text.now ≡ Err e)) }

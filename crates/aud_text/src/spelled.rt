@@ -16,7 +16,7 @@ use crate::write::{argument_in, name_at};
 use aud_event::{Answer, EndMark, Event, Fact, Op, OpName, Plan, Record};
 use std::alloc::Allocator;
 
-/// What stands behind the text, where the line begins with it.
+/// What stands after the text, where the line begins with it.
 fn behind<'l>(line: &'l [u8], text: &str) -> Option<&'l [u8]>
     ensures { IfSome result (λ rest. line.now ≡ text.now ++ rest.now) }
 {
@@ -93,7 +93,7 @@ fn place_at(line: &[u8]) -> Option<(u32, &[u8])>
     Some((place, rest))
 }
 
-/// The log, behind the event's word.
+/// The log, after the event's word.
 fn log_at<'l>(line: &'l [u8], word: &str) -> Option<(u32, &'l [u8])>
     ensures { IfSome result (λ r. line.now ≡ log_text word.now r.0 r.1.now) }
 {

@@ -100,14 +100,14 @@ pub(crate) fn small_of(value: &Value, key: &str) -> Option<u32>
 }
 
 /// The whole number of i64 at the key.
-pub(crate) fn whole_of(value: &Value, key: &str) -> Option<i64>
+pub fn whole_of(value: &Value, key: &str) -> Option<i64>
     ensures { result ≡ whole_at key.now (view value.now) }
 {
     value.get(key).and_then(Value::as_i64)
 }
 
 /// The text at the key.
-pub(crate) fn word_of<'v>(value: &'v Value, key: &str) -> Option<&'v str>
+pub fn word_of<'v>(value: &'v Value, key: &str) -> Option<&'v str>
     ensures { option_map (λ s. s.now) result ≡ word_at key.now (view value.now) }
 {
     match value.get(key) {
@@ -130,7 +130,8 @@ pub(crate) fn small_if_there(value: &Value, key: &str) -> bool
     }
 }
 
-pub(crate) fn text_if_there(value: &Value, key: &str) -> bool
+/// Whether what stands at the key, if anything does, is a text.
+pub fn text_if_there(value: &Value, key: &str) -> bool
     ensures { result ≡ fits_at (λ e. is_some (as_str e)) key.now (view value.now) }
 {
     match value.get(key) {

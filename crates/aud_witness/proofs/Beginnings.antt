@@ -23,7 +23,7 @@ new_at (x ∷ p) d q h =
     let rest : is_named p d.tx ≡ false = new_at p d q both.1 in
     ap (λ b. b || is_named p d.tx) other ∙ rest
 
--- nor behind it
+-- nor after it
 pub new_behind : (p : List Decision) (d : Decision) (q : List Decision) → are_named_once (p ++ d ∷ q) ≡ true → is_named q d.tx ≡ false
 new_behind [] d q h = not_true (is_named q d.tx) ((and_true (not (is_named q d.tx)) (are_named_once q) h).0)
 new_behind (x ∷ p) d q h = new_behind p d q ((and_true (not (is_named (p ++ d ∷ q) x.tx)) (are_named_once (p ++ d ∷ q)) h).1)

@@ -134,7 +134,7 @@ is_in-from_first f a d b t order =
     ap (λ l. is_in l t) (from_first-block f a d b (new_at a d b order.once) (Each-at (λ x. is_filled (f x) ≡ true) a d b order.filled))
     ∙ is_in-joined_by f (d ∷ b) t (Each-behind (λ x. is_filled (f x) ≡ true) a (d ∷ b) order.filled)
 
--- what is named in front is not named behind
+-- what is named in front is not named after it
 pub off_behind : (a b : List Decision) (t : ℕ) → are_named_once (a ++ b) ≡ true → is_named a t ≡ true → is_named b t ≡ false
 off_behind a b t once there =
     let (a1, (x, (a2, (e, is_t, new)))) = place_of a t there in
@@ -174,7 +174,7 @@ picked_by-none : (f : Decision → List Event) (g : ℕ → Bool) (p : List Deci
 picked_by-none f g [] none = refl
 picked_by-none f g (d ∷ p) none = ap (λ k. cond k (f d ++ picked_by f g p) (picked_by f g p)) none.0 ∙ picked_by-none f g p none.1
 
--- as far as the test is the fate, the kept blocks; then the one at the place; nothing behind it
+-- as far as the test is the fate, the kept blocks; then the one at the place; nothing after it
 picked_by-place : (f : Decision → List Event) (g : ℕ → Bool) (a : List Decision) (d : Decision) (b : List Decision) →
     Each (λ x. g x.tx ≡ is_kept x) a → g d.tx ≡ true → Each (λ x. g x.tx ≡ false) b → picked_by f g (a ++ d ∷ b) ≡ kept_by f a ++ f d
 picked_by-place f g [] d b front at behind =

@@ -56,7 +56,7 @@ after-same n [] a b same = refl
 after-same n (s ∷ ss) a b same =
     ap (λ l. state_after s l ∷ states_after_from (suc n) ss a) (same n) ∙ ap (λ l. state_after s (on_object n b) ∷ l) (after-same (suc n) ss a b same)
 
--- a row's block, behind other events, does on each object what the definition's block does
+-- a row's block, after other events, does on each object what the definition's block does
 block-same : (h : History) (d : Decision) (es : List Event) → IsWellFormed h → (ob : ℕ) →
     on_object ob (es ++ events_of_block (block_of (events_of d.tx h))) ≡ on_object ob (es ++ block h d)
 block-same h d es fine ob =
@@ -265,12 +265,12 @@ set-named f g (x ∷ ts) (suc k) t d differ inside at placed others =
 
 -- # One decision
 
--- what a step tells of a decision behind a list
+-- what a step says of a decision after a list
 abbrev pub Told : List Declared → History → List Decision → Decision → Result Spot OrderFault → Type 0
 Told objects h p d (Ok s) = (place_fault objects h p d ≡ None) × Stands objects h (p ++ d ∷ []) s
 Told objects h p d (Err fault) = place_fault objects h p d ≡ Some fault
 
--- the tests of a decision in turn, and what is told of the first that fails
+-- the tests of a decision in turn, and what is reported of the first that fails
 abbrev fault_by : Bool → Bool → Bool → Bool → Bool → ℕ → Option OrderFault
 fault_by there named allowed enabled legal t =
     if not there then Some (UnknownTx t)
@@ -285,7 +285,7 @@ place-by : (objects : List Declared) (h : History) (p : List Decision) (d : Deci
     place_fault objects h p d ≡ fault_by there named allowed enabled legal d.tx
 place-by objects h p d there named allowed enabled legal a b c e l = λ i. fault_by (a i) (b i) (c i) (e i) (l i) d.tx
 
--- the spot behind a decision whose block could run
+-- the spot after a decision whose block could run
 Stands-next : (objects : List Declared) (h : History) (p : List Decision) (s : Spot) (d : Decision) (k d0 : ℕ) (after : List ObjState) → IsWellFormed h → Stands objects h p s →
     k < length (transactions h) → get_or (transactions h) k d0 ≡ d.tx → is_allowed h d.tx d.fate ≡ true →
     IsLegalFrom (map opening_of objects) (kept h p ++ block h d) → after ≡ states_after (map opening_of objects) (kept h p ++ block h d) →

@@ -35,7 +35,7 @@ place_in_push (y ∷ p) d (x ∷ before) e rest eq =
 pub IsGood-empty : (objects : List Declared) (h : History) → IsGood objects h []
 IsGood-empty objects h before d rest e = absurd (not_empty before d rest e)
 
--- a good list and one that is good behind it
+-- a good list and one that is good after it
 pub IsGood-push : (objects : List Declared) (h : History) (p : List Decision) (d : Decision) → IsGood objects h p → IsGoodNext objects h p d → IsGood objects h (p ++ d ∷ [])
 IsGood-push objects h p d good next before e rest eq =
     elim (place_in_push p d before e rest eq) [

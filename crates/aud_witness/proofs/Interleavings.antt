@@ -19,7 +19,7 @@ pub list_all-same : {X : Type 0} (f g : X → Bool) → ((x : X) → f x ≡ g x
 list_all-same f g e [] = refl
 list_all-same f g e (x ∷ xs) = ap (λ k. k && list_all f xs) (e x) ∙ ap (λ k. g x && k) (list_all-same f g e xs)
 
--- the fates and the block of a transaction are told by what it did
+-- the fates and the block of a transaction are known by what it did
 pub is_allowed-same : (g h : History) (t u : ℕ) (fate : Fate) → events_of t g ≡ events_of u h → is_allowed g t fate ≡ is_allowed h u fate
 is_allowed-same g h t u C e =
     ap (λ es. list_any is_commit es || (not (list_any is_commit es || list_any is_abort es) && list_any is_try_commit es)) e

@@ -69,7 +69,7 @@ pub is_named-runs : (g : ℕ → Fate) (s : History) (t : ℕ) → is_named (in_
 is_named-runs g [] t = refl
 is_named-runs g (e ∷ s) t = is_named-add g e (runs s) t ∙ ap (λ k. nat_eq e.0 t || k) (is_named-runs g s t)
 
--- of two transactions one has no event behind the first event of the other
+-- of two transactions one has no event after the first event of the other
 abbrev NoReturn : History → Type 0
 NoReturn s =
     (t u : ℕ) → is_in s t ≡ true → is_in s u ≡ true → nat_eq t u ≡ false → (is_in (from_first u s) t ≡ false) ⊎ (is_in (from_first t s) u ≡ false)

@@ -21,7 +21,7 @@ use Rattle.aud_witness.proofs.Endings.{keeps, tail_of, IsGoodBlock, IsGoodBlock-
 use Rattle.aud_witness.proofs.Seen.{IsLegal-same, seen_by-visible}
 use Rattle.aud_witness.proofs.FromLetter.{is_in-completed, is_in-equivalent}
 
--- insertions behind a history
+-- insertions after a history
 insert_behind : (h a b : History) → IsInserted h [] b → IsInserted h a (a ++ b)
 insert_behind h [] b i = i
 insert_behind h (e ∷ a) b i = same (insert_behind h a b i)
@@ -41,7 +41,7 @@ insert_tails h (d ∷ p) k =
       | false ↦ λ _. rest
     ] refl
 
--- H with the ends of its live transactions behind it, and the blocks joined
+-- H with the ends of its live transactions after it, and the blocks joined
 abbrev completed_by : History → List Decision → History
 completed_by h p = h ++ joined_by (tail_of h) p
 

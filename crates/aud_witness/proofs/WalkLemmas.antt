@@ -1,4 +1,4 @@
--- Decisions placed in turn by the rows of the table: what can be placed is good, and an order is told of exactly.
+-- Decisions placed in turn by the rows of the table: what can be placed is good, and an order is judged exactly.
 use Rattle.std.specs.Prelude.{◌≡◌, ◌↔◌, ℕ, suc, zero, ◌+◌, ◌<◌, ◌≤◌, Bool, true, false, not, ◌&&◌, if◌then◌else◌, nat_eq, List, [], ◌∷◌, ◌++◌, map, filter, length, take, drop, Option, Some, None, is_some, Result, Ok, Err, MatchResult, slice_index_or, refl}
 use Rattle.std.specs.List.{list_any, list_all}
 use Rattle.std.proofs.Common.{sym, ◌∙◌, ap, subst, cond, inl, inr, arith, get_or, append_assoc}
@@ -33,7 +33,7 @@ fits-from_limits plan h within = λ t. fit-from_plan plan t h within.1
 
 -- # Walks
 
--- what a walk places behind a good list is good
+-- what a walk places after a good list is good
 pub walked-good : (objects : List Declared) (h : History) (p rest : List Decision) (s t : Spot) → IsWellFormed h → Fits objects h → Stands objects h p s → IsGood objects h p →
     walked (table_of h) s rest ≡ Some t → IsGood objects h (p ++ rest) × Stands objects h (p ++ rest) t
 walked-good objects h p [] s t fine fits stands good led =
@@ -118,7 +118,7 @@ walks-say plan h fine within =
       shows = λ p. (Shows-walked plan.objects h p fine fits, λ (t, (led, all)). walked-Shows plan.objects h p t fine fits led all);
     }
 
--- # What is told of an order
+-- # What is reported of an order
 
 -- the first i decisions were placed, and led to the spot
 pub record Goes (objects : List Declared) (h : History) (p : List Decision) (i : ℕ) (s : Spot) : Type 0 where
@@ -128,7 +128,7 @@ pub record Goes (objects : List Declared) (h : History) (p : List Decision) (i :
 pub Goes-root : (objects : List Declared) (h : History) (p : List Decision) → Goes objects h p 0 (first_spot (table_of h) objects)
 Goes-root objects h p = record { stands = Stands-root objects h; fault = refl }
 
--- the fault behind i decisions, where the next one is d
+-- the fault after i decisions, where the next one is d
 next-fault : (objects : List Declared) (h : History) (p : List Decision) (i : ℕ) (d d0 : Decision) → i < length p → get_or p i d0 ≡ d →
     fault_behind objects h (take i p) (drop i p) ≡ fault_behind objects h (take i p) (d ∷ drop (i + 1) p)
 next-fault objects h p i d d0 inside is = ap (fault_behind objects h (take i p)) (drop_more p i d0 inside ∙ ap (λ x. x ∷ drop (i + 1) p) is)

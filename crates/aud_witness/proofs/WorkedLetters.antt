@@ -48,7 +48,7 @@ abbrev reader : History
 reader = run.executed 2 0 Read (Int (pos 0)) ++ run.commits 2
 
 -- the commit-pending writer is committed where it stands, and so is before the reader in the completion,
--- but not in H: it may stand behind the reader
+-- but not in H: it may stand after the reader
 abbrev writer : History
 writer = run.one_is_written ++ run.commits 1
 

@@ -1,4 +1,4 @@
--- Of the worked histories: all orders that show each, what is told of some that do not, and kids. All by computing.
+-- Of the worked histories: all orders that show each, what is reported of some that do not, and kids. All by computing.
 use Rattle.std.specs.Prelude.{◌≡◌, ℕ, [], ◌∷◌, Some, None, Err, refl}
 use Rattle.aud_history.specs.declared.rule.Rule.TheVariants.{RetWithoutInv, AbortWithoutCause}
 use Rattle.aud_history.specs.declared.state.TxState.TheVariants.{Idle}

@@ -1,5 +1,6 @@
 pub mod DecisionOrder
 pub mod Orders
+pub mod Prefixes
 pub mod Selection
 pub mod Letter
 pub mod Sameness

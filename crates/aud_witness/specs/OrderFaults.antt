@@ -1,4 +1,4 @@
--- What is told of an order that does not show a history, and the kids of a prefix.
+-- What is reported of an order that does not show a history, and the kids of a prefix.
 use Rattle.std.specs.Prelude.{ℕ, Bool, not, ◌&&◌, ◌||◌, if◌then◌else◌, nat_lt, List, [], ◌∷◌, ◌++◌, Option, Some, None, Result, MatchResult, ◌≡◌, filter}
 use Rattle.std.specs.List.{list_all, flat_map}
 use Rattle.aud_event.specs.Meanings.{Declared}
@@ -15,7 +15,7 @@ use Rattle.aud_history.specs.Table.{transactions}
 abbrev pub is_enabled : History → List Decision → ℕ → Bool
 is_enabled h p u = list_all (λ e. not (is_before h e.0 u) || is_named p e.0) h
 
--- what is wrong with d behind p, by the least number
+-- what is wrong with d after p, by the least number
 abbrev pub place_fault : List Declared → History → List Decision → Decision → Option OrderFault
 place_fault objects h p d =
     if not (is_in h d.tx) then Some (UnknownTx d.tx)
@@ -34,7 +34,7 @@ least_of (t ∷ ts) = elim (least_of ts) [ None ↦ Some t | Some u ↦ if nat_l
 abbrev pub missing_fault : History → List Decision → Option OrderFault
 missing_fault h p = elim (least_of (filter (λ t. not (is_named p t)) (transactions h))) [ None ↦ None | Some t ↦ Some (Missing t) ]
 
--- the fault at the first wrong place of `rest` behind `before`
+-- the fault at the first wrong place of `rest` after `before`
 abbrev pub fault_behind : List Declared → History → List Decision → List Decision → Option OrderFault
 fault_behind objects h before [] = missing_fault h before
 fault_behind objects h before (d ∷ rest) =
@@ -43,7 +43,7 @@ fault_behind objects h before (d ∷ rest) =
 abbrev pub first_order_fault : List Declared → History → List Decision → Option OrderFault
 first_order_fault objects h p = fault_behind objects h [] p
 
--- that there is no fault is told, or the first one
+-- that there is no fault is reported, or the first one
 abbrev pub TellsOrderFault : {T : Type 0} → List Declared → History → List Decision → Result T OrderFault → Type 0
 TellsOrderFault objects h p r = MatchResult r (λ none. first_order_fault objects h p ≡ None) (λ fault. first_order_fault objects h p ≡ Some fault)
 

@@ -76,7 +76,7 @@ Opaque objects h = (p : List Decision) × Shows objects h p
 abbrev pub Refuted : List Declared → History → List Decision → Type 0
 Refuted objects h p = (rest : List Decision) → Shows objects h (p ++ rest) → ⊥
 
--- behind p, d is a choice, all transactions before it in H are placed, and it is legal there
+-- after p, d is a choice, all transactions before it in H are placed, and it is legal there
 pub record IsGoodNext (objects : List Declared) (h : History) (p : List Decision) (d : Decision) : Type 0 where
   pub in_history : is_in h d.tx ≡ true
   pub new : is_named p d.tx ≡ false
@@ -84,7 +84,7 @@ pub record IsGoodNext (objects : List Declared) (h : History) (p : List Decision
   pub enabled : (t : ℕ) → is_before h t d.tx ≡ true → is_named p t ≡ true
   pub legal : IsLegal objects (kept h p ++ block h d)
 
--- each decision in turn is good behind those before it
+-- each decision in turn is good after those before it
 abbrev pub IsGood : List Declared → History → List Decision → Type 0
 IsGood objects h p =
     (before : List Decision) (d : Decision) (rest : List Decision) → p ≡ before ++ d ∷ rest → IsGoodNext objects h before d

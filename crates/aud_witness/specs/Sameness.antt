@@ -42,7 +42,7 @@ NeighboursMaySwap =
     (objects : List Declared) (a b : History) (e f : ℕ × Event) (p : List Decision) → e.0 ≢ f.0 → is_before (a ++ f ∷ e ∷ b) f.0 e.0 ≡ false →
     Shows objects (a ++ e ∷ f ∷ b) p → Shows objects (a ++ f ∷ e ∷ b) p
 
--- in an order that shows, the blocks with fate C alone, one behind the other, are legal
+-- in an order that shows, the blocks with fate C alone, one after the other, are legal
 abbrev pub KeptAreSerial : Type 0
 KeptAreSerial = (objects : List Declared) (h : History) (p : List Decision) → Shows objects h p → IsLegal objects (kept h p)
 

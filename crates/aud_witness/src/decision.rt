@@ -1,6 +1,6 @@
 //! Decisions about transactions, and lists of them.
 
-ghost use Rattle.std.specs.Prelude.{◌≡◌, [], ◌∷◌, ◌++◌, OnOk, OnErr, refl};
+ghost use Rattle.std.specs.Prelude.{◌≡◌, [], ◌∷◌, ◌++◌, IfOk, OnOk, OnErr, refl};
 ghost use Rattle.std.specs.Cmp.Lexicographic.{slice_cmp, lists_total};
 ghost use Rattle.std.specs.Cmp.{po, eq_by_cmp_equiv, partial_equiv_from_equiv};
 ghost use Rattle.std.specs.Ordering.{eq_by_cmp, as_partial_cmp};
@@ -53,7 +53,7 @@ impl<A: Allocator> Model for Prefix<A> {
 }
 
 impl<A: Allocator> Prefix<A> {
-    /// The empty list. It takes no memory.
+    /// The empty list. It does not allocate.
     pub fn empty(alloc: A) -> Prefix<A>
         ensures { result ≡ [] }
     {
@@ -62,11 +62,19 @@ impl<A: Allocator> Prefix<A> {
         }
     }
 
-    /// The list of the decisions. It takes no memory.
+    /// The list of the decisions. It does not allocate.
     pub fn from_decisions(decisions: Vec<Decision, A>) -> Prefix<A>
         ensures { result ≡ decisions.items }
     {
         Prefix { decisions }
+    }
+
+    /// A copy of the decisions, with a memory of its own.
+    pub fn copy_of(alloc: A, decisions: &[Decision]) -> Result<Prefix<A>, OutOfMemory>
+        ensures { IfOk result (λ prefix. prefix ≡ decisions.now) }
+    {
+        let decisions = Vec::from_slice(alloc, decisions)?;
+        Ok(Prefix { decisions })
     }
 
     /// The decisions in their order.
@@ -84,6 +92,19 @@ impl<A: Allocator> Prefix<A> {
         self.decisions.push(decision)?;
         Ok(())
     }
+}
+
+/// Puts a copy of the decisions, with a memory of its own, at the end of the lists.
+pub fn add_copy<A: Allocator + Copy>(
+    alloc: A,
+    decisions: &[Decision],
+    lists: &mut Vec<Prefix<A>, A>,
+) -> Result<(), OutOfMemory>
+    ensures ok { OnOk result (lists.new.items ≡ lists.old.items ++ decisions.now ∷ []) }
+    ensures err { OnErr result (lists.new.items ≡ lists.old.items) }
+{
+    lists.push(Prefix::copy_of(alloc, decisions)?)?;
+    Ok(())
 }
 
 impl<A: Allocator + Clone> Dup for Prefix<A> {

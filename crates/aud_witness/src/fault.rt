@@ -1,4 +1,4 @@
-//! What is told of an order that does not show a history.
+//! What is reported of an order that does not show a history.
 
 ghost use Rattle.std.specs.Prelude.{◌≡◌};
 ghost use Rattle.aud_witness.specs.OrderFaultNumbers.{order_fault_number, order_fault_transaction};

@@ -69,7 +69,7 @@ pub fn neighbours_may_swap()
     ensures { NeighboursMaySwap }
 {}
 
-/// In a list that shows, the blocks with fate C alone are legal one behind the other.
+/// In a list that shows, the blocks with fate C alone are legal one after the other.
 pub fn kept_are_serial()
     ensures { KeptAreSerial }
 {}

@@ -11,7 +11,7 @@ mod showing;
 mod step;
 
 pub use agenda::{Agenda, allows};
-pub use decision::{Decision, Fate, Prefix};
+pub use decision::{Decision, Fate, Prefix, add_copy};
 pub use fault::OrderFault;
 pub use placing::Placing;
 pub use showing::shows;

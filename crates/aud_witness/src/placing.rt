@@ -23,7 +23,7 @@ use std::marker::Model;
 
 /// Where a list of decisions has led: the transactions placed, and the states of all objects after what is kept of them.
 ///
-/// A decision is placed behind those before it, or refused with what is wrong with it; the last one is taken back
+/// A decision is placed after those before it, or refused with what is wrong with it; the last one is taken back
 /// without memory. Each costs what its block touches.
 #[derive(Drop)]
 pub struct Placing<'a, A: Allocator + Copy = Global> {
@@ -230,7 +230,7 @@ impl<'a, A: Allocator + Copy> Placing<'a, A> {
         Ok(Ok(()))
     }
 
-    /// Places a decision behind the others, or tells the first thing that is wrong with it: its transaction is not in
+    /// Places a decision after the others, or reports the first thing that is wrong with it: its transaction is not in
     /// the history, is placed already, cannot have the fate, comes before one that ended before it began, or got an
     /// answer that it cannot get here. A refusal leaves the placing as it was.
     pub fn place(&mut self, decision: Decision) -> Result<Result<(), OrderFault>, OutOfMemory>
@@ -248,7 +248,7 @@ impl<'a, A: Allocator + Copy> Placing<'a, A> {
         }
     }
 
-    /// Takes the last decision back, if there is one. It takes no memory.
+    /// Takes the last decision back, if there is one. It does not allocate.
     pub fn take_back(&mut self) -> bool
         ensures root { result ≡ false → (self.old.path ≡ []) × (self.new ≡ self.old) }
         ensures back { result ≡ true → GoesBack self.old self.new }

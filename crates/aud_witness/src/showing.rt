@@ -15,7 +15,7 @@ use std::alloc::Allocator;
 
 /// Whether the order shows the well-formed history: it names each transaction once, with a fate that a completion may give
 /// it, keeps real time, and each transaction sees answers that it can get. If not, the fault at the first wrong place, by
-/// the least number; a missing transaction is told behind the last place, the least one.
+/// the least number; a missing transaction is reported after the last place, the least one.
 ///
 /// It takes O(n + m log m + k) time for n events of m transactions and an order of k decisions.
 pub fn shows<A: Allocator + Copy>(

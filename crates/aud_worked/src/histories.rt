@@ -19,7 +19,7 @@ pub const READER_BEHIND_COMMIT: &str = r#"{"format":1,"logs":1,"objects":1}
 {"end":8,"log":0}
 "#;
 
-/// Transaction 2 sees x from before transaction 1 and y from behind it. That it aborts does not excuse it.
+/// Transaction 2 sees x from before transaction 1 and y from after it. That it aborts does not excuse it.
 pub const TORN_READ_THEN_ABORT: &str = r#"{"format":1,"logs":1,"objects":2}
 {"kind":"register","name":"x","open":0}
 {"kind":"register","name":"y","open":0}
@@ -64,7 +64,7 @@ pub const PENDING_COMMIT_IS_UNSEEN: &str = r#"{"format":1,"logs":1,"objects":1}
 {"end":7,"log":0}
 "#;
 
-/// Transaction 2 begins behind the commit of transaction 1 and misses what it wrote.
+/// Transaction 2 begins after the commit of transaction 1 and misses what it wrote.
 pub const STALE_READ_BEHIND_COMMIT: &str = r#"{"format":1,"logs":1,"objects":1}
 {"kind":"register","name":"x","open":0}
 {"arg":1,"at":0,"ev":"inv","log":0,"ob":"x","op":"write","stamp":0,"tx":1}
@@ -123,7 +123,7 @@ pub const ITEM_IS_PASSED_ON: &str = r#"{"format":1,"logs":1,"objects":1}
 {"end":12,"log":0}
 "#;
 
-/// Transaction 1 writes the opening value, but has to stand behind transaction 2 all the same.
+/// Transaction 1 writes the opening value, but has to stand after transaction 2 all the same.
 pub const IDLE_WRITE_STANDS_LATER: &str = r#"{"format":1,"logs":1,"objects":1}
 {"kind":"register","name":"x","open":5}
 {"arg":5,"at":0,"ev":"inv","log":0,"ob":"x","op":"write","stamp":0,"tx":1}
@@ -141,7 +141,7 @@ pub const IDLE_WRITE_STANDS_LATER: &str = r#"{"format":1,"logs":1,"objects":1}
 {"end":12,"log":0}
 "#;
 
-/// Transaction 2 sees the count of commit-pending transaction 1, and transaction 3 behind it does not.
+/// Transaction 2 sees the count of commit-pending transaction 1, and transaction 3 after it does not.
 pub const COUNT_IS_LOST: &str = r#"{"format":1,"logs":1,"objects":1}
 {"kind":"counter","name":"c","open":0}
 {"at":0,"ev":"inv","log":0,"ob":"c","op":"inc","stamp":0,"tx":1}

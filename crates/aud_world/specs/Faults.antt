@@ -39,7 +39,7 @@ pub record IsAllowed {X : Type 0} (w : WorldOf) (m : Move X) : Type 0 where
   pub packet : HasPacket w m
   pub of_world : IsOfWorld w m
 
--- the fault that is told of a move: the first that holds, and want of memory only where no other does
+-- the fault that is reported of a move: the first that holds, and out of memory only where no other does
 abbrev pub IsFaultOf : {X : Type 0} → WorldOf → Move X → MoveFault → Type 0
 IsFaultOf w m NoNode = node_of m < length w.nodes → ⊥
 IsFaultOf w m NoPacket = (node_of m < length w.nodes) × (HasPacket w m → ⊥)
@@ -68,7 +68,7 @@ abbrev pub fault_of : KnowFault → MoveFault
 fault_of know_fault.PlanMismatch = PlanMismatch
 fault_of know_fault.OutOfMemory = OutOfMemory
 
--- why one node does not take: not of its plan, or want of memory though it is
+-- why one node does not take: not of its plan, or out of memory though it is
 abbrev pub IsTakeFault : Type 0 → MoveFault → Type 0
 IsTakeFault IsOfPlan NoNode = ⊥
 IsTakeFault IsOfPlan NoPacket = ⊥

@@ -148,7 +148,7 @@ impl<A: Allocator + Copy> World<A> {
         self.packets.len()
     }
 
-    /// Makes the move, or tells the least fault and leaves the world as it was. A delivery of what the node knows already
+    /// Makes the move, or reports the least fault and leaves the world as it was. A delivery of what the node knows already
     /// copies no facts.
     pub fn step(&mut self, next: &Move<A>) -> Result<(), MoveFault>
         ensures moved { OnOk result ((c : Cloud) → IsWorldOf self.old c → IsWorldOf self.new (after_move c next.now)) }
@@ -189,7 +189,7 @@ impl<A: Allocator + Copy> World<A> {
         }
     }
 
-    /// Makes the moves in turn, up to the first that is refused: it tells that one's place, from 0, and its fault, and
+    /// Makes the moves in turn, up to the first that is refused: it reports that one's place, from 0, and its fault, and
     /// leaves the world after the moves before it.
     ///
     /// Nodes that took the same records and findings, in any order or grouping and with repeats, hold equal states and give

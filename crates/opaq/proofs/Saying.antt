@@ -1,23 +1,24 @@
--- From what a run over memory leaves to what is said of the reader and the writer.
-use Rattle.std.specs.Prelude.{◌≡◌, ℕ, List, [], ◌++◌, Option}
-use Rattle.std.proofs.Common.{sym, ◌∙◌, ap, subst}
+-- What a job has written when it ends.
+use Rattle.std.specs.Prelude.{ℕ, List, Option, refl}
 use Rattle.std.specs.Io.KnownBytes.{Appends}
-use Rattle.aud_report.specs.Lines.{line_of}
+use Rattle.aud_cli.specs.declared.ended.Cause.{Cause}
+use Rattle.aud_cli.specs.declared.ended.Cause.TheVariants.{Memory, Input, Output, Thread}
 use Rattle.aud_cli.specs.declared.ended.Ended.{Ended}
 use Rattle.aud_cli.specs.declared.ended.Ended.TheVariants as ended
 use Rattle.aud_cli.specs.declared.job.Job.{Job}
-use Rattle.aud_cli.specs.Line.{Line}
-use Rattle.aud_cli.specs.Outcomes.{Seen, Whole, Outcome}
-use Rattle.opaq.specs.Jobs.{IsSaid, HasSaid}
+use Rattle.aud_cli.specs.Outcomes.{IsLine}
+use Rattle.aud_cli.proofs.Ends.{line-ends}
+use Rattle.opaq.specs.Jobs.{HasSaid, HasFailed, IsOfReading}
 
-said : (job : Job) (input bytes : List ℕ) (old new : Option (List ℕ)) (e : Ended) (before after : Seen) → bytes ≡ input → Whole (Line job bytes) before after e → before.held ≡ [] → Appends old new after.held → IsSaid job input old new e
-said job input bytes old new e before after same whole none appends =
-    let line : after.held ≡ line_of whole.said = whole.written ∙ ap (λ l. l ++ line_of whole.said) none in
-    (whole.said, (subst (λ l. Line job l whole.said) same whole.may, whole.ends, subst (λ l. Appends old new l) line appends))
+pub has-said : (job : Job) (input line : List ℕ) (old new : Option (List ℕ)) (e : Ended) → IsLine job input line e → Appends old new line → HasSaid job input old new e
+has-said job input line old new ended.Opaque is appends = (line, (is, appends))
+has-said job input line old new ended.NotOpaque is appends = (line, (is, appends))
+has-said job input line old new ended.Unfinished is appends = (line, (is, appends))
+has-said job input line old new ended.Refused is appends = (line, (is, appends))
+has-said job input line old new (ended.Failed cause) (s, (says, is, ends)) appends = absurd (line-ends s cause ends)
 
-pub has-said : (job : Job) (input bytes : List ℕ) (old new : Option (List ℕ)) (e : Ended) (before after : Seen) → bytes ≡ input → Outcome (Line job bytes) before after e → before.held ≡ [] → Appends old new after.held → HasSaid job input old new e
-has-said job input bytes old new ended.Opaque before after same out none appends = said job input bytes old new ended.Opaque before after same out none appends
-has-said job input bytes old new ended.NotOpaque before after same out none appends = said job input bytes old new ended.NotOpaque before after same out none appends
-has-said job input bytes old new ended.Unfinished before after same out none appends = said job input bytes old new ended.Unfinished before after same out none appends
-has-said job input bytes old new ended.Refused before after same out none appends = said job input bytes old new ended.Refused before after same out none appends
-has-said job input bytes old new (ended.Failed cause) before after same out none appends = tt
+pub has-failed : (cause : Cause) (old : Option (List ℕ)) → IsOfReading cause → HasFailed cause old old
+has-failed Memory old reading = refl
+has-failed Input old reading = refl
+has-failed Output old reading = absurd reading
+has-failed Thread old reading = absurd reading

@@ -1,15 +1,16 @@
 //! A job over standard input, or over any reader.
 
 ghost use Rattle.std.specs.Prelude.{◌≡◌, ℕ, List, Some};
-ghost use Rattle.opaq.specs.Jobs.{HasSaid, exit_status};
+ghost use Rattle.opaq.specs.Jobs.{HasSaid, IsOfReading, exit_status};
 
-use aud_cli::{Cause, Ended, Job, Usage, run_lines};
-use aud_report::{MemorySink, MemorySource};
+use aud_cli::{Cause, Ended, Job, Usage, line_said};
 use std::alloc::Global;
 use std::io::{ErrorKind, Read, Write};
 
 /// What a read failed for.
-fn cause_of(kind: ErrorKind) -> Cause {
+fn cause_of(kind: ErrorKind) -> Cause
+    ensures { IsOfReading result }
+{
     if kind == ErrorKind::OutOfMemory {
         Cause::Memory
     } else {
@@ -18,7 +19,7 @@ fn cause_of(kind: ErrorKind) -> Cause {
 }
 
 /// Reads the reader to its end, and writes the line that the job says of its bytes. Where it fails, what was read stays read,
-/// and at most a beginning of the line went out.
+/// and nothing went out, unless it was the writer that failed: then a beginning of the line may have.
 pub fn run_job<R: Read, W: Write>(alloc: Global, job: &Job, reader: &mut R, writer: &mut W) -> Ended
     ensures { (input : List ℕ) → R.remaining reader.old ≡ Some input → HasSaid job.now input (W.contents writer.old) (W.contents writer.new) result }
 {
@@ -26,17 +27,12 @@ pub fn run_job<R: Read, W: Write>(alloc: Global, job: &Job, reader: &mut R, writ
     if let Err(error) = reader.read_to_end(&mut bytes) {
         return Ended::Failed(cause_of(error.kind()));
     }
-    let mut source = MemorySource::new(bytes);
-    let mut sink = MemorySink::new(alloc);
-    let ended = run_lines(alloc, job, &mut source, &mut sink);
-    match ended {
-        // A sink in memory fails for want of memory alone.
-        Ended::Failed(Cause::Output) => Ended::Failed(Cause::Memory),
-        Ended::Failed(_) => ended,
-        _ => match writer.write_all(sink.held()) {
-            Ok(()) => ended,
-            Err(_) => Ended::Failed(Cause::Output),
-        },
+    let Ok((line, end)) = line_said(alloc, job, &bytes) else {
+        return Ended::Failed(Cause::Memory);
+    };
+    match writer.write_all(&line) {
+        Ok(()) => end,
+        Err(_) => Ended::Failed(Cause::Output),
     }
 }
 

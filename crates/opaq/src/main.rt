@@ -11,7 +11,7 @@ use std::alloc::Global;
 use std::io::{self, ErrorKind};
 use std::process::ExitCode;
 
-/// What the user is told of a word that is no text.
+/// What the user reads where a word is no text.
 const NO_TEXT: &str = "error: a word is not UTF-8\n";
 
 /// Why the words were not read.

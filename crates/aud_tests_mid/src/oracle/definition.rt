@@ -62,7 +62,7 @@ fn transactions<A: Allocator>(
     Ok(txs)
 }
 
-/// The order with the decision behind it.
+/// The order with the decision after it.
 fn with_last<A: Allocator + Copy>(
     order: &Prefix<A>,
     decision: Decision,
@@ -72,7 +72,7 @@ fn with_last<A: Allocator + Copy>(
     Ok(longer)
 }
 
-/// Puts the order, with the transaction behind it, behind the others, once for each fate that the transaction may have.
+/// Puts the order, with the transaction after it, after the others, once for each fate that the transaction may have.
 fn push_with_fates<A: Allocator + Copy>(
     out: &mut Vec<Prefix<A>, A>,
     events: &[(u32, Event)],

@@ -1,4 +1,4 @@
-//! What is told of an order that does not show a history.
+//! What is reported of an order that does not show a history.
 
 use super::legality::sees_legally;
 use super::order::is_named;
@@ -15,7 +15,7 @@ fn is_enabled(events: &[(u32, Event)], before: &[Decision], tx: u32) -> bool {
         .all(|e| !is_before(events, e.0, tx) || is_named(before, e.0))
 }
 
-/// What is wrong with the decision behind others, its legality aside.
+/// What is wrong with the decision after others, its legality aside.
 fn choice_fault(
     events: &[(u32, Event)],
     before: &[Decision],

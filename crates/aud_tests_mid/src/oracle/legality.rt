@@ -5,7 +5,7 @@ use aud_history::History;
 use aud_witness::{Decision, Fate};
 use std::alloc::Allocator;
 
-/// What a register holds behind the operations.
+/// What a register holds after the operations.
 fn last_written(opening: i64, earlier: &[(Op, Answer)]) -> i64 {
     let mut value = opening;
     for (op, _) in earlier {
@@ -16,7 +16,7 @@ fn last_written(opening: i64, earlier: &[(Op, Answer)]) -> i64 {
     value
 }
 
-/// What a counter holds behind the operations. It stays at the greatest and the least number.
+/// What a counter holds after the operations. It stays at the greatest and the least number.
 fn counted(opening: i64, earlier: &[(Op, Answer)]) -> i64 {
     let mut count = opening;
     for (op, _) in earlier {
@@ -29,7 +29,7 @@ fn counted(opening: i64, earlier: &[(Op, Answer)]) -> i64 {
     count
 }
 
-/// Whether a set has the value behind the operations.
+/// Whether a set has the value after the operations.
 fn has_member(earlier: &[(Op, Answer)], value: i64) -> bool {
     let mut is_member = false;
     for (op, _) in earlier {
@@ -42,7 +42,7 @@ fn has_member(earlier: &[(Op, Answer)], value: i64) -> bool {
     is_member
 }
 
-/// What a queue has in front behind the operations, which are legal: of the items that were put in, the first that was not
+/// What a queue has in front after the operations, which are legal: of the items that were put in, the first that was not
 /// taken.
 fn front(earlier: &[(Op, Answer)]) -> Answer {
     let mut taken = 0u64;
@@ -62,7 +62,7 @@ fn front(earlier: &[(Op, Answer)]) -> Answer {
     Answer::Empty
 }
 
-/// What the operation answers behind others on the same object, which are legal.
+/// What the operation answers after others on the same object, which are legal.
 fn answer_behind(opening: i64, earlier: &[(Op, Answer)], op: Op) -> Answer {
     match op {
         Op::Read => Answer::Int(last_written(opening, earlier)),
@@ -75,7 +75,7 @@ fn answer_behind(opening: i64, earlier: &[(Op, Answer)], op: Op) -> Answer {
     }
 }
 
-/// Whether the operations on an object get the answers that they have, one behind the other.
+/// Whether the operations on an object get the answers that they have, one after the other.
 fn is_legal(opening: i64, operations: &[(Op, Answer)]) -> bool {
     for (place, (op, answer)) in operations.iter().enumerate() {
         if *answer != answer_behind(opening, &operations[..place], *op) {
@@ -85,7 +85,7 @@ fn is_legal(opening: i64, operations: &[(Op, Answer)]) -> bool {
     true
 }
 
-/// Puts the transaction's operations on the object behind the others, each with its answer. One that is pending has none.
+/// Puts the transaction's operations on the object after the others, each with its answer. One that is pending has none.
 fn push_own<A: Allocator>(
     out: &mut Vec<(Op, Answer), A>,
     events: &[(u32, Event)],
@@ -123,7 +123,7 @@ fn seen<A: Allocator>(
     Ok(seen)
 }
 
-/// Whether what the transaction sees behind the others is legal on each object.
+/// Whether what the transaction sees after the others is legal on each object.
 pub(crate) fn sees_legally<A: Allocator + Copy>(
     alloc: A,
     history: &History<A>,

@@ -21,7 +21,7 @@ pub(crate) fn is_full(events: &[(u32, Event)], order: &[Decision]) -> bool {
     events.iter().all(|e| is_named(order, e.0))
 }
 
-/// Whether no transaction stands behind one that it is before in the history.
+/// Whether no transaction stands after one that it is before in the history.
 pub(crate) fn keeps_real_time(events: &[(u32, Event)], order: &[Decision]) -> bool {
     for (place, earlier) in order.iter().enumerate() {
         for later in &order[place..] {

@@ -1,4 +1,4 @@
-//! The worked histories: all orders that show each, and what is told of some that do not.
+//! The worked histories: all orders that show each, and what is reported of some that do not.
 
 use super::{first_witness, is_opaque, order_fault, shows_plainly, witnesses};
 use crate::fixtures::{is_order, order};
@@ -14,7 +14,7 @@ use aud_worked::{
 use std::alloc::{Allocator, Global};
 use std::test::Fail;
 
-/// What the search's own test tells of the order, of a history that is well-formed.
+/// What the search's own test says of the order, of a history that is well-formed.
 pub(crate) fn fault_of<A: Allocator + Copy>(
     alloc: A,
     history: &History<A>,
@@ -89,8 +89,8 @@ fn histories_have_these_orders(rt: HostRuntime) -> Result<(), Fail> {
     Ok(())
 }
 
-/// What is told of the order: whether it shows the history plainly, and the fault's number and transaction, if the plain
-/// and the fast test tell the same.
+/// What is reported of the order: whether it shows the history plainly, and the fault's number and transaction, if the plain
+/// and the fast test say the same.
 fn told_of(
     alloc: Global,
     history: &History,

@@ -159,7 +159,7 @@ fn each_fact_is_read(rt: HostRuntime) -> Result<(), Fail> {
     Ok(())
 }
 
-/// A line of a text, so many bytes of one kind behind it, and then so many of another.
+/// A line of a text, so many bytes of one kind after it, and then so many of another.
 fn padded(
     alloc: Global,
     text: &str,

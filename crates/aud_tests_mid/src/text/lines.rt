@@ -14,7 +14,7 @@ fn lines_are_counted(rt: HostRuntime) {
     }
 }
 
-/// Whether the first line of the text is this one, with this behind it.
+/// Whether the first line of the text is this one, with this after it.
 fn begins_with(text: &[u8], line: &[u8], rest: &[u8]) -> bool {
     match first_line(text) {
         Some(first) => first.line == line && first.rest == rest,

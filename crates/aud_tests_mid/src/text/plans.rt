@@ -59,7 +59,7 @@ const ENDS: &str = r#"3 4 0|~~
 34 0 0|{"format":1,"logs":1,"objects":0}~~{}
 36 0 0|~{"format":1,"logs":1,"objects":0}^~{}"#;
 
-// The last rows: a fault of a line is told before one of the objects together, and so is the end of the text.
+// The last rows: a fault of a line is reported before one of the objects together, and so is the end of the text.
 const TOGETHER: &str =
     r#"0 10 4|{"format":1,"logs":1,"objects":2}~{"kind":"register","name":"x","open":0}~{"kind":"queue","name":"x"}
 0 10 5|{"format":1,"logs":1,"objects":1}~{"kind":"counter","name":"c","open":4611686018427387905}

@@ -7,7 +7,7 @@ use aud_worked::READER_BEHIND_COMMIT;
 use std::alloc::Global;
 use std::test::Fail;
 
-/// Whether the fact is read from the line, as it is spelled there and with a space behind, which needs a JSON value.
+/// Whether the fact is read from the line, as it is spelled there and with a space after it, which needs a JSON value.
 fn is_read(alloc: Global, plan: &Plan, fact: Fact, line: &str) -> Result<bool, Fail> {
     let spaced = format!(in alloc; "{line} ")?;
     let is_spaced = read_fact(alloc, plan, spaced.as_bytes())? == fact;

@@ -17,7 +17,7 @@ use Rattle.aud_cover.proofs.Steps.{no_decision, IsGoodAt, kid-good, cursor-back,
 use Rattle.aud_cover.proofs.Opened.{added-covered, added-outside, added-full, added-kids, gathered-none, gathered-more, reached-kid}
 use Rattle.aud_cover.proofs.Leads.{at-member, at-end, at-inner, pushed-leads, kid-outside, node-falls}
 use Rattle.aud_cover.proofs.opening.+open_here.Goals as goal
-use Rattle.aud_cover.proofs.opening.+open_here.Goals.{in-Some+in_ok-open_here-in-Some, in-None+in_ok-add-in-None}
+use Rattle.aud_cover.proofs.opening.+open_here.Goals.{in-Some+in_ok-open_here-in-Some, in-None+in_ok-add_copy-in-None}
 
 pub returns-in_default-clause-added : goal.returns-in_default-clause-added
 returns-in_default-clause-added g t c =
@@ -33,9 +33,9 @@ returns-then-is_empty-clause-added g t c =
     let objects = objects_of start.shape in
     let history = history_of start.shape in
     let at = ap (out-Trie Decision g.row.A.Denot) c.in-Fork.is ∙ outs-Fork c.in-Fork.next in
-    on_ok c.add.result _ _ (λ is cover leads reached.
-    added-outside objects history cover start.path c.args.list.now.items c.add.new.list.items c.prefix-path.result.now c.prefix-path.ensures.good reached
-    (at-end cover start.path c.args.node.now leads c.in-Fork.next at (c.is_empty.ensures.0 c.if-is_empty.true)) c.prefix-path.ensures.prefix is) c.add.ensures
+    on_ok c.add_copy.result _ _ (λ is cover leads reached.
+    added-outside objects history cover start.path c.args.list.now.items c.add_copy.new.lists.items c.prefix-path.result.now c.prefix-path.ensures.good reached
+    (at-end cover start.path c.args.node.now leads c.in-Fork.next at (c.is_empty.ensures.0 c.if-is_empty.true)) c.prefix-path.ensures.prefix is) c.add_copy.ensures.ok
 
 pub returns-then-full-clause-added : goal.returns-then-full-clause-added
 returns-then-full-clause-added g t c =
@@ -89,7 +89,7 @@ loop-kid-preserved g t c =
                 (pushed-leads cover start c.args.node.now leads c.in-Fork.next at kid c.loop-kid.cursor c.push.new.self w.in-Some.below.now w.deref.result.now found w.deref.ensures c.loop-kid.invariant.same grown)
                 (reached_kid cover leads))));
           }
-      | in-None+in_ok-add-in-None w ↦
+      | in-None+in_ok-add_copy-in-None w ↦
           let gone = gone_node decision_cmp c.in-Fork.next kid (sym c.get.ensures.value ∙ ap option_copied w.in-None.is) in
           record {
             same = cursor-back start c.loop-kid.cursor c.push.new.self c.match-get.cursor c.pop.new.self kid c.pop.result c.loop-kid.invariant.same
@@ -101,7 +101,7 @@ loop-kid-preserved g t c =
                 (reached-kid objects history cover start.path kid c.prefix-path.ensures.good (at-inner cover start.path c.args.node.now leads c.in-Fork.next at (λ z. true≢false (sym (c.is_empty.ensures.1 z) ∙ c.if-is_empty.false))))
                 (kid-outside cover start.path c.args.node.now leads c.in-Fork.next at kid gone)
                 (w.prefix.ensures.prefix ∙ ap (λ (u : CursorOf). u.path) there)
-                (ap (λ v. v.items) w.list-is ∙ w.in_ok-add-in-None.ensures));
+                (ap (λ v. v.items) w.list-is ∙ w.in_ok-add_copy-in-None.ensures.ok));
           }
     ]
 

@@ -1,7 +1,7 @@
 use Rattle.std.proofs.Common.{◌++◌, ℕ, List, ap, ◌∙◌, codes, decimal}
 use Rattle.aud_report.proofs.said.push_order_fault.Goals as goal
 
--- the words behind a text, with two numbers in them
+-- the words after a text, with two numbers in them
 abbrev two : List ℕ → ℕ → ℕ → List ℕ
 two text n t = text ++ (codes "order refused " ++ decimal n ++ codes " tx " ++ decimal t)
 

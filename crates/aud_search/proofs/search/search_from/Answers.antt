@@ -1,4 +1,4 @@
-use Rattle.std.specs.Prelude.{◌≡◌, ◌+◌, ◌-◌, ◌<◌, [], ◌∷◌, map, length, take, refl, reverse}
+use Rattle.std.specs.Prelude.{◌≡◌, ◌+◌, ◌-◌, ◌<◌, [], ◌∷◌, map, length, take, refl, reverse, slice_index_or}
 use Rattle.std.proofs.Common.{sym, ◌∙◌, ap, subst, arith}
 use Rattle.std.proofs.lemmas.List.{nil_from_length}
 use Rattle.aud_witness.specs.Orders.{IsFull, Refuted}
@@ -7,11 +7,11 @@ use Rattle.aud_order.specs.Cursors.{CursorOf}
 use Rattle.aud_search.specs.Levels.{IsSearching}
 use Rattle.aud_search.proofs.Levels.{search-start}
 use Rattle.aud_search.specs.declared.search.Turn.{Turn}
-use Rattle.aud_search.specs.Memos.{MemoOf, states_behind, Names, NameWay}
+use Rattle.aud_search.specs.Memos.{MemoOf, states_behind, Names, NameWay, IsGrown, IsStep}
 use Rattle.aud_search.proofs.MemoLemmas.{way-grown, way-deeper, way-back}
 use Rattle.aud_search.proofs.Passing.{passed-search, passed-follows}
 use Rattle.aud_search.proofs.Readiness.{ready-on, ready-still}
-use Rattle.aud_search.proofs.Steps.{weight, next_of, states_of, more-turns, Grounds, went-back, loop-known, loop-known-lighter, loop-refuted, step-at, spends-start, spends-more, spent-from, loop-witness, loop-spent, loop-deeper, loop-deeper-lighter, loop-over, loop-back, loop-back-lighter, back-same}
+use Rattle.aud_search.proofs.Steps.{no_choice, weight, next_of, states_of, more-turns, Grounds, went-back, loop-known, loop-known-lighter, loop-refuted, step-at, spends-start, spends-more, spent-from, loop-witness, loop-spent, loop-deeper, loop-deeper-lighter, loop-over, loop-back, loop-back-lighter}
 use Rattle.aud_search.proofs.search.search_from.Goals as goal
 
 pub search-init : goal.search-init
@@ -67,14 +67,15 @@ search-preserved-in_default g c =
     let searching = passed-search start at.cursor c.args.choices.now at.invariant.used at.here.next c.pass_known-from.result (reverse (map next_of at.turns.items)) at.invariant.same at.invariant.searching c.pass_known-from.ensures in
     let back = loop-back start at.cursor c.try_from.new.cursor c.go_back.new.cursor c.args.choices.now at.invariant.used c.pass_known-from.result c.in-Some-pop.turn.next (map next_of at.turns.items) (map next_of c.pop.new.self.items) at.invariant.same
     c.requires.choices searching found (more-turns next_of c.pop.new.self.items at.turns.items c.in-Some-pop.turn shorter) c.go_back.ensures.back in
+    let grown : IsGrown at.memo c.go_back.new.memo = subst (λ (m : MemoOf). IsGrown at.memo m) (sym c.go_back.ensures.memo) c.learn.ensures in
     record {
       same = back.0;
       used = at.invariant.used;
       spends = at.invariant.spends;
-      memo = c.learn.ensures.shape ∙ at.invariant.memo;
-      way = subst (λ l. NameWay start.shape c.learn.new.self.states (c.in-Some-pop.turn.states ∷ reverse (map states_of c.pop.new.self.items)) l) (sym back.2)
-          (way-back start.shape c.learn.new.self.states at.here.states c.in-Some-pop.turn.states (map states_of at.turns.items) (map states_of c.pop.new.self.items) at.cursor.path
-          (way-grown start.shape at.memo c.learn.new.self (at.here.states ∷ reverse (map states_of at.turns.items)) at.cursor.path c.learn.ensures at.invariant.way)
+      memo = grown.shape ∙ at.invariant.memo;
+      way = subst (λ l. NameWay start.shape c.go_back.new.memo.states (c.in-Some-pop.turn.states ∷ reverse (map states_of c.pop.new.self.items)) l) (sym back.2)
+          (way-back start.shape c.go_back.new.memo.states at.here.states c.in-Some-pop.turn.states (map states_of at.turns.items) (map states_of c.pop.new.self.items) at.cursor.path
+          (way-grown start.shape at.memo c.go_back.new.memo (at.here.states ∷ reverse (map states_of at.turns.items)) at.cursor.path grown at.invariant.way)
           (more-turns states_of c.pop.new.self.items at.turns.items c.in-Some-pop.turn shorter));
       searching = back.1;
       choices = c.go_back.ensures.choices ∙ at.invariant.choices;
@@ -93,15 +94,16 @@ follow-states-requires g c =
     let at = c.search in
     let start = c.args.cursor.now in
     let f = passed-follows start at.cursor c.try_from.new.cursor c.args.choices.now at.invariant.used at.here.next c.pass_known-from.result c.in-Some.place (reverse (map next_of at.turns.items)) at.invariant.same at.invariant.searching c.pass_known-from.ensures (rw c.in-Some.is at c.in_ok-place.ensures) in
-    step-at start at.cursor c.try_from.new.cursor c.args.choices.now at.here.next c.in-Some.place at.memo at.here.states (reverse (map states_of at.turns.items)) (record { fine = c.requires.fine; within = c.requires.within; choices = c.requires.choices }) f at.invariant.memo at.invariant.way
+    subst (λ (m : MemoOf). IsStep m at.here.states (slice_index_or c.args.choices.now c.in-Some.place no_choice) c.try_from.new.cursor) (sym c.touch.ensures)
+    (step-at start at.cursor c.try_from.new.cursor c.args.choices.now at.here.next c.in-Some.place at.memo at.here.states (reverse (map states_of at.turns.items)) (record { fine = c.requires.fine; within = c.requires.within; choices = c.requires.choices }) f at.invariant.memo at.invariant.way)
 
 pub search-smaller-then-knows : goal.search-smaller-then-knows
 search-smaller-then-knows g c =
     let at = c.search in
     let start = c.args.cursor.now in
     let f = passed-follows start at.cursor c.try_from.new.cursor c.args.choices.now at.invariant.used at.here.next c.pass_known-from.result c.in-Some.place (reverse (map next_of at.turns.items)) at.invariant.same at.invariant.searching c.pass_known-from.ensures (rw c.in-Some.is at c.in_ok-place.ensures) in
-    loop-known-lighter start at.cursor c.try_from.new.cursor c.pop-known.new.self c.args.choices.now at.here.next c.in-Some.place c.place_behind.result (map next_of at.turns.items) f c.place_behind.ensures.past
-    (back-same c.try_from.new.cursor c.pop-known.new.self c.pop-known.result c.pop-known.ensures.root c.pop-known.ensures.back)
+    loop-known-lighter start at.cursor c.try_from.new.cursor c.take_back.new.cursor c.args.choices.now at.here.next c.in-Some.place c.place_behind.result (map next_of at.turns.items) f c.place_behind.ensures.past
+    c.take_back.ensures.back
 
 pub search-preserved-then-knows : goal.search-preserved-then-knows
 search-preserved-then-knows g c =
@@ -109,18 +111,20 @@ search-preserved-then-knows g c =
     let start = c.args.cursor.now in
     let new = c.try_from.new.cursor in
     let f = passed-follows start at.cursor new c.args.choices.now at.invariant.used at.here.next c.pass_known-from.result c.in-Some.place (reverse (map next_of at.turns.items)) at.invariant.same at.invariant.searching c.pass_known-from.ensures (rw c.in-Some.is at c.in_ok-place.ensures) in
-    let popped = back-same new c.pop-known.new.self c.pop-known.result c.pop-known.ensures.root c.pop-known.ensures.back in
+    let popped = c.take_back.ensures.back in
+    let grown : IsGrown at.memo c.take_back.new.memo =
+    subst (λ (m : MemoOf). IsGrown at.memo m) (sym c.take_back.ensures.memo) (subst (λ (m : MemoOf). IsGrown m c.follow-states.new.self) c.touch.ensures c.follow-states.ensures.grown) in
     record {
-      same = (went-back start at.cursor new c.pop-known.new.self c.args.choices.now at.here.next c.in-Some.place f popped).0;
+      same = (went-back start at.cursor new c.take_back.new.cursor c.args.choices.now at.here.next c.in-Some.place f popped).0;
       used = at.invariant.used;
       spends = at.invariant.spends;
-      memo = c.follow-states.ensures.grown.shape ∙ at.invariant.memo;
-      way = subst (λ l. NameWay start.shape c.follow-states.new.self.states (at.here.states ∷ reverse (map states_of at.turns.items)) l) (sym (went-back start at.cursor new c.pop-known.new.self c.args.choices.now at.here.next c.in-Some.place f popped).1)
-          (way-grown start.shape at.memo c.follow-states.new.self (at.here.states ∷ reverse (map states_of at.turns.items)) at.cursor.path c.follow-states.ensures.grown at.invariant.way);
-      searching = loop-known start at.cursor new c.pop-known.new.self c.args.choices.now at.invariant.used at.here.next c.in-Some.place c.place_behind.result (map next_of at.turns.items)
+      memo = grown.shape ∙ at.invariant.memo;
+      way = subst (λ l. NameWay start.shape c.take_back.new.memo.states (at.here.states ∷ reverse (map states_of at.turns.items)) l) (sym (went-back start at.cursor new c.take_back.new.cursor c.args.choices.now at.here.next c.in-Some.place f popped).1)
+          (way-grown start.shape at.memo c.take_back.new.memo (at.here.states ∷ reverse (map states_of at.turns.items)) at.cursor.path grown at.invariant.way);
+      searching = loop-known start at.cursor new c.take_back.new.cursor c.args.choices.now at.invariant.used at.here.next c.in-Some.place c.place_behind.result (map next_of at.turns.items)
           (record { fine = c.requires.fine; within = c.requires.within; choices = c.requires.choices }) at.invariant.searching f c.place_behind.ensures (c.knows.ensures c.if-knows.true) popped;
       choices = at.invariant.choices;
-      ready = ready-still start at.cursor new c.pop-known.new.self c.args.choices.now at.here.next c.in-Some.place at.ready f at.invariant.same popped at.invariant.ready;
+      ready = ready-still start at.cursor new c.take_back.new.cursor c.args.choices.now at.here.next c.in-Some.place at.ready f at.invariant.same popped at.invariant.ready;
     }
 
 pub returns-in_default-spend : goal.returns-in_default-spend
@@ -157,14 +161,15 @@ search-preserved g c =
     let on : Grounds start.shape c.args.choices.now = record { fine = c.requires.fine; within = c.requires.within; choices = c.requires.choices } in
     let f = passed-follows start at.cursor c.try_from.new.cursor c.args.choices.now at.invariant.used at.here.next c.pass_known-from.result c.in-Some.place (reverse (map next_of at.turns.items)) at.invariant.same at.invariant.searching c.pass_known-from.ensures (rw c.in-Some.is at c.in_ok-place.ensures) in
     let unfull : IsFull (history_of c.try_from.new.cursor.shape) c.try_from.new.cursor.path → ⊥ = λ full. absurd (let is_so = c.full.ensures.1 full in let is_not = c.if-full.false in cc) in
+    let grown : IsGrown at.memo c.follow-states.new.self = subst (λ (m : MemoOf). IsGrown m c.follow-states.new.self) c.touch.ensures c.follow-states.ensures.grown in
     record {
       same = f.shape;
       used = at.invariant.used + 1;
       spends = spends-more c.args.budget at.left c.in-Some-spend.rest at.invariant.used at.invariant.spends (rw c.in-Some-spend.is at c.spend.ensures);
-      memo = c.follow-states.ensures.grown.shape ∙ at.invariant.memo;
+      memo = grown.shape ∙ at.invariant.memo;
       way = subst (λ (t : Turn). NameWay start.shape c.follow-states.new.self.states (t.states ∷ reverse (map states_of c.push.new.self.items)) c.try_from.new.cursor.path) (sym c.new-here-in-search.ensures)
           (way-deeper start.shape c.follow-states.new.self.states at.here.states c.follow-states.result (map states_of at.turns.items) (map states_of c.push.new.self.items) at.cursor.path c.try_from.new.cursor.path f.choice.decision
-          (way-grown start.shape at.memo c.follow-states.new.self (at.here.states ∷ reverse (map states_of at.turns.items)) at.cursor.path c.follow-states.ensures.grown at.invariant.way) f.path
+          (way-grown start.shape at.memo c.follow-states.new.self (at.here.states ∷ reverse (map states_of at.turns.items)) at.cursor.path grown at.invariant.way) f.path
           (subst (λ (s : ShapeOf). Names c.follow-states.new.self.states c.follow-states.result (states_behind s c.try_from.new.cursor.path)) f.shape c.follow-states.ensures.named)
           (more-turns states_of at.turns.items c.push.new.self.items turn c.in_ok-push.ensures.items));
       searching = subst (λ (t : Turn). IsSearching (objects_of start.shape) (history_of start.shape) start.path c.args.choices.now (at.invariant.used + 1) c.try_from.new.cursor.path t.next (reverse (map next_of c.push.new.self.items))) (sym c.new-here-in-search.ensures)

@@ -17,20 +17,20 @@ returns-then-depth-eq0-clause-added g t c =
       | then-depth-eq0-via-then-depth-eq0 w ↦ inl w.if-depth-eq0.true
       | then-depth-eq0-via-else-depth-eq0+then-full w ↦ inr (inl (w.full.ensures.0 w.if-full.true))
     ] in
-    on_ok c.add.result _ _
-    (λ is. added-last (objects_of start.shape) (history_of start.shape) start.path c.args.depth c.args.list.now.items c.add.new.list.items c.prefix-path.ensures.good
+    on_ok c.add_copy.result _ _
+    (λ is. added-last (objects_of start.shape) (history_of start.shape) start.path c.args.depth c.args.list.now.items c.add_copy.new.lists.items c.prefix-path.ensures.good
     last (is ∙ ap (λ p. c.args.list.now.items ++ p ∷ []) c.prefix-path.ensures.prefix))
-    c.add.ensures
+    c.add_copy.ensures.ok
 
 pub returns-then-is_empty-clause-added : goal.returns-then-is_empty-clause-added
 returns-then-is_empty-clause-added g t c =
     let start = c.args.cursor.now in
     let none = no_kids (objects_of start.shape) (history_of start.shape) start.path c.in_ok-kids.kids.items c.in_ok-kids.ensures.kids
     (none_by_length c.is_empty.result (vec_len c.in_ok-kids.kids) c.in_ok-kids.kids.items c.is_empty.ensures c.in_ok-kids.kids.ok.0 c.if-is_empty.true) in
-    on_ok c.add-then-is_empty.result _ _
-    (λ is. added-last (objects_of start.shape) (history_of start.shape) start.path c.args.depth c.args.list.now.items c.add-then-is_empty.new.list.items c.prefix-path.ensures.good
+    on_ok c.add_copy-then-is_empty.result _ _
+    (λ is. added-last (objects_of start.shape) (history_of start.shape) start.path c.args.depth c.args.list.now.items c.add_copy-then-is_empty.new.lists.items c.prefix-path.ensures.good
     (inr (inr none)) (is ∙ ap (λ p. c.args.list.now.items ++ p ∷ []) (c.prefix.ensures.prefix ∙ ap (λ (w : CursorOf). w.path) c.in_ok-kids.ensures.stays)))
-    c.add-then-is_empty.ensures
+    c.add_copy-then-is_empty.ensures.ok
 
 pub loop-kid-init : goal.loop-kid-init
 loop-kid-init g t c =

@@ -1,0 +1,68 @@
+-- The last line of a certificate, and members of lists.
+use Rattle.std.specs.Prelude.{◌≡◌, ◌↔◌, ℕ, ◌+◌, ◌-◌, ◌<◌, ◌≤◌, Bool, false, IsTrue, nat_eq, List, [], ◌∷◌, ◌++◌, map, length}
+use Rattle.std.specs.List.{Contains}
+use Rattle.std.proofs.Common.{sym, ◌∙◌, ap, subst, inl, inr, arith, get_or, take}
+use Rattle.std.proofs.lemmas.List.{map-append}
+use Rattle.std.proofs.lemmas.List.{take_more, take_all, nil_from_length}
+use Rattle.std.proofs.lemmas.List.Elements.{Contains-push_cases, Contains-get_or}
+use Rattle.std.proofs.lemmas.Bool.{eqb-true, eq-eqb}
+use Rattle.aud_witness.specs.declared.decision.Decision.{Decision}
+use Rattle.aud_accept.proofs.Placing.{no_decision}
+use Rattle.aud_accept.specs.declared.cert.CertLine.{CertLine}
+use Rattle.aud_accept.specs.Acceptance.{prefix_in, EndsEmpty}
+
+no-end : {X : Type 0} (ys : List X) (y : X) → [] ≡ ys ++ y ∷ [] → ⊥
+no-end [] y e = cc
+no-end (z ∷ ys) y e = cc
+
+-- two lists that are the same have the same last element
+pub same-end : {X : Type 0} (xs ys : List X) (x y : X) → xs ++ x ∷ [] ≡ ys ++ y ∷ [] → x ≡ y
+same-end [] [] x y e = cc
+same-end {X} [] (b ∷ ys) x y e = let none : [] ≡ ys ++ y ∷ [] = cc in absurd (no-end ys y none)
+same-end {X} (a ∷ xs) [] x y e = let none : xs ++ x ∷ [] ≡ [] = cc in absurd (no-end xs x (sym none))
+same-end (a ∷ xs) (b ∷ ys) x y e = same-end xs ys x y (cc)
+
+pub ends-by : {X : Type 0} (lines : List (CertLine X)) (line : CertLine X) → 0 < length lines → line ≡ get_or lines (length lines - 1) line → EndsEmpty (map prefix_in lines) ↔ (prefix_in line ≡ [])
+ends-by {X} lines line some last = (
+  (λ (before, ends). same-end front before (prefix_in line) [] (sym whole ∙ ends)),
+  λ none. (front, whole ∙ ap (λ (p : List Decision). front ++ p ∷ []) none),
+)
+  where
+    n : ℕ
+    n = length lines - 1
+
+    front : List (List Decision)
+    front = map prefix_in (take (length lines - 1) lines)
+
+    parts : lines ≡ take (length lines - 1) lines ++ line ∷ []
+    parts =
+        sym (take_all (length lines - 1 + 1) lines (omega arith)) ∙ take_more lines (length lines - 1) line (omega arith)
+        ∙ ap (λ (l : CertLine X). take (length lines - 1) lines ++ l ∷ []) (sym last)
+
+    whole : map prefix_in lines ≡ map prefix_in (take (length lines - 1) lines) ++ prefix_in line ∷ []
+    whole = ap (λ (l : List (CertLine X)). map prefix_in l) parts ∙ map-append prefix_in (take (length lines - 1) lines) (line ∷ [])
+
+pub empty-told : (p : List Decision) (b : Bool) → b ≡ nat_eq (length p) 0 → IsTrue b ↔ (p ≡ [])
+empty-told p b is = (
+  (λ holds. nil_from_length p (eqb-true (length p) 0 (sym is ∙ holds))),
+  λ none. is ∙ eq-eqb (length p) 0 (ap length none),
+)
+
+pub no-last : IsTrue false ↔ EndsEmpty []
+no-last = ((λ e. absurd (cc)), λ (before, ends). absurd (no-end before [] ends))
+
+-- # Some first elements of a list
+
+pub first-more : (P : Decision → Type 0) (ks : List Decision) (n : ℕ) → n < length ks → ((d : Decision) → Contains (take n ks) d → P d) → P (get_or ks n no_decision) →
+    (d : Decision) → Contains (take (n + 1) ks) d → P d
+first-more P ks n inside before here d member =
+    elim (Contains-push_cases (take n ks) (get_or ks n no_decision) d (subst (λ (l : List Decision). Contains l d) (take_more ks n no_decision inside) member)) [
+      | inl old ↦ before d old
+      | inr same ↦ subst P same here
+    ]
+
+pub first-all : (P : Decision → Type 0) (ks : List Decision) (n : ℕ) → length ks ≤ n → ((d : Decision) → Contains (take n ks) d → P d) → (d : Decision) → Contains ks d → P d
+first-all P ks n past all d member = all d (subst (λ (l : List Decision). Contains l d) (sym (take_all n ks past)) member)
+
+pub here-in : (ks : List Decision) (n : ℕ) → n < length ks → Contains ks (get_or ks n no_decision)
+here-in ks n inside = Contains-get_or ks n no_decision inside

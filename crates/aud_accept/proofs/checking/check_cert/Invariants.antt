@@ -1,0 +1,11 @@
+use Rattle.std.specs.Prelude.{◌≡◌}
+use Rattle.aud_order.specs.Shapes.{objects_of, history_of}
+use Rattle.aud_accept.proofs.Lines.{Passed}
+use Rattle.aud_accept.proofs.checking.check_cert.Given as goal
+
+abbrev pub invariant-loop-line : goal.invariant-loop-line
+invariant-loop-line g l = record {
+  cursor : l.cursor.shape ≡ l.shape;
+  other : l.other.shape ≡ l.shape;
+  passed : Passed (objects_of l.shape) (history_of l.shape) l.cert.lines.items l.line-index l.earlier;
+}

@@ -1,0 +1,64 @@
+-- When a certificate is accepted.
+use Rattle.std.specs.Prelude.{◌≡◌, ℕ, List, [], ◌∷◌, ◌++◌, map, Some}
+use Rattle.std.specs.List.{Contains}
+use Rattle.aud_event.specs.Meanings.{Declared}
+use Rattle.aud_object.specs.Objects.{opening_of}
+use Rattle.aud_object.specs.Executions.{states_after}
+use Rattle.aud_history.specs.Histories.{History}
+use Rattle.aud_witness.specs.declared.decision.Decision.{Decision}
+use Rattle.aud_witness.specs.Orders.{is_named, kept, IsFull, IsGood, IsGoodNext}
+use Rattle.aud_order.specs.Silent.{silent_fate}
+use Rattle.aud_accept.specs.declared.cert.CertLine.{CertLine}
+use Rattle.aud_accept.specs.declared.cert.CertLine.TheVariants.{Kids, Silent, Same}
+
+-- the prefix of a line
+abbrev pub prefix_in : {X : Type 0} → CertLine X → List Decision
+prefix_in (Kids p) = p
+prefix_in (Silent p d) = p
+prefix_in (Same p q) = p
+
+-- p isn't full, and every kid of it is the prefix of an earlier line
+pub record HasKids (objects : List Declared) (h : History) (earlier : List (List Decision)) (p : List Decision) : Type 0 where
+  pub unfull : IsFull h p → ⊥
+  pub kids : (d : Decision) → IsGoodNext objects h p d → Contains earlier (p ++ d ∷ [])
+
+-- d is of a silent transaction with its silent fate, and p followed by it is good and the prefix of an earlier line
+pub record HasSilent (objects : List Declared) (h : History) (earlier : List (List Decision)) (p : List Decision) (d : Decision) : Type 0 where
+  pub silent : silent_fate h d.tx ≡ Some d.fate
+  pub good : IsGoodNext objects h p d
+  pub line : Contains earlier (p ++ d ∷ [])
+
+-- p and q have the same set of placed transactions, and leave equal states of all objects
+pub record LeadAlike (objects : List Declared) (h : History) (p q : List Decision) : Type 0 where
+  pub placed : (t : ℕ) → is_named p t ≡ is_named q t
+  pub states : states_after (map opening_of objects) (kept h p) ≡ states_after (map opening_of objects) (kept h q)
+
+-- q is the prefix of an earlier line, and leads to where p leads
+pub record HasSame (objects : List Declared) (h : History) (earlier : List (List Decision)) (p q : List Decision) : Type 0 where
+  pub line : Contains earlier q
+  pub alike : LeadAlike objects h p q
+
+-- what the line says of the prefixes of the earlier lines holds
+abbrev pub Rests : {X : Type 0} → List Declared → History → List (List Decision) → CertLine X → Type 0
+Rests objects h earlier (Kids p) = HasKids objects h earlier p
+Rests objects h earlier (Silent p d) = HasSilent objects h earlier p d
+Rests objects h earlier (Same p q) = HasSame objects h earlier p q
+
+-- a line is accepted after those of some prefixes: its own prefix is good, and what it says holds
+pub record IsAcceptedLine {X : Type 0} (objects : List Declared) (h : History) (earlier : List (List Decision)) (line : CertLine X) : Type 0 where
+  pub good : IsGood objects h (prefix_in line)
+  pub rests : Rests objects h earlier line
+
+-- each line in turn is accepted after those before it
+abbrev pub AreAccepted : {X : Type 0} → List Declared → History → List (List Decision) → List (CertLine X) → Type 0
+AreAccepted objects h earlier [] = Unit {0}
+AreAccepted objects h earlier (line ∷ lines) = IsAcceptedLine objects h earlier line × AreAccepted objects h (earlier ++ prefix_in line ∷ []) lines
+
+-- there is a last prefix, and it is empty
+abbrev pub EndsEmpty : List (List Decision) → Type 0
+EndsEmpty prefixes = (before : List (List Decision)) × (prefixes ≡ before ++ [] ∷ [])
+
+-- a certificate is accepted: it has at least one line, every line is accepted in turn, and the last line's prefix is empty
+pub record IsAccepted {X : Type 0} (objects : List Declared) (h : History) (lines : List (CertLine X)) : Type 0 where
+  pub each : AreAccepted objects h [] lines
+  pub last : EndsEmpty (map prefix_in lines)

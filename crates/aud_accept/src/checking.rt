@@ -1,0 +1,214 @@
+//! Whether a certificate is accepted.
+
+ghost use Rattle.std.specs.Prelude.{◌≡◌, ◌↔◌, ◌++◌, ◌∷◌, [], List, map, Some, IfOk, OnOk, IsTrue};
+ghost use Rattle.std.specs.List.{Contains};
+ghost use Rattle.aud_witness.specs.declared.decision.Decision.{Decision};
+ghost use Rattle.aud_witness.specs.Orders.{IsGood};
+ghost use Rattle.aud_order.specs.Silent.{silent_fate};
+ghost use Rattle.aud_order.specs.Shapes.{objects_of, history_of};
+ghost use Rattle.aud_accept.specs.Acceptance.{prefix_in, HasKids, HasSilent, HasSame, LeadAlike, IsAcceptedLine, EndsEmpty, IsAccepted};
+
+use crate::cert::{Cert, CertLine};
+use crate::earlier::Earlier;
+use crate::moving::go_to;
+use aud_event::{Dup, OutOfMemory};
+use aud_order::{Cursor, Shape};
+use aud_witness::{Decision, Fate, Prefix};
+use std::alloc::Allocator;
+
+/// The prefix with one decision more.
+fn with_next<A: Allocator + Copy>(
+    prefix: &Prefix<A>,
+    decision: Decision,
+) -> Result<Prefix<A>, OutOfMemory>
+    ensures { IfOk result (λ next. next ≡ prefix.now ++ decision ∷ []) }
+{
+    let mut next = prefix.dup()?;
+    next.push(decision)?;
+    Ok(next)
+}
+
+/// Whether the prefix followed by each of the kids is the prefix of an earlier line.
+fn has_all<A: Allocator + Copy>(
+    earlier: &Earlier<A>,
+    prefix: &Prefix<A>,
+    kids: &[Decision],
+) -> Result<bool, OutOfMemory>
+    ensures { IfOk result (λ all. IsTrue all ↔ ((d : Decision) → Contains kids.now d → Contains earlier.now (prefix.now ++ d ∷ []))) }
+{
+    for kid in kids {
+        let next = with_next(prefix, *kid)?;
+        if !earlier.has(&next) {
+            return Ok(false);
+        }
+    }
+    Ok(true)
+}
+
+/// Whether the prefix is not full and each of its kids, which are computed anew, is the prefix of an earlier line.
+fn has_kids<A: Allocator + Copy>(
+    alloc: A,
+    cursor: &mut Cursor<A>,
+    earlier: &Earlier<A>,
+    prefix: &Prefix<A>,
+) -> Result<bool, OutOfMemory>
+    requires { cursor.old.path ≡ prefix.now }
+    ensures accepted { IfOk result (λ has. IsTrue has ↔ HasKids (objects_of cursor.old.shape) (history_of cursor.old.shape) earlier.now prefix.now) }
+    ensures shape { OnOk result (cursor.new.shape ≡ cursor.old.shape) }
+{
+    if cursor.full() {
+        return Ok(false);
+    }
+    let kids = cursor.kids(alloc)?;
+    let has = has_all(earlier, prefix, &kids)?;
+    Ok(has)
+}
+
+fn is_same_fate(a: Fate, b: Fate) -> bool
+    ensures { IsTrue result ↔ (a ≡ b) }
+{
+    match a {
+        Fate::C => match b {
+            Fate::C => true,
+            Fate::A => false,
+        },
+        Fate::A => match b {
+            Fate::C => false,
+            Fate::A => true,
+        },
+    }
+}
+
+/// Whether the decision is of a silent transaction, with its silent fate.
+pub fn is_silent<A: Allocator + Copy>(shape: &Shape<A>, decision: Decision) -> bool
+    ensures { IsTrue result ↔ (silent_fate (history_of shape.now) decision.tx ≡ Some decision.fate) }
+{
+    match shape.silent(decision.tx) {
+        None => false,
+        Some(fate) => is_same_fate(fate, decision.fate),
+    }
+}
+
+/// Whether the decision is of a silent transaction with its silent fate, is good after the prefix, and leads to the prefix of an
+/// earlier line.
+fn has_silent<A: Allocator + Copy>(
+    shape: &Shape<A>,
+    cursor: &mut Cursor<A>,
+    earlier: &Earlier<A>,
+    prefix: &Prefix<A>,
+    decision: Decision,
+) -> Result<bool, OutOfMemory>
+    requires path { cursor.old.path ≡ prefix.now }
+    requires shape { cursor.old.shape ≡ shape.now }
+    ensures accepted { IfOk result (λ has. IsTrue has ↔ HasSilent (objects_of shape.now) (history_of shape.now) earlier.now prefix.now decision) }
+    ensures shape { OnOk result (cursor.new.shape ≡ cursor.old.shape) }
+{
+    if !is_silent(shape, decision) {
+        return Ok(false);
+    }
+    if !cursor.push(decision)?.is_good() {
+        return Ok(false);
+    }
+    let next = with_next(prefix, decision)?;
+    Ok(earlier.has(&next))
+}
+
+/// Whether the prefixes of the two cursors place the same transactions and leave the same states.
+pub fn lead_alike<A: Allocator + Copy>(cursor: &Cursor<A>, other: &Cursor<A>) -> bool
+    requires { other.now.shape ≡ cursor.now.shape }
+    ensures { IsTrue result ↔ LeadAlike (objects_of cursor.now.shape) (history_of cursor.now.shape) cursor.now.path other.now.path }
+{
+    let _ = cursor.prefix();
+    let _ = other.prefix();
+    if !cursor.placed().same(other.placed()) {
+        return false;
+    }
+    cursor.store().same(other.store())
+}
+
+/// Whether the prefix is that of an earlier line, and leads to where the cursor stands.
+fn has_same<A: Allocator + Copy>(
+    cursor: &Cursor<A>,
+    other: &mut Cursor<A>,
+    earlier: &Earlier<A>,
+    prefix: &Prefix<A>,
+) -> Result<bool, OutOfMemory>
+    requires shape { other.old.shape ≡ cursor.now.shape }
+    requires good { (p : List Decision) → Contains earlier.now p → IsGood (objects_of cursor.now.shape) (history_of cursor.now.shape) p }
+    ensures accepted { IfOk result (λ has. IsTrue has ↔ HasSame (objects_of cursor.now.shape) (history_of cursor.now.shape) earlier.now cursor.now.path prefix.now) }
+    ensures shape { OnOk result (other.new.shape ≡ other.old.shape) }
+{
+    if !earlier.has(prefix) {
+        return Ok(false);
+    }
+    if !go_to(other, prefix.decisions())? {
+        return Ok(false);
+    }
+    Ok(lead_alike(cursor, other))
+}
+
+/// Whether the line is accepted after those whose prefixes are the earlier ones. The cursors may stand anywhere; each goes on
+/// from what its prefix and the next have in common.
+fn accepts<A: Allocator + Copy>(
+    alloc: A,
+    shape: &Shape<A>,
+    cursor: &mut Cursor<A>,
+    other: &mut Cursor<A>,
+    earlier: &Earlier<A>,
+    line: &CertLine<A>,
+) -> Result<bool, OutOfMemory>
+    requires cursor { cursor.old.shape ≡ shape.now }
+    requires other { other.old.shape ≡ shape.now }
+    requires good { (p : List Decision) → Contains earlier.now p → IsGood (objects_of shape.now) (history_of shape.now) p }
+    ensures accepted { IfOk result (λ good. IsTrue good ↔ IsAcceptedLine (objects_of shape.now) (history_of shape.now) earlier.now line.now) }
+    ensures cursor { OnOk result (cursor.new.shape ≡ shape.now) }
+    ensures other { OnOk result (other.new.shape ≡ shape.now) }
+{
+    if !go_to(cursor, line.prefix().decisions())? {
+        return Ok(false);
+    }
+    match line {
+        CertLine::Kids(prefix) => has_kids(alloc, cursor, earlier, prefix),
+        CertLine::Silent(prefix, decision) => {
+            has_silent(shape, cursor, earlier, prefix, *decision)
+        }
+        CertLine::Same(_, prefix) => has_same(cursor, other, earlier, prefix),
+    }
+}
+
+/// Whether there is a last line, and its prefix is empty.
+fn is_last_empty<A: Allocator>(lines: &[CertLine<A>]) -> bool
+    ensures { IsTrue result ↔ EndsEmpty (map prefix_in lines.now) }
+{
+    match lines.last() {
+        None => false,
+        Some(line) => line.prefix().decisions().is_empty(),
+    }
+}
+
+/// Whether the certificate is accepted: it has lines, each is accepted after those before it, and the last refutes the empty
+/// prefix. Nothing in it is trusted.
+///
+/// A line costs the blocks of what its prefix has not in common with the line's before it, and a look-up for each prefix that it
+/// rests on. The memory is in proportion to the certificate.
+pub fn check_cert<A: Allocator + Copy>(
+    alloc: A,
+    shape: &Shape<A>,
+    cert: &Cert<A>,
+) -> Result<bool, OutOfMemory>
+    ensures { IfOk result (λ good. IsTrue good ↔ IsAccepted (objects_of shape.now) (history_of shape.now) cert.now.lines.items) }
+{
+    if !is_last_empty(&cert.lines) {
+        return Ok(false);
+    }
+    let mut cursor = Cursor::root(alloc, shape)?;
+    let mut other = Cursor::root(alloc, shape)?;
+    let mut earlier = Earlier::none(alloc);
+    for line in &cert.lines {
+        if !accepts(alloc, shape, &mut cursor, &mut other, &earlier, line)? {
+            return Ok(false);
+        }
+        earlier.add(line.prefix().dup()?)?;
+    }
+    Ok(true)
+}

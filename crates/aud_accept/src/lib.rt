@@ -1,0 +1,12 @@
+#![tactic(auto)]
+//! Certificates that no order shows a history, and the checker that accepts them.
+
+mod cert;
+mod checking;
+mod earlier;
+pub mod laws;
+mod moving;
+
+pub use cert::{Cert, CertLine};
+pub use checking::{check_cert, is_silent, lead_alike};
+pub use moving::go_to;

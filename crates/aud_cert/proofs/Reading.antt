@@ -1,0 +1,38 @@
+-- The lines of a certificate's text, as far as they were read.
+use Rattle.std.proofs.Common.{◌≡◌, ℕ, zero, suc, List, [], ◌∷◌, ◌++◌, Result, Ok, Err, append_assoc, append-nil, refl, ap, ◌∙◌, sym}
+use Rattle.aud_text.specs.declared.fault.TextFault.{TextFault}
+use Rattle.aud_text.specs.declared.fault.TextFault.TheVariants as fault
+use Rattle.aud_text.specs.Lines.{Filled}
+use Rattle.aud_cert.specs.declared.fault.CertTextFault.{CertTextFault}
+use Rattle.aud_cert.specs.LineText.{Line, line_read}
+use Rattle.aud_cert.specs.CertText.{at_line, with_line, lines_read}
+
+-- the lines so far before the later ones
+abbrev pub onto : List Line → Result (List Line) CertTextFault → Result (List Line) CertTextFault
+onto ls (Err e) = Err e
+onto ls (Ok more) = Ok (ls ++ more)
+
+onto-with : (ls : List Line) (n : ℕ) (o : Line) (r : Result (List Line) CertTextFault) → onto ls (with_line n (Ok o) r) ≡ onto (ls ++ o ∷ []) r
+onto-with ls n o (Err e) = refl
+onto-with ls n o (Ok more) = ap Ok (sym (append_assoc ls (o ∷ []) more))
+
+-- one line more
+pub one-more : (after k j : ℕ) (ls : List Line) (o : Line) (fs more : List Filled) (l : Filled) → k ≡ suc j → fs ≡ l ∷ more → line_read l.line ≡ Ok o
+    → onto ls (lines_read after k fs) ≡ onto (ls ++ o ∷ []) (lines_read after j more)
+one-more after k j ls o fs more l e s r = rw (e, s) (ap (λ x. onto ls (with_line l.number x (lines_read after j more))) r ∙ onto-with ls l.number o (lines_read after j more))
+
+-- a line that is refused
+pub refused : (after k j : ℕ) (ls : List Line) (e : TextFault) (fs more : List Filled) (l : Filled) → k ≡ suc j → fs ≡ l ∷ more → line_read l.line ≡ Err e
+    → onto ls (lines_read after k fs) ≡ Err (at_line l.number e)
+refused after k j ls e fs more l is s r = rw (is, s) (ap (λ x. onto ls (with_line l.number x (lines_read after j more))) r)
+
+-- a text that ends too early
+pub missing : (after k j : ℕ) (ls : List Line) (fs : List Filled) → k ≡ suc j → fs ≡ [] → onto ls (lines_read after k fs) ≡ Err (at_line after fault.KeyMissing)
+missing after k j ls fs e s = rw (e, s) refl
+
+-- a text that ends where it is to end, and one that does not
+pub ended : (after k : ℕ) (ls : List Line) (fs : List Filled) → k ≡ 0 → fs ≡ [] → onto ls (lines_read after k fs) ≡ Ok ls
+ended after k ls fs e s = rw (e, s) (ap Ok (append-nil ls))
+
+pub one-too_many : (after k : ℕ) (ls : List Line) (fs more : List Filled) (l : Filled) → k ≡ 0 → fs ≡ l ∷ more → onto ls (lines_read after k fs) ≡ Err (at_line l.number fault.KeyUnknown)
+one-too_many after k ls fs more l e s = rw (e, s) refl

@@ -1,0 +1,4 @@
+pub mod Made
+pub mod LineText
+pub mod CertText
+pub mod Written

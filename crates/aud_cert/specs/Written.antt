@@ -1,0 +1,49 @@
+-- The text that is written of a certificate.
+use Rattle.std.specs.Prelude.{ℕ, ◌<◌, ◌≤◌, List, [], ◌∷◌, ◌++◌, All, flat_map, length, codes, decimal}
+use Rattle.aud_witness.specs.declared.decision.Decision.{Decision}
+use Rattle.aud_event.specs.Limits.{transactions}
+use Rattle.aud_text.specs.Orders.{order_text, decision_text}
+use Rattle.aud_accept.specs.declared.cert.CertLine.{CertLine}
+use Rattle.aud_accept.specs.declared.cert.CertLine.TheVariants.{Kids, Silent, Same}
+
+-- lines without their line feeds, their keys in the order of their bytes
+abbrev pub kids_text : List Decision → List ℕ
+kids_text p = codes "{\"by\":\"kids\",\"p\":\"" ++ (order_text p ++ codes "\"}")
+
+abbrev pub silent_text : List Decision → Decision → List ℕ
+silent_text p d = codes "{\"by\":\"silent\",\"d\":\"" ++ (decision_text d ++ (codes "\",\"p\":\"" ++ (order_text p ++ codes "\"}")))
+
+abbrev pub same_text : List Decision → List Decision → List ℕ
+same_text p q = codes "{\"as\":\"" ++ (order_text q ++ (codes "\",\"by\":\"same\",\"p\":\"" ++ (order_text p ++ codes "\"}")))
+
+abbrev pub line_text : {X : Type 0} → CertLine X → List ℕ
+line_text (Kids p) = kids_text p
+line_text (Silent p d) = silent_text p d
+line_text (Same p q) = same_text p q
+
+abbrev pub header_text : ℕ → List ℕ
+header_text count = codes "{\"cert\":" ++ (decimal count ++ codes "}")
+
+-- a line feed after each line
+abbrev pub ended : List ℕ → List ℕ
+ended line = line ++ 10 ∷ []
+
+abbrev pub cert_text : {X : Type 0} → List (CertLine X) → List ℕ
+cert_text lines = ended (header_text (length lines)) ++ flat_map (λ l. ended (line_text l)) lines
+
+-- ---- the limits
+
+-- each id is below 1,024, and the order text is not too long
+pub record IsShort (p : List Decision) : Type 0 where
+  pub ids : All (λ d. d.tx < transactions) p
+  pub text : length (order_text p) ≤ 32768
+
+abbrev pub HasShort : {X : Type 0} → CertLine X → Type 0
+HasShort (Kids p) = IsShort p
+HasShort (Silent p d) = IsShort p × (d.tx < transactions)
+HasShort (Same p q) = IsShort p × IsShort q
+
+-- the line is within the limits
+pub record IsWithin {X : Type 0} (line : CertLine X) : Type 0 where
+  pub orders : HasShort line
+  pub text : length (line_text line) ≤ 65536

@@ -1,0 +1,19 @@
+#![tactic(auto)]
+//! Certificates that no order shows a history: made, read and written, and what an accepted one finds.
+
+mod fault;
+mod finding;
+mod line;
+mod making;
+mod places;
+mod read;
+mod reason;
+mod write;
+
+pub use aud_accept::{Cert, CertLine, check_cert};
+pub use fault::CertTextFault;
+pub use finding::finding_of;
+pub use line::CERT_LINE_MAX;
+pub use making::make_cert;
+pub use read::read_cert;
+pub use write::write_cert;

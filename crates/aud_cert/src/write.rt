@@ -1,0 +1,144 @@
+//! Writing the text of a certificate.
+
+ghost use Rattle.std.specs.Prelude.{◌≡◌, ◌++◌, ◌∷◌, [], IfOk, OnOk};
+ghost use Rattle.aud_text.specs.Orders.{order_text, decision_text, fate_letter};
+ghost use Rattle.aud_cert.specs.Written.{kids_text, silent_text, same_text, line_text, header_text, ended, cert_text};
+
+use aud_accept::{Cert, CertLine};
+use aud_event::OutOfMemory;
+use aud_text::write_order;
+use aud_witness::{Decision, Fate, Prefix};
+use itoa::Buffer;
+use std::alloc::Allocator;
+
+fn push_text<A: Allocator>(text: &mut Vec<u8, A>, part: &str) -> Result<(), OutOfMemory>
+    ensures { OnOk result (text.new.items ≡ text.old.items ++ part.now) }
+{
+    text.extend_from_slice(part.as_bytes())?;
+    Ok(())
+}
+
+fn push_order<A: Allocator + Copy, B: Allocator>(
+    alloc: A,
+    text: &mut Vec<u8, A>,
+    order: &Prefix<B>,
+) -> Result<(), OutOfMemory>
+    ensures { OnOk result (text.new.items ≡ text.old.items ++ order_text order.now) }
+{
+    let order = write_order(alloc, order)?;
+    text.extend_from_slice(&order)?;
+    Ok(())
+}
+
+fn letter_of(fate: Fate) -> &'static str
+    ensures { result.now ≡ fate_letter fate ∷ [] }
+{
+    match fate {
+        Fate::C => "c",
+        Fate::A => "a",
+    }
+}
+
+fn push_decision<A: Allocator>(text: &mut Vec<u8, A>, decision: Decision) -> Result<(), OutOfMemory>
+    ensures { OnOk result (text.new.items ≡ text.old.items ++ decision_text decision) }
+{
+    let mut buffer = Buffer::new();
+    push_text(text, buffer.format(decision.tx))?;
+    push_text(text, letter_of(decision.fate))?;
+    Ok(())
+}
+
+fn push_kids<A: Allocator + Copy, B: Allocator>(
+    alloc: A,
+    text: &mut Vec<u8, A>,
+    prefix: &Prefix<B>,
+) -> Result<(), OutOfMemory>
+    ensures { OnOk result (text.new.items ≡ text.old.items ++ kids_text prefix.now) }
+{
+    push_text(text, "{\"by\":\"kids\",\"p\":\"")?;
+    push_order(alloc, text, prefix)?;
+    push_text(text, "\"}")?;
+    Ok(())
+}
+
+fn push_silent<A: Allocator + Copy, B: Allocator>(
+    alloc: A,
+    text: &mut Vec<u8, A>,
+    prefix: &Prefix<B>,
+    decision: Decision,
+) -> Result<(), OutOfMemory>
+    ensures { OnOk result (text.new.items ≡ text.old.items ++ silent_text prefix.now decision) }
+{
+    push_text(text, "{\"by\":\"silent\",\"d\":\"")?;
+    push_decision(text, decision)?;
+    push_text(text, "\",\"p\":\"")?;
+    push_order(alloc, text, prefix)?;
+    push_text(text, "\"}")?;
+    Ok(())
+}
+
+fn push_same<A: Allocator + Copy, B: Allocator>(
+    alloc: A,
+    text: &mut Vec<u8, A>,
+    prefix: &Prefix<B>,
+    other: &Prefix<B>,
+) -> Result<(), OutOfMemory>
+    ensures { OnOk result (text.new.items ≡ text.old.items ++ same_text prefix.now other.now) }
+{
+    push_text(text, "{\"as\":\"")?;
+    push_order(alloc, text, other)?;
+    push_text(text, "\",\"by\":\"same\",\"p\":\"")?;
+    push_order(alloc, text, prefix)?;
+    push_text(text, "\"}")?;
+    Ok(())
+}
+
+fn push_keys<A: Allocator + Copy, B: Allocator>(
+    alloc: A,
+    text: &mut Vec<u8, A>,
+    line: &CertLine<B>,
+) -> Result<(), OutOfMemory>
+    ensures { OnOk result (text.new.items ≡ text.old.items ++ line_text line.now) }
+{
+    match line {
+        CertLine::Kids(prefix) => push_kids(alloc, text, prefix),
+        CertLine::Silent(prefix, decision) => push_silent(alloc, text, prefix, *decision),
+        CertLine::Same(prefix, other) => push_same(alloc, text, prefix, other),
+    }
+}
+
+/// Adds the line, with its line feed.
+fn push_line<A: Allocator + Copy, B: Allocator>(
+    alloc: A,
+    text: &mut Vec<u8, A>,
+    line: &CertLine<B>,
+) -> Result<(), OutOfMemory>
+    ensures { OnOk result (text.new.items ≡ text.old.items ++ ended (line_text line.now)) }
+{
+    push_keys(alloc, text, line)?;
+    push_text(text, "\n")
+}
+
+fn push_header<A: Allocator>(text: &mut Vec<u8, A>, count: usize) -> Result<(), OutOfMemory>
+    ensures { OnOk result (text.new.items ≡ text.old.items ++ ended (header_text count)) }
+{
+    let mut buffer = Buffer::new();
+    push_text(text, "{\"cert\":")?;
+    push_text(text, buffer.format(count))?;
+    push_text(text, "}\n")
+}
+
+/// The text of the certificate: a header, its lines, and a line feed after each.
+pub fn write_cert<A: Allocator + Copy, B: Allocator>(
+    alloc: A,
+    cert: &Cert<B>,
+) -> Result<Vec<u8, A>, OutOfMemory>
+    ensures spelled { IfOk result (λ text. text.items ≡ cert_text cert.now.lines.items) }
+{
+    let mut text = Vec::new(alloc);
+    push_header(&mut text, cert.lines.len())?;
+    for line in &cert.lines {
+        push_line(alloc, &mut text, line)?;
+    }
+    Ok(text)
+}

@@ -1,0 +1,28 @@
+-- How jobs end that say a line.
+use Rattle.std.specs.Prelude.{◌≡◌}
+use Rattle.std.proofs.Common.{sym, ◌∙◌}
+use Rattle.aud_know.specs.declared.verdict.Verdict.{Verdict}
+use Rattle.aud_know.specs.declared.verdict.Verdict.TheVariants as verdict
+use Rattle.aud_report.specs.declared.said.Said.{Said}
+use Rattle.aud_report.specs.declared.said.Said.TheVariants as said
+use Rattle.aud_cli.specs.declared.ended.Cause.{Cause}
+use Rattle.aud_cli.specs.declared.ended.Ended.{Ended}
+use Rattle.aud_cli.specs.declared.ended.Ended.TheVariants as ended
+use Rattle.aud_cli.specs.Outcomes.{verdict_ends, ended_by}
+
+verdict-ends : {X : Type 0} (v : Verdict X) (cause : Cause) → verdict_ends v ≡ ended.Failed cause → ⊥
+verdict-ends (verdict.Opaque order) cause is = absurd (cc)
+verdict-ends verdict.NotOpaque cause is = absurd (cc)
+verdict-ends verdict.Unfinished cause is = absurd (cc)
+verdict-ends (verdict.Conflict kind log at) cause is = absurd (cc)
+verdict-ends (verdict.Waiting log) cause is = absurd (cc)
+verdict-ends (verdict.Gap stamp) cause is = absurd (cc)
+verdict-ends (verdict.IllFormed stamp rule) cause is = absurd (cc)
+
+-- none ends as failed
+pub line-ends : (s : Said) (cause : Cause) → ended_by s ≡ ended.Failed cause → ⊥
+line-ends (said.Verdict v) cause is = verdict-ends v cause is
+line-ends (said.OrderRefused e) cause is = absurd (cc)
+line-ends (said.OrderTextRefused e) cause is = absurd (cc)
+line-ends (said.PlanRefused e) cause is = absurd (cc)
+line-ends (said.RecordRefused line e) cause is = absurd (cc)

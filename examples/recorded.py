@@ -1,0 +1,115 @@
+"""Reading and writing opaq's texts of recorded runs (docs/FORMAT.md), for the scripts beside this one.
+
+Nothing is checked here: what a text has to be is opaq's to say.
+"""
+
+import json
+import subprocess
+
+ENDS = {"commit": "committed", "abort": "aborted"}
+
+
+def line(**fields):
+    """A line of a text, spelled as opaq spells it."""
+    return json.dumps(fields, sort_keys=True, separators=(",", ":"))
+
+
+class Transaction:
+    """The records of one transaction, in the order of their stamps."""
+
+    def __init__(self, number):
+        self.number = number
+        self.records = []
+
+    @property
+    def log(self):
+        return self.records[0]["log"]
+
+    @property
+    def first(self):
+        return self.records[0]["stamp"]
+
+    @property
+    def last(self):
+        return self.records[-1]["stamp"]
+
+    @property
+    def end(self):
+        """How it ended: 'committed', 'aborted', or else 'live'."""
+        return ENDS.get(self.records[-1]["ev"], "live")
+
+    def calls(self):
+        """Its operations: pairs of an invocation and its answer, or None where there is none."""
+        pending = None
+        for record in self.records:
+            if pending is not None:
+                yield pending, record if record["ev"] == "ret" else None
+                pending = None
+            if record["ev"] == "inv":
+                pending = record
+        if pending is not None:
+            yield pending, None
+
+
+class Run:
+    """A plan, records in the order of their stamps, and the end marks: how many records each log has."""
+
+    def __init__(self, logs, objects, records, ends):
+        self.logs = logs
+        self.objects = objects
+        self.records = sorted(records, key=lambda record: record["stamp"])
+        self.ends = ends
+
+    def transactions(self):
+        """The transactions by number, in the order of their first stamps."""
+        found = {}
+        for record in self.records:
+            found.setdefault(record["tx"], Transaction(record["tx"])).records.append(record)
+        return found
+
+    def beginning(self, count):
+        """The run of the first so many records, by stamps, with end marks of its own."""
+        kept = self.records[:count]
+        ends = {log: sum(record["log"] == log for record in kept) for log in range(self.logs)}
+        return Run(self.logs, self.objects, kept, ends)
+
+    def text(self):
+        """The run as opaq reads it."""
+        header = line(format=1, logs=self.logs, objects=len(self.objects))
+        marks = [line(end=count, log=log) for log, count in sorted(self.ends.items())]
+        lines = [header, *(line(**it) for it in self.objects), *(line(**it) for it in self.records), *marks]
+        return "\n".join(lines) + "\n"
+
+
+def read(text):
+    """The run of a text that opaq takes."""
+    header, *rest = [json.loads(it) for it in text.split("\n") if it]
+    objects, facts = rest[: header["objects"]], rest[header["objects"] :]
+    records = {(it["log"], it["at"]): it for it in facts if "end" not in it}
+    ends = {it["log"]: it["end"] for it in facts if "end" in it}
+    return Run(header["logs"], objects, records.values(), ends)
+
+
+def said(record):
+    """A record in words."""
+    if record["ev"] == "inv":
+        return f"transaction {record['tx']} invokes {called(record)}"
+    if record["ev"] == "ret":
+        return f"transaction {record['tx']} gets {spelled(record['ans'])} from {record['op']} of {record['ob']}"
+    words = {"tryc": "asks to commit", "trya": "asks to abort", "commit": "commits", "abort": "aborts"}
+    return f"transaction {record['tx']} {words[record['ev']]}"
+
+
+def called(record):
+    argument = f" {spelled(record['arg'])}" if "arg" in record else ""
+    return f"{record['op']}{argument} of {record['ob']}"
+
+
+def spelled(value):
+    return value if isinstance(value, str) else json.dumps(value)
+
+
+def ask(program, words, text):
+    """What opaq answers: its exit status, and its line."""
+    answer = subprocess.run([program, *words], input=text.encode(), stdout=subprocess.PIPE, stderr=subprocess.PIPE)
+    return answer.returncode, (answer.stdout or answer.stderr).decode().rstrip("\n")
