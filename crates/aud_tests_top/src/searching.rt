@@ -1,6 +1,6 @@
 //! Pools of workers that search tasks of a run for a running node.
 
-ghost use Rattle.std.specs.Prelude.{◌≡◌};
+ghost use Rattle.std.specs.Prelude.{◌≡◌, ◌<◌};
 
 use crate::fixtures::{
     SEEN_REQUEST, SharedShape, TORN_READ, UNSEEN_REQUEST, list, plan_of, shape_of,
