@@ -3,7 +3,7 @@
 //! States of one digest are compared wherever it counts that they are the same. So nothing is promised of it, and only how
 //! fast a search is depends on it.
 
-use crate::index::hash_of;
+use crate::index::{hash_of, spread};
 use aud_object::{Block, Store};
 use std::alloc::{Allocator, Global};
 
@@ -12,6 +12,11 @@ use std::alloc::{Allocator, Global};
 struct Share {
     digest: u64,
     is_touched: bool,
+}
+
+/// What the object adds where its state has the digest. As shares are added up, they must not grow evenly with the numbers.
+fn share_of(object: usize, digest: u64) -> u64 {
+    spread(hash_of(digest, object as u64))
 }
 
 /// The shares of all objects once a digest was asked for, which objects were touched since, and the sum of the shares.
@@ -85,7 +90,7 @@ impl<A: Allocator + Copy> Digests<A> {
         let Some(digest) = store.digest(object) else {
             return;
         };
-        let digest = hash_of(object as u64, digest);
+        let digest = share_of(object, digest);
         if let Some(share) = self.shares.get_mut(object) {
             self.sum = self.sum.wrapping_sub(share.digest).wrapping_add(digest);
             *share = Share {

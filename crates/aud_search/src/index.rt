@@ -41,6 +41,13 @@ pub(crate) fn hash_of(a: u64, b: u64) -> u64 {
     mixed ^ (mixed >> 32)
 }
 
+/// A number in which each bit of the word has its say, by the steps that end the generator SplitMix64.
+pub(crate) fn spread(word: u64) -> u64 {
+    let half = (word ^ (word >> 30)).wrapping_mul(0xBF58_476D_1CE4_E5B9);
+    let whole = (half ^ (half >> 27)).wrapping_mul(0x94D0_49BB_1331_11EB);
+    whole ^ (whole >> 31)
+}
+
 /// A hash of a number and some words.
 pub(crate) fn hash_words(start: u64, words: &[u64]) -> u64 {
     let mut hash = hash_of(0x2545_F491_4F6C_DD1D, start);
