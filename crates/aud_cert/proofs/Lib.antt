@@ -1,3 +1,6 @@
 pub mod Writing
 pub mod Reading
 pub mod Parts
+pub mod Bytes
+pub mod LineBytes
+pub mod Back

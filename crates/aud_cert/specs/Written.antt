@@ -40,7 +40,7 @@ pub record IsShort (p : List Decision) : Type 0 where
 
 abbrev pub HasShort : {X : Type 0} → CertLine X → Type 0
 HasShort (Kids p) = IsShort p
-HasShort (Silent p d) = IsShort p × (d.tx < transactions)
+HasShort (Silent p d) = IsShort p × IsShort (d ∷ [])
 HasShort (Same p q) = IsShort p × IsShort q
 
 -- the line is within the limits

@@ -3,6 +3,7 @@
 
 mod fault;
 mod finding;
+pub mod laws;
 mod line;
 mod making;
 mod places;

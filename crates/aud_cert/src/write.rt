@@ -1,8 +1,9 @@
 //! Writing the text of a certificate.
 
-ghost use Rattle.std.specs.Prelude.{◌≡◌, ◌++◌, ◌∷◌, [], IfOk, OnOk};
+ghost use Rattle.std.specs.Prelude.{◌≡◌, ◌<◌, ◌^◌, ◌++◌, ◌∷◌, [], Ok, All, IfOk, OnOk, length};
 ghost use Rattle.aud_text.specs.Orders.{order_text, decision_text, fate_letter};
-ghost use Rattle.aud_cert.specs.Written.{kids_text, silent_text, same_text, line_text, header_text, ended, cert_text};
+ghost use Rattle.aud_cert.specs.CertText.{cert_read};
+ghost use Rattle.aud_cert.specs.Written.{kids_text, silent_text, same_text, line_text, header_text, ended, cert_text, IsWithin};
 
 use aud_accept::{Cert, CertLine};
 use aud_event::OutOfMemory;
@@ -128,17 +129,28 @@ fn push_header<A: Allocator>(text: &mut Vec<u8, A>, count: usize) -> Result<(), 
     push_text(text, "}\n")
 }
 
-/// The text of the certificate: a header, its lines, and a line feed after each.
-pub fn write_cert<A: Allocator + Copy, B: Allocator>(
+fn text_of<A: Allocator + Copy, B: Allocator>(
     alloc: A,
     cert: &Cert<B>,
 ) -> Result<Vec<u8, A>, OutOfMemory>
-    ensures spelled { IfOk result (λ text. text.items ≡ cert_text cert.now.lines.items) }
+    ensures { IfOk result (λ text. text.items ≡ cert_text cert.now.lines.items) }
 {
     let mut text = Vec::new(alloc);
     push_header(&mut text, cert.lines.len())?;
     for line in &cert.lines {
         push_line(alloc, &mut text, line)?;
     }
+    Ok(text)
+}
+
+/// The text of the certificate: a header, its lines, and a line feed after each.
+///
+/// It reads as the certificate where each line is within the limits: ids below 1,024, order texts of at most 32,768 bytes, and at
+/// most 65,536 bytes a line.
+pub fn write_cert<A: Allocator + Copy>(alloc: A, cert: &Cert) -> Result<Vec<u8, A>, OutOfMemory>
+    ensures spelled { IfOk result (λ text. text.items ≡ cert_text cert.now.lines.items) }
+    ensures reads_back { IfOk result (λ text. All IsWithin cert.now.lines.items → length cert.now.lines.items < 2 ^ 63 → cert_read text.items ≡ Ok cert.now.lines.items) }
+{
+    let text = text_of(alloc, cert)?;
     Ok(text)
 }

@@ -80,7 +80,7 @@ plain_word name.Contains = refl
 plain_word name.Enq = refl
 plain_word name.Deq = refl
 
-quoted_then : (s rest : List ℕ) → escape s ≡ s → quoted s ++ rest ≡ 34 ∷ (s ++ 34 ∷ rest)
+pub quoted_then : (s rest : List ℕ) → escape s ≡ s → quoted s ++ rest ≡ 34 ∷ (s ++ 34 ∷ rest)
 quoted_then s rest e = rw e (ap (λ l. 34 ∷ l) (append_assoc s (34 ∷ []) rest))
 
 -- ---- the parts of a line are those of what is written
@@ -172,10 +172,10 @@ small_number : (n : ℕ) → n < 4294967296 → IsNumber (decimal n)
 small_number n h = IsNumber-decimal n (omega arith)
 
 -- the value is read as the same data, has numbers for its numbers, and nests no deeper
-record IsPlain (n : ℕ) (d : Data) : Type 0 where
-  same : of_json (outline d) ≡ Some d
-  numbers : HasNumbers (outline d)
-  flat : depth (outline d) ≤ n
+pub record IsPlain (n : ℕ) (d : Data) : Type 0 where
+  pub same : of_json (outline d) ≡ Some d
+  pub numbers : HasNumbers (outline d)
+  pub flat : depth (outline d) ≤ n
 
 whole_plain : (z : ℤ) → FitsSigned w64 z → IsPlain 0 (whole_data z)
 whole_plain z h = record { same = ap (option_map number) (integer_read z h); numbers = integer_number z h; flat = omega arith }
@@ -240,7 +240,7 @@ fact_plain : (plan : PlanOf) (f : Fact) → IsSound plan → FactFits f → firs
 fact_plain plan (Rec r) s h e = record_plain plan r r.event (record_in_range plan r s e).0 h
 fact_plain plan (End m) s h e = mark_plain m (end_in_range plan m s e)
 
-plain_reads : (d : Data) → IsPlain 1 d → read (compact_text d) ≡ Some d
+pub plain_reads : (d : Data) → IsPlain 1 d → read (compact_text d) ≡ Some d
 plain_reads d p =
     let spelled : tokens (compact_text d) ≡ json_tokens (outline d) = ap tokens (sym (print-outline d)) ∙ tokens-print (json_tokens (outline d)) (ArePrintable-json_tokens (outline d) p.numbers) in
     let flat : depth (outline d) ≤ 127 = omega (arith, p.flat) in
