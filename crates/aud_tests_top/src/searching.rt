@@ -231,9 +231,8 @@ fn refused<J: Fleet + Send + Sync, R: Threads + Wait + Sync>(
 ) -> Refused
     requires named { opened.book ≡ J.book opened.number }
     requires planned { plan ≡ J.plan opened.number }
-    requires few { workers < 32 }
 {
-    let seats = workers + 1;
+    let seats = workers.checked_add(1)?;
     let (node, mut passes) = Running::<J, &R>::start(rt, alloc, opened, plan, seats).ok()?;
     let _keeper = passes.pop();
     refused_by(rt, alloc, &node, passes, search)
