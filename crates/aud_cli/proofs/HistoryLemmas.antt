@@ -1,6 +1,6 @@
 -- What is said of a well-formed history is what is said of its facts.
-use Rattle.std.proofs.Common.{◌≡◌, List, [], Result, Ok, Err, IfOk, subst}
-use Rattle.aud_event.specs.Meanings.{Declared}
+use Rattle.std.proofs.Common.{◌≡◌, ℕ, Bool, true, false, List, [], Option, Result, Ok, Err, IfOk, subst}
+use Rattle.aud_event.specs.Meanings.{Declared, PlanOf}
 use Rattle.aud_history.specs.Histories.{History}
 use Rattle.aud_history.specs.WellFormed.{IsWellFormed}
 use Rattle.aud_facts.specs.Sets.{FactsOf, SealedOf, IsSealedWith}
@@ -9,7 +9,8 @@ use Rattle.aud_witness.specs.Orders.{Opaque, Refuted}
 use Rattle.aud_know.proofs.Judging.{answered}
 use Rattle.aud_report.specs.declared.said.Said.{Said}
 use Rattle.aud_report.specs.declared.said.Said.TheVariants as said
-use Rattle.aud_cli.specs.Line.{Answers, SetSays}
+use Rattle.aud_know.specs.declared.verdict.Verdict.TheVariants as verdict
+use Rattle.aud_cli.specs.Line.{Answers, SetSays, NoneSays, DecideSays}
 
 pub says_of_facts : (A : Answers) (facts : FactsOf) (v : SealedOf) → v.facts ≡ facts → IsSealedWith facts v.history → IsWellFormed v.history →
     (s : Said) → A v.facts.plan v.history s → SetSays A facts.plan facts.facts s
@@ -24,3 +25,22 @@ if_ok P Q (Err e) on is = is
 
 pub none-from_refuted : (objects : List Declared) (h : History) → Refuted objects h [] → Opaque objects h → ⊥
 none-from_refuted objects h refuted opaque = refuted opaque.0 opaque.1
+
+-- what is said where no order shows is said by decide
+pub none-decides : (budget : Option ℕ) (cert : Bool) (plan : PlanOf) (h : History) (s : Said) → NoneSays cert plan h s → DecideSays budget cert plan h s
+none-decides budget true plan h (said.Verdict (verdict.Opaque p)) says = absurd says
+none-decides budget false plan h (said.Verdict (verdict.Opaque p)) says = absurd says
+none-decides budget true plan h (said.Verdict verdict.Unfinished) says = absurd says
+none-decides budget false plan h (said.Verdict verdict.Unfinished) says = absurd says
+none-decides budget cert plan h (said.Verdict verdict.NotOpaque) says = says
+none-decides budget cert plan h (said.Verdict (verdict.Conflict kind log at)) says = says
+none-decides budget cert plan h (said.Verdict (verdict.Waiting log)) says = says
+none-decides budget cert plan h (said.Verdict (verdict.Gap stamp)) says = says
+none-decides budget cert plan h (said.Verdict (verdict.IllFormed stamp rule)) says = says
+none-decides budget cert plan h (said.OrderRefused e) says = says
+none-decides budget cert plan h (said.OrderTextRefused e) says = says
+none-decides budget cert plan h (said.PlanRefused e) says = says
+none-decides budget cert plan h (said.RecordRefused line e) says = says
+none-decides budget cert plan h (said.CertificateLineRefused line e) says = says
+none-decides budget cert plan h said.CertificateRefused says = says
+none-decides budget cert plan h (said.Certified c) says = says

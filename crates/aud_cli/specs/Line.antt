@@ -1,5 +1,5 @@
 -- What may be said of an input.
-use Rattle.std.specs.Prelude.{◌≡◌, ℕ, List, [], Option, Some, Result, Ok, Err, string_bytes}
+use Rattle.std.specs.Prelude.{◌≡◌, ℕ, ◌+◌, List, [], Option, Some, None, Bool, true, false, Result, Ok, Err, length, string_bytes}
 use Rattle.aud_event.specs.declared.fact.Fact.{Fact}
 use Rattle.aud_event.specs.Meanings.{PlanOf}
 use Rattle.aud_history.specs.Histories.{History}
@@ -13,16 +13,23 @@ use Rattle.aud_know.specs.Verdicts.{FactsTell}
 use Rattle.aud_know.specs.declared.verdict.Verdict.TheVariants as verdict
 use Rattle.aud_search.specs.Searches.{SpentBy}
 use Rattle.aud_text.specs.Orders.{order_read}
+use Rattle.aud_text.specs.Lines.{lines_of}
 use Rattle.aud_text.specs.declared.fault.TextFault.{TextFault}
+use Rattle.aud_text.specs.declared.fault.TextFault.TheVariants as text_fault
+use Rattle.aud_accept.specs.Acceptance.{IsAccepted}
+use Rattle.aud_cert.specs.LineText.{Line as CertLineOf}
+use Rattle.aud_cert.specs.CertText.{cert_read}
+use Rattle.aud_cert.specs.declared.fault.CertTextFault.{CertTextFault}
 use Rattle.aud_report.specs.declared.said.Said.{Said}
 use Rattle.aud_report.specs.declared.said.Said.TheVariants as said
 use Rattle.aud_cli.specs.Inputs.{InputOf, input_read}
+use Rattle.aud_cli.specs.Certificates.{certificate_place, text_before, text_from}
 use Rattle.aud_cli.specs.declared.input.InputFault.{InputFault}
 use Rattle.aud_cli.specs.declared.input.InputFault.TheVariants as fault
 use Rattle.aud_cli.specs.declared.question.Question.{Question}
 use Rattle.aud_cli.specs.declared.question.Question.TheVariants as question
 use Rattle.aud_cli.specs.declared.job.Job.{Job}
-use Rattle.aud_cli.specs.declared.job.Job.TheVariants.{Check, Decide}
+use Rattle.aud_cli.specs.declared.job.Job.TheVariants.{Check, Decide, Verify}
 
 -- what a job may say of a well-formed history of a plan
 abbrev pub Answers : Type 1
@@ -34,18 +41,35 @@ CheckSays order plan h (said.Verdict (verdict.Opaque p)) = (p ≡ order) × Show
 CheckSays order plan h (said.OrderRefused e) = first_order_fault plan.objects h order ≡ Some e
 CheckSays order plan h _ = ⊥
 
--- decide: `opaque` with any order that shows the history, or `not opaque` if none does; where there is a budget, or
--- `unfinished` if it can be spent with neither found
-abbrev pub DecideSays : Option ℕ → Answers
-DecideSays budget plan h (said.Verdict (verdict.Opaque p)) = Shows plan.objects h p
-DecideSays budget plan h (said.Verdict verdict.NotOpaque) = Opaque plan.objects h → ⊥
-DecideSays (Some b) plan h (said.Verdict verdict.Unfinished) = SpentBy plan.objects h [] b
-DecideSays budget plan h _ = ⊥
+-- where no order shows the history: `not opaque`, and with a certificate one that is accepted
+abbrev pub NoneSays : Bool → Answers
+NoneSays false plan h (said.Verdict verdict.NotOpaque) = Opaque plan.objects h → ⊥
+NoneSays true plan h (said.Certified cert) = (Opaque plan.objects h → ⊥) × IsAccepted plan.objects h cert.lines.items
+NoneSays cert plan h _ = ⊥
+
+-- the budget can be spent with neither found
+abbrev pub IsSpent : Option ℕ → PlanOf → History → Type 0
+IsSpent None plan h = ⊥
+IsSpent (Some b) plan h = SpentBy plan.objects h [] b
+
+-- decide: `opaque` with any order that shows the history, or what is said where none does; where there is a budget, or
+-- `unfinished` if it can be spent
+abbrev pub DecideSays : Option ℕ → Bool → Answers
+DecideSays budget cert plan h (said.Verdict (verdict.Opaque p)) = Shows plan.objects h p
+DecideSays budget cert plan h (said.Verdict verdict.Unfinished) = IsSpent budget plan h
+DecideSays budget cert plan h s = NoneSays cert plan h s
+
+-- verify: `not opaque` where the certificate is accepted, else that it is refused
+abbrev pub VerifySays : List CertLineOf → Answers
+VerifySays lines plan h (said.Verdict verdict.NotOpaque) = IsAccepted plan.objects h lines
+VerifySays lines plan h said.CertificateRefused = IsAccepted plan.objects h lines → ⊥
+VerifySays lines plan h _ = ⊥
 
 -- what may be said where this is asked
 abbrev pub QuestionSays : Question → Answers
 QuestionSays (question.Shows order) = CheckSays order
-QuestionSays (question.Any budget) = DecideSays budget
+QuestionSays (question.Any budget cert) = DecideSays budget cert
+QuestionSays (question.Accepts cert) = VerifySays cert.lines.items
 
 -- of a set of facts: the status, if they are not sealed, ill-formedness, if their history is not well-formed, else the
 -- answer
@@ -68,7 +92,25 @@ abbrev pub OrderSays : Result (List Decision) TextFault → List ℕ → Said �
 OrderSays (Err e) input s = s ≡ said.OrderTextRefused e
 OrderSays (Ok order) input s = InputSays (CheckSays order) (input_read input) s
 
+-- the refusal of the lines before the certificate, else the refusal of the certificate's first wrong line, counted over the
+-- whole input, else what is said of the facts
+abbrev pub CertifiedSays : ℕ → Result InputOf InputFault → Result (List CertLineOf) CertTextFault → Said → Type 0
+CertifiedSays before (Ok i) (Err e) s = s ≡ said.CertificateLineRefused (before + e.line) e.fault
+CertifiedSays before (Ok i) (Ok lines) s = FactsSay (VerifySays lines) i s
+CertifiedSays before (Err e) cert s = InputSays (VerifySays []) (Err e) s
+
+-- the same where no line begins a certificate: it is missing at the line after the last
+abbrev pub UncertifiedSays : ℕ → Result InputOf InputFault → Said → Type 0
+UncertifiedSays after (Ok i) s = s ≡ said.CertificateLineRefused after text_fault.KeyMissing
+UncertifiedSays after (Err e) s = InputSays (VerifySays []) (Err e) s
+
+-- verify: by the place of the first line that begins a certificate
+abbrev pub PlaceSays : List ℕ → Option ℕ → Said → Type 0
+PlaceSays input None s = UncertifiedSays (length (lines_of input) + 1) (input_read input) s
+PlaceSays input (Some n) s = CertifiedSays n (input_read (text_before input n)) (cert_read (text_from input n)) s
+
 -- what a job may say of an input: the first of these that applies
 abbrev pub Line : Job → List ℕ → Said → Type 0
 Line (Check text) input s = OrderSays (order_read (string_bytes text)) input s
-Line (Decide budget) input s = InputSays (DecideSays budget) (input_read input) s
+Line (Decide budget cert) input s = InputSays (DecideSays budget cert) (input_read input) s
+Line Verify input s = PlaceSays input (certificate_place input) s

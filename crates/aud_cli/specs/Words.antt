@@ -1,10 +1,10 @@
 -- What the words ask for.
-use Rattle.std.specs.Prelude.{◌≡◌, ◌≤◌, ℕ, List, [], Option, Some, None, codes, ⊤, string_bytes}
+use Rattle.std.specs.Prelude.{◌≡◌, ◌≤◌, ℕ, List, [], Option, Some, None, Bool, false, bytes_eq, codes, ⊤, string_bytes}
 use Rattle.std.specs.Str.Parse.{IsNumeral, digits_value, without_leading_plus}
 use Rattle.clap.specs.Words.{Row, Text, first_of, subcommand_of, fault_of}
 use Rattle.aud_cli.specs.CommandLine.{opaq_app}
 use Rattle.aud_cli.specs.declared.job.Job.{Job}
-use Rattle.aud_cli.specs.declared.job.Job.TheVariants.{Check, Decide}
+use Rattle.aud_cli.specs.declared.job.Job.TheVariants.{Check, Decide, Verify}
 use Rattle.aud_cli.specs.declared.job.Command.{Command}
 use Rattle.aud_cli.specs.declared.job.Command.TheVariants.{Lines}
 use Rattle.aud_cli.specs.declared.job.Usage.{Usage}
@@ -21,10 +21,16 @@ IsBudget None (Some n) = ⊥
 IsBudget (Some t) None = ⊥
 IsBudget (Some t) (Some n) = IsNumberUpTo 1000000000000 t n
 
+-- a flag that stands
+abbrev pub is_true : Option Text → Bool
+is_true None = false
+is_true (Some t) = bytes_eq t (codes "true")
+
 -- a subcommand and its options ask for the job
 abbrev pub AsksFor : Text → List Row → Job → Type 0
 AsksFor name rows (Check order) = (name ≡ codes "check") × (first_of (codes "order") rows ≡ Some (string_bytes order))
-AsksFor name rows (Decide budget) = (name ≡ codes "decide") × IsBudget (first_of (codes "budget") rows) budget
+AsksFor name rows (Decide budget cert) = (name ≡ codes "decide") × (IsBudget (first_of (codes "budget") rows) budget × (cert ≡ is_true (first_of (codes "cert") rows)))
+AsksFor name rows Verify = name ≡ codes "verify"
 
 abbrev pub Commands : Text → List Row → Command → Type 0
 Commands name rows (Lines job) = AsksFor name rows job

@@ -3,7 +3,7 @@
 ghost use Rattle.std.specs.Prelude.{◌≡◌, IfOk, false};
 ghost use Rattle.clap.specs.Words.{app_of, rule_of};
 ghost use Rattle.clap.specs.declared.builder.command.Command.TheViews.{out-Command as fields_of};
-ghost use Rattle.aud_cli.specs.CommandLine.{bare_app, check_app, decide_app, needed_rule, opaq_app, value_rule};
+ghost use Rattle.aud_cli.specs.CommandLine.{bare_app, check_app, decide_app, verify_app, flag_rule, needed_rule, opaq_app, value_rule};
 
 use clap::{Arg, ArgAction, Command};
 use std::alloc::{AllocError, Global};
@@ -71,6 +71,12 @@ Example: opaq decide < run.jsonl, with the file of opaq --help
   $ opaq decide --budget 0 < run.jsonl
   unfinished";
 
+const VERIFY_ABOUT: &str = "Says whether a certificate after the records shows that no order does";
+
+const VERIFY_AFTER: &str =
+    "Standard input is the plan, the records, and then the lines of a certificate, as 'decide --cert' writes them
+after 'not opaque'. Nothing of the certificate is trusted.";
+
 fn value_arg<'a>(alloc: Global, name: &'a str, value_name: &'a str, help: &'a str) -> Arg<'a>
     ensures rule { rule_of result ≡ value_rule name.entry.now }
     ensures local { result.global ≡ false }
@@ -80,6 +86,16 @@ fn value_arg<'a>(alloc: Global, name: &'a str, value_name: &'a str, help: &'a st
         .value_name(value_name)
         .help(help)
         .action(ArgAction::Set)
+}
+
+fn flag_arg<'a>(alloc: Global, name: &'a str, help: &'a str) -> Arg<'a>
+    ensures rule { rule_of result ≡ flag_rule name.entry.now }
+    ensures local { result.global ≡ false }
+{
+    Arg::new(alloc, name)
+        .long(name)
+        .help(help)
+        .action(ArgAction::SetTrue)
 }
 
 fn needed_arg<'a>(alloc: Global, name: &'a str, value_name: &'a str, help: &'a str) -> Arg<'a>
@@ -118,7 +134,17 @@ fn decide_command<'a>(alloc: Global) -> Result<Command<'a>, AllocError>
     Command::new(alloc, "decide")
         .about(DECIDE_ABOUT)
         .after_help(DECIDE_AFTER)
-        .arg(budget)
+        .arg(budget)?
+        .arg(flag_arg(alloc, "cert", "Where no order does, adds a certificate"))
+}
+
+fn verify_command<'a>(alloc: Global) -> Command<'a>
+    ensures app { app_of result ≡ verify_app }
+    ensures local { (fields_of result).has_globals ≡ false }
+{
+    Command::new(alloc, "verify")
+        .about(VERIFY_ABOUT)
+        .after_help(VERIFY_AFTER)
 }
 
 fn bare_command<'a>(alloc: Global) -> Command<'a>
@@ -138,5 +164,8 @@ pub(crate) fn opaq_command<'a>(alloc: Global) -> Result<Command<'a>, AllocError>
 {
     let check = check_command(alloc)?;
     let decide = decide_command(alloc)?;
-    bare_command(alloc).subcommand(check)?.subcommand(decide)
+    bare_command(alloc)
+        .subcommand(check)?
+        .subcommand(decide)?
+        .subcommand(verify_command(alloc))
 }

@@ -71,6 +71,9 @@ pub(crate) fn end_of(said: &Said) -> Ended
         Said::OrderRefused(_)
         | Said::OrderTextRefused(_)
         | Said::PlanRefused(_)
-        | Said::RecordRefused(_, _) => Ended::Refused,
+        | Said::RecordRefused(_, _)
+        | Said::CertificateLineRefused(_, _)
+        | Said::CertificateRefused => Ended::Refused,
+        Said::Certified(_) => Ended::NotOpaque,
     }
 }

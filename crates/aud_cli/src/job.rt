@@ -8,8 +8,11 @@ ghost use Rattle.aud_cli.specs.Words.{usage_text};
 pub enum Job {
     /// Whether the order of this text shows the history opaque.
     Check(String),
-    /// Whether some order shows the history opaque; with a budget, so far as at most so many expansions show.
-    Decide(Option<u64>),
+    /// Whether some order shows the history opaque; with a budget, so far as at most so many expansions show; and whether a
+    /// certificate is written where none does.
+    Decide(Option<u64>, bool),
+    /// Whether the certificate after the records is accepted.
+    Verify,
 }
 
 /// What the words ask for.

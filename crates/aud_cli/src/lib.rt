@@ -1,6 +1,7 @@
 #![tactic(auto)]
 //! The program's words and runs: from the words to a job, and from an input's bytes to the line that is said of it.
 
+mod certificate;
 mod command_line;
 mod ended;
 mod input;

@@ -2,8 +2,10 @@
 
 ghost use Rattle.std.specs.Prelude.{IfOk, None, Some};
 ghost use Rattle.aud_history.specs.WellFormed.{IsWellFormed};
-ghost use Rattle.aud_cli.specs.Line.{CheckSays, DecideSays, QuestionSays};
+ghost use Rattle.aud_cli.specs.Line.{CheckSays, DecideSays, NoneSays, VerifySays, QuestionSays};
+ghost use Rattle.aud_witness.specs.Orders.{Opaque};
 
+use aud_cert::{Cert, check_cert, make_cert};
 use aud_event::OutOfMemory;
 use aud_facts::Sealed;
 use aud_history::History;
@@ -20,8 +22,10 @@ use std::sync::Arc;
 pub enum Question {
     /// Whether this order shows it.
     Shows(Prefix),
-    /// Whether any order does, perhaps with a budget.
-    Any(Option<u64>),
+    /// Whether any order does, perhaps with a budget, and with a certificate where none does or without.
+    Any(Option<u64>, bool),
+    /// Whether the certificate that none does is accepted.
+    Accepts(Cert),
 }
 
 fn answer_check(alloc: Global, order: Prefix, history: &History) -> Result<Said, OutOfMemory>
@@ -34,22 +38,51 @@ fn answer_check(alloc: Global, order: Prefix, history: &History) -> Result<Said,
     }
 }
 
-fn answer_explore(alloc: Global, budget: u64, shape: &Shape) -> Result<Said, OutOfMemory>
-    ensures { IfOk result (DecideSays (Some budget) shape.now.sealed.facts.plan shape.now.sealed.history) }
+fn answer_explore(
+    alloc: Global,
+    budget: u64,
+    with_certificate: bool,
+    shape: &Shape,
+) -> Result<Said, OutOfMemory>
+    ensures { IfOk result (DecideSays (Some budget) with_certificate shape.now.sealed.facts.plan shape.now.sealed.history) }
 {
     match explore(alloc, shape, &Prefix::empty(alloc), budget)? {
         Outcome::Witness(order) => Ok(Said::Verdict(Verdict::Opaque(order))),
-        Outcome::Refuted => Ok(Said::Verdict(Verdict::NotOpaque)),
+        Outcome::Refuted => said_of_none(alloc, with_certificate, shape),
         Outcome::Spent => Ok(Said::Verdict(Verdict::Unfinished)),
     }
 }
 
-fn answer_decide(alloc: Global, shape: &Shape) -> Result<Said, OutOfMemory>
-    ensures { IfOk result (DecideSays None shape.now.sealed.facts.plan shape.now.sealed.history) }
+/// What is said where no order shows the history: with a certificate, or without.
+fn said_of_none(alloc: Global, with_certificate: bool, shape: &Shape) -> Result<Said, OutOfMemory>
+    requires { Opaque shape.now.sealed.facts.plan.objects shape.now.sealed.history → ⊥ }
+    ensures { IfOk result (NoneSays with_certificate shape.now.sealed.facts.plan shape.now.sealed.history) }
+{
+    if !with_certificate {
+        return Ok(Said::Verdict(Verdict::NotOpaque));
+    }
+    match make_cert(alloc, shape)? {
+        Some(cert) => Ok(Said::Certified(cert)),
+        None => unreachable!(),
+    }
+}
+
+fn answer_decide(alloc: Global, with_certificate: bool, shape: &Shape) -> Result<Said, OutOfMemory>
+    ensures { IfOk result (DecideSays None with_certificate shape.now.sealed.facts.plan shape.now.sealed.history) }
 {
     match decide(alloc, shape)? {
         Decided::Opaque(order) => Ok(Said::Verdict(Verdict::Opaque(order))),
-        Decided::NotOpaque => Ok(Said::Verdict(Verdict::NotOpaque)),
+        Decided::NotOpaque => said_of_none(alloc, with_certificate, shape),
+    }
+}
+
+fn answer_verify(alloc: Global, cert: &Cert, shape: &Shape) -> Result<Said, OutOfMemory>
+    ensures { IfOk result (VerifySays cert.now.lines.items shape.now.sealed.facts.plan shape.now.sealed.history) }
+{
+    if check_cert(alloc, shape, cert)? {
+        Ok(Said::Verdict(Verdict::NotOpaque))
+    } else {
+        Ok(Said::CertificateRefused)
     }
 }
 
@@ -61,13 +94,17 @@ impl Question {
     {
         match self {
             Question::Shows(order) => answer_check(alloc, order, sealed.history()),
-            Question::Any(None) => {
+            Question::Any(None, with_certificate) => {
                 let shape = Shape::of(alloc, sealed)?;
-                answer_decide(alloc, &shape)
+                answer_decide(alloc, with_certificate, &shape)
             }
-            Question::Any(Some(budget)) => {
+            Question::Any(Some(budget), with_certificate) => {
                 let shape = Shape::of(alloc, sealed)?;
-                answer_explore(alloc, budget, &shape)
+                answer_explore(alloc, budget, with_certificate, &shape)
+            }
+            Question::Accepts(cert) => {
+                let shape = Shape::of(alloc, sealed)?;
+                answer_verify(alloc, &cert, &shape)
             }
         }
     }

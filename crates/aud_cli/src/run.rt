@@ -1,19 +1,22 @@
 //! Runs over the lines of an input.
 
-ghost use Rattle.std.specs.Prelude.{IfOk};
-ghost use Rattle.aud_cli.specs.Line.{FactsSay, InputSays, Line, QuestionSays, SetSays};
+ghost use Rattle.std.specs.Prelude.{◌≡◌, ◌≢◌, ◌⊎◌, ◌+◌, ◌<◌, ◌^◌, Ok, IfOk, length};
+ghost use Rattle.aud_cert.specs.CertText.{cert_read};
+ghost use Rattle.aud_cli.specs.Line.{CertifiedSays, FactsSay, InputSays, Line, QuestionSays, SetSays};
 ghost use Rattle.aud_cli.specs.Inputs.{input_read};
 ghost use Rattle.aud_cli.specs.Outcomes.{IsLine, RunOutcome};
 
+use crate::certificate::split_input;
 use crate::ended::{Cause, Ended, end_of};
 use crate::input::{Input, InputFault, read_input};
 use crate::job::Job;
 use crate::question::Question;
+use aud_cert::{CertTextFault, read_cert};
 use aud_event::OutOfMemory;
 use aud_facts::Facts;
 use aud_know::well_formed_history;
 use aud_report::{ReadFault, Said, Sink, Source, read_all, write_all, write_line};
-use aud_text::{TextFault, read_order};
+use aud_text::{TextFault, count_lines, read_order};
 use std::alloc::Global;
 use std::sync::Arc;
 
@@ -46,6 +49,54 @@ fn judge(alloc: Global, question: Question, text: &[u8]) -> Result<Said, OutOfMe
     }
 }
 
+/// What is said where a line of the certificate is refused, which begins after so many lines.
+fn refuse_line(lines: usize, refused: CertTextFault) -> Result<Said, OutOfMemory>
+    requires { (refused.fault ≡ TextFault.OutOfMemory) ⊎ (lines + refused.line < 2 ^ 64) }
+    ensures { IfOk result (λ s. (s ≡ Said.CertificateLineRefused (lines + refused.line) refused.fault) × (refused.fault ≢ TextFault.OutOfMemory)) }
+{
+    match refused.fault {
+        TextFault::OutOfMemory => Err(OutOfMemory),
+        fault => Ok(Said::CertificateLineRefused(lines + refused.line, fault)),
+    }
+}
+
+/// What is said of the facts of an input, by its certificate, which begins after so many lines.
+fn verify_by(
+    alloc: Global,
+    input: Input,
+    lines: usize,
+    certificate: &[u8],
+) -> Result<Said, OutOfMemory>
+    requires { lines + length certificate.now + 1 < 2 ^ 64 }
+    ensures { IfOk result (CertifiedSays lines (Ok input) (cert_read certificate.now)) }
+{
+    match read_cert(alloc, certificate) {
+        Ok(cert) => judge_input(alloc, Question::Accepts(cert), input),
+        Err(refused) => refuse_line(lines, refused),
+    }
+}
+
+/// What `verify` says of a text.
+fn verify(alloc: Global, text: &[u8]) -> Result<Said, OutOfMemory>
+    ensures { IfOk result (Line Job.Verify text.now) }
+{
+    let parts = split_input(alloc, text)?;
+    let before = match &parts {
+        Some(parts) => parts.before,
+        None => text,
+    };
+    let input = match read_input(alloc, before) {
+        Ok(input) => input,
+        Err(InputFault::Plan(refused)) => return Ok(Said::PlanRefused(refused)),
+        Err(InputFault::Record(line, fault)) => return Ok(Said::RecordRefused(line, fault)),
+        Err(InputFault::OutOfMemory) => return Err(OutOfMemory),
+    };
+    match parts {
+        Some(parts) => verify_by(alloc, input, parts.lines, parts.certificate),
+        None => Ok(Said::CertificateLineRefused(count_lines(text) + 1, TextFault::KeyMissing)),
+    }
+}
+
 /// What the job says of a text.
 fn said_of(alloc: Global, job: &Job, text: &[u8]) -> Result<Said, OutOfMemory>
     ensures { IfOk result (Line job.now text.now) }
@@ -56,7 +107,10 @@ fn said_of(alloc: Global, job: &Job, text: &[u8]) -> Result<Said, OutOfMemory>
             Err(TextFault::OutOfMemory) => Err(OutOfMemory),
             Err(fault) => Ok(Said::OrderTextRefused(fault)),
         },
-        Job::Decide(budget) => judge(alloc, Question::Any(*budget), text),
+        Job::Decide(budget, with_certificate) => {
+            judge(alloc, Question::Any(*budget, *with_certificate), text)
+        }
+        Job::Verify => verify(alloc, text),
     }
 }
 

@@ -2,7 +2,7 @@
 
 ghost use Rattle.std.specs.Prelude.{◌≡◌, ◌⊎◌, ℕ, List, Option, Some, IfOk, MatchOption, MatchResult, codes, map, option_map, string_bytes};
 ghost use Rattle.clap.specs.Words.{Text, Row, first_of, found_of, rows_of, kind_of, subcommand_of, subcommand_rows_of};
-ghost use Rattle.aud_cli.specs.Words.{AsksFor, Commands, Asked, IsBudget, IsNumberUpTo};
+ghost use Rattle.aud_cli.specs.Words.{AsksFor, Commands, Asked, IsBudget, IsNumberUpTo, is_true};
 ghost use Rattle.aud_cli.specs.declared.job.Command.{Command as CommandOf};
 
 use crate::command_line::opaq_command;
@@ -67,13 +67,23 @@ fn budget_of(matches: &ArgMatches<'_>) -> Option<Option<u64>>
     }
 }
 
+/// Whether the flag stands.
+fn has_flag(matches: &ArgMatches<'_>, id: &str) -> bool
+    ensures { result ≡ is_true (first_of id.now (rows_of (found_of matches.now))) }
+{
+    match text_at(matches, id) {
+        Some(text) => text == "true",
+        None => false,
+    }
+}
+
 fn decide_job(matches: &ArgMatches<'_>) -> Option<Command>
     ensures { MatchOption result
         ((command : CommandOf) → Commands (codes "decide") (rows_of (found_of matches.now)) command → ⊥)
         (Commands (codes "decide") (rows_of (found_of matches.now))) }
 {
     match budget_of(matches) {
-        Some(budget) => Some(Command::Lines(Job::Decide(budget))),
+        Some(budget) => Some(Command::Lines(Job::Decide(budget, has_flag(matches, "cert")))),
         None => None,
     }
 }
@@ -92,6 +102,8 @@ fn command_of(
         check_job(alloc, matches)
     } else if name == "decide" {
         Ok(decide_job(matches))
+    } else if name == "verify" {
+        Ok(Some(Command::Lines(Job::Verify)))
     } else {
         Ok(None)
     }

@@ -10,6 +10,7 @@ use Rattle.aud_text.specs.Faults.{fault_number, inner_number}
 use Rattle.aud_text.specs.Orders.{order_text}
 use Rattle.aud_text.specs.declared.fault.TextFault.{TextFault}
 use Rattle.aud_witness.specs.OrderFaultNumbers.{order_fault_number, order_fault_transaction}
+use Rattle.aud_cert.specs.Written.{cert_text}
 use Rattle.aud_report.specs.declared.report.ReportFault.{ReportFault}
 use Rattle.aud_report.specs.declared.report.ReportFault.TheVariants.{OutputFailed, OutOfMemory}
 use Rattle.aud_report.specs.declared.said.Said.{Said}
@@ -51,10 +52,18 @@ words_of (said.OrderRefused e) = codes "order refused " ++ decimal (order_fault_
 words_of (said.OrderTextRefused e) = codes "order text refused " ++ fault_text e
 words_of (said.PlanRefused e) = codes "plan line " ++ decimal e.line ++ codes " refused " ++ fault_text e.fault
 words_of (said.RecordRefused line e) = codes "record line " ++ decimal line ++ codes " refused " ++ fault_text e
+words_of (said.CertificateLineRefused line e) = codes "certificate line " ++ decimal line ++ codes " refused " ++ fault_text e
+words_of said.CertificateRefused = codes "certificate refused"
+words_of (said.Certified cert) = codes "not opaque"
 
--- the line that is printed
+-- the text of the certificate, where one is said
+abbrev pub certificate_of : Said → List ℕ
+certificate_of (said.Certified cert) = cert_text cert.lines.items
+certificate_of _ = []
+
+-- what is printed: the line, and the certificate after it
 abbrev pub line_of : Said → List ℕ
-line_of s = words_of s ++ 10 ∷ []
+line_of s = words_of s ++ 10 ∷ certificate_of s
 
 abbrev pub report_fault_number : ReportFault → ℕ
 report_fault_number OutputFailed = 1

@@ -2,8 +2,9 @@
 
 ghost use Rattle.std.specs.Prelude.{◌≡◌, ◌++◌, ℕ, List, OnOk, IfOk, codes, decimal, Option, option_map};
 ghost use Rattle.aud_text.specs.Orders.{order_text};
-ghost use Rattle.aud_report.specs.Lines.{fault_text, inner_text, conflict_words, ill_formed_words, verdict_words, words_of, line_of};
+ghost use Rattle.aud_report.specs.Lines.{fault_text, inner_text, conflict_words, ill_formed_words, verdict_words, words_of, certificate_of, line_of};
 
+use aud_cert::{Cert, write_cert};
 use aud_event::OutOfMemory;
 use aud_facts::Kind;
 use aud_history::Rule;
@@ -26,6 +27,12 @@ pub enum Said {
     PlanRefused(PlanTextFault),
     /// A line after the plan is no record or end mark. Lines are counted over the whole input, from 1.
     RecordRefused(usize, TextFault),
+    /// A line of the certificate is refused. Lines are counted over the whole input, from 1.
+    CertificateLineRefused(usize, TextFault),
+    /// The certificate is not accepted.
+    CertificateRefused,
+    /// No order shows the history, and the certificate says why.
+    Certified(Cert),
 }
 
 fn push_words<A: Allocator>(text: &mut Vec<u8, A>, words: &str) -> Result<(), OutOfMemory>
@@ -137,6 +144,18 @@ fn push_record_fault<A: Allocator>(
     Ok(())
 }
 
+fn push_certificate_fault<A: Allocator>(
+    text: &mut Vec<u8, A>,
+    line: usize,
+    fault: TextFault,
+) -> Result<(), OutOfMemory>
+    ensures { OnOk result (text.new.items ≡ text.old.items ++ words_of (Said.CertificateLineRefused line fault)) }
+{
+    push_number(text, "certificate line ", line)?;
+    push_fault(text, " refused ", fault)?;
+    Ok(())
+}
+
 fn push_opaque<A: Allocator + Clone + Drop, B: Allocator>(
     alloc: A,
     text: &mut Vec<u8, A>,
@@ -181,18 +200,35 @@ fn push_said<A: Allocator + Clone + Drop>(
         Said::OrderTextRefused(fault) => push_fault(text, "order text refused ", *fault),
         Said::PlanRefused(refused) => push_plan_fault(text, *refused),
         Said::RecordRefused(line, fault) => push_record_fault(text, *line, *fault),
+        Said::CertificateLineRefused(line, fault) => push_certificate_fault(text, *line, *fault),
+        Said::CertificateRefused => push_words(text, "certificate refused"),
+        Said::Certified(_) => push_words(text, "not opaque"),
     }
 }
 
-/// The line that says it, with its line feed. Numbers stand in decimal with no leading zeros.
-pub fn write_line<A: Allocator + Clone + Drop>(
+/// Adds the text of the certificate, where one is said.
+fn push_certificate<A: Allocator + Copy>(
     alloc: A,
+    text: &mut Vec<u8, A>,
     said: &Said,
-) -> Result<Vec<u8, A>, OutOfMemory>
+) -> Result<(), OutOfMemory>
+    ensures { OnOk result (text.new.items ≡ text.old.items ++ certificate_of said.now) }
+{
+    if let Said::Certified(cert) = said {
+        let lines = write_cert(alloc, cert)?;
+        text.extend_from_slice(&lines)?;
+    }
+    Ok(())
+}
+
+/// The line that says it, with its line feed, and the certificate's lines where one is said. Numbers stand in decimal with no
+/// leading zeros.
+pub fn write_line<A: Allocator + Copy>(alloc: A, said: &Said) -> Result<Vec<u8, A>, OutOfMemory>
     ensures { IfOk result (λ text. text.items ≡ line_of said.now) }
 {
-    let mut text = Vec::new(alloc.clone()?);
+    let mut text = Vec::new(alloc);
     push_said(alloc, &mut text, said)?;
     text.push(b'\n')?;
+    push_certificate(alloc, &mut text, said)?;
     Ok(text)
 }

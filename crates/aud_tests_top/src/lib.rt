@@ -2,6 +2,8 @@
 #![tactic(auto)]
 
 #[cfg(test)]
+mod certified;
+#[cfg(test)]
 mod devices;
 #[cfg(test)]
 mod fixtures;

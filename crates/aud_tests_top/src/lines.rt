@@ -10,7 +10,7 @@ use std::alloc::{AllocError, Global};
 use std::test::Fail;
 
 /// What the job says of the input, and its status.
-fn said(alloc: Global, job: &Job, input: &[u8]) -> Result<(String, u8), AllocError> {
+pub(crate) fn said(alloc: Global, job: &Job, input: &[u8]) -> Result<(String, u8), AllocError> {
     let mut source = MemorySource::new(Vec::from_slice(alloc, input)?);
     let mut sink = MemorySink::new(alloc);
     let ended = run_lines(alloc, job, &mut source, &mut sink);
@@ -271,7 +271,7 @@ fn one_of_three_orders(rt: HostRuntime) -> Result<(), Fail> {
     let alloc = rt.alloc();
     let (line, status) = said(
         alloc,
-        &Job::Decide(Some(3)),
+        &Job::Decide(Some(3), false),
         PENDING_COMMIT_IS_UNSEEN.as_bytes(),
     )?;
     let orders = ["opaque 1a 2c\n", "opaque 2c 1c\n", "opaque 2c 1a\n"];

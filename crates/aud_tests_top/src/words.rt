@@ -22,7 +22,7 @@ fn asked(alloc: Global, line: &str) -> Result<Result<Command, Usage>, AllocError
 /// The budget of the search that the line asks for, if it asks for one.
 fn budget_of(alloc: Global, line: &str) -> Result<Option<Option<u64>>, AllocError> {
     match asked(alloc, line)? {
-        Ok(Command::Lines(Job::Decide(budget))) => Ok(Some(budget)),
+        Ok(Command::Lines(Job::Decide(budget, _))) => Ok(Some(budget)),
         _ => Ok(None),
     }
 }
@@ -39,6 +39,39 @@ fn budgets(rt: HostRuntime) -> Result<(), Fail> {
     ];
     for (line, budget) in &cases {
         assert_eq!(rt; budget_of(rt.alloc(), *line)?, Some(*budget), "{line}");
+    }
+    Ok(())
+}
+
+/// Whether the line asks for a search with a certificate, for one without, or for another run.
+#[derive(Clone, Copy, PartialEq, Eq, Debug)]
+enum Certified {
+    With,
+    Without,
+    Verify,
+    Other,
+}
+
+fn search_asked(alloc: Global, line: &str) -> Result<Certified, AllocError> {
+    match asked(alloc, line)? {
+        Ok(Command::Lines(Job::Decide(_, true))) => Ok(Certified::With),
+        Ok(Command::Lines(Job::Decide(_, false))) => Ok(Certified::Without),
+        Ok(Command::Lines(Job::Verify)) => Ok(Certified::Verify),
+        _ => Ok(Certified::Other),
+    }
+}
+
+#[test]
+fn certificates_are_asked_for(rt: HostRuntime) -> Result<(), Fail> {
+    let cases = [
+        ("opaq decide", Certified::Without),
+        ("opaq decide --cert", Certified::With),
+        ("opaq decide --cert --budget 5", Certified::With),
+        ("opaq verify", Certified::Verify),
+        ("opaq check --cert", Certified::Other),
+    ];
+    for (line, wanted) in &cases {
+        assert_eq!(rt; search_asked(rt.alloc(), *line)?, *wanted, "{line}");
     }
     Ok(())
 }
@@ -64,7 +97,8 @@ fn texts_for_the_user(rt: HostRuntime) -> Result<(), Fail> {
         ("opaq decide --budget 1000000000001", "budget"),
         ("opaq decide --order 1c", "unexpected argument"),
         ("opaq audit --nodes 2", "unrecognized subcommand"),
-        ("opaq verify", "unrecognized subcommand"),
+        ("opaq verify 1c", "unexpected argument"),
+        ("opaq verify --help", "certificate"),
         ("opaq --help", "Commands:"),
         ("opaq --help", "Example: transaction 1 writes 1 to x"),
         ("opaq --version", "opaq 0.1.0, proved with rattle-kit-"),

@@ -1,0 +1,11 @@
+use Rattle.std.proofs.Common.{None}
+use Rattle.aud_cli.specs.Line.{NoneSays, DecideSays}
+use Rattle.aud_cli.proofs.HistoryLemmas.{none-decides, if_ok}
+use Rattle.aud_cli.proofs.question.answer_decide.Goals as goal
+
+pub returns-in-NotOpaque : goal.returns-in-NotOpaque
+returns-in-NotOpaque c =
+    let plan = c.args.shape.now.sealed.facts.plan in
+    let h = c.args.shape.now.sealed.history in
+    if_ok (NoneSays c.args.with_certificate plan h) (DecideSays None c.args.with_certificate plan h) c.said_of_none.result
+    (λ s says. none-decides None c.args.with_certificate plan h s says) c.said_of_none.ensures
