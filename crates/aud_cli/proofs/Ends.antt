@@ -8,7 +8,7 @@ use Rattle.aud_report.specs.declared.said.Said.TheVariants as said
 use Rattle.aud_cli.specs.declared.ended.Cause.{Cause}
 use Rattle.aud_cli.specs.declared.ended.Ended.{Ended}
 use Rattle.aud_cli.specs.declared.ended.Ended.TheVariants as ended
-use Rattle.aud_cli.specs.Outcomes.{verdict_ends, ended_by}
+use Rattle.aud_cli.specs.Outcomes.{Seen, Whole, RunOutcome, verdict_ends, ended_by}
 
 verdict-ends : {X : Type 0} (v : Verdict X) (cause : Cause) → verdict_ends v ≡ ended.Failed cause → ⊥
 verdict-ends (verdict.Opaque order) cause is = absurd (cc)
@@ -26,3 +26,14 @@ line-ends (said.OrderRefused e) cause is = absurd (cc)
 line-ends (said.OrderTextRefused e) cause is = absurd (cc)
 line-ends (said.PlanRefused e) cause is = absurd (cc)
 line-ends (said.RecordRefused line e) cause is = absurd (cc)
+line-ends (said.CertificateLineRefused line e) cause is = absurd (cc)
+line-ends said.CertificateRefused cause is = absurd (cc)
+line-ends (said.Certified cert) cause is = absurd (cc)
+
+-- a run that said a whole line has left what a run leaves that ends so
+pub whole-outcome : (May : Said → Type 0) (before after : Seen) (e : Ended) → Whole May before after e → RunOutcome May before after e
+whole-outcome May before after ended.Opaque whole = whole
+whole-outcome May before after ended.NotOpaque whole = whole
+whole-outcome May before after ended.Unfinished whole = whole
+whole-outcome May before after ended.Refused whole = whole
+whole-outcome May before after (ended.Failed cause) whole = absurd (line-ends whole.said cause whole.ends)

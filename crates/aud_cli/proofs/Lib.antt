@@ -1,6 +1,5 @@
 pub mod Checked
 pub mod Read
-pub mod Ending
 pub mod Bounds
 pub mod Splitting
 pub mod HistoryLemmas

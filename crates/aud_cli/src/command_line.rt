@@ -15,12 +15,13 @@ const ABOUT: &str =
     "Says whether a run of a transactional memory was opaque, from its stamped records";
 
 const AFTER: &str =
-    r#"Standard input is the plan of the run, then its records, a JSON value a line. One line of output says
-what was found, and so does the exit status:
+    r#"Standard input is the plan of the run, then its records, a JSON value a line, and for verify a certificate
+after them. One line of output says what was found (decide --cert adds a certificate), and so does the exit
+status:
   0  opaque
   1  not opaque
   2  unfinished
-  3  the input, the history or the order is refused; the line says why
+  3  the input, the history, the order or the certificate is refused; the line says why
   4  out of memory, or input or output failed; standard error says which
   64 these words are not understood, or a text as this one was asked for
 
@@ -60,8 +61,9 @@ Fault 4: transaction 2 stands before 1, which was completed before 2 began.";
 const DECIDE_ABOUT: &str = "Says whether any order of the transactions shows the run opaque";
 
 const DECIDE_AFTER: &str =
-    "Where the run is opaque the line has an order that shows it. With a budget the search gives up after
-so many expanded beginnings of orders, and says 'unfinished'; a number up to 1,000,000,000,000.
+    r#"Where the run is opaque the line has an order that shows it. With a budget the search gives up after
+so many expanded beginnings of orders, and says 'unfinished'; a number up to 1,000,000,000,000. With --cert
+the lines of a certificate follow 'not opaque', for 'opaq verify'.
 
 Example: opaq decide < run.jsonl, with the file of opaq --help
 
@@ -69,13 +71,39 @@ Example: opaq decide < run.jsonl, with the file of opaq --help
   opaque 1c 2c
 
   $ opaq decide --budget 0 < run.jsonl
-  unfinished";
+  unfinished
+
+If transaction 2 reads 0, which was overwritten before it began, no order shows the run:
+
+  $ sed 's/"ans":1/"ans":0/' run.jsonl | opaq decide --cert
+  not opaque
+  {"cert":2}
+  {"by":"kids","p":"1c"}
+  {"by":"kids","p":"none"}"#;
 
 const VERIFY_ABOUT: &str = "Says whether a certificate after the records shows that no order does";
 
 const VERIFY_AFTER: &str =
-    "Standard input is the plan, the records, and then the lines of a certificate, as 'decide --cert' writes them
-after 'not opaque'. Nothing of the certificate is trusted.";
+    r#"Standard input is the plan, the records, and then the lines of a certificate, as 'opaq decide --cert' writes
+them after 'not opaque'. A line says of one beginning of orders why no order that begins so shows the run, by the
+lines before it; the last says so of all orders. Nothing of it is trusted: the line is 'not opaque' where all of the
+certificate holds, and else 'certificate refused', which says nothing of the run.
+
+Example: the file of opaq --help, but transaction 2 reads 0, which was overwritten before it began
+
+  $ sed 's/"ans":1/"ans":0/' run.jsonl > stale.jsonl
+  $ opaq decide --cert < stale.jsonl > found
+  $ sed 1d found
+  {"cert":2}
+  {"by":"kids","p":"1c"}
+  {"by":"kids","p":"none"}
+  $ sed 1d found | cat stale.jsonl - | opaq verify
+  not opaque
+
+After 1 transaction 2 cannot read 0, and it cannot come first. Without the line of '1c':
+
+  $ { cat stale.jsonl; echo '{"cert":1}'; echo '{"by":"kids","p":"none"}'; } | opaq verify
+  certificate refused"#;
 
 fn value_arg<'a>(alloc: Global, name: &'a str, value_name: &'a str, help: &'a str) -> Arg<'a>
     ensures rule { rule_of result ≡ value_rule name.entry.now }
