@@ -172,6 +172,38 @@ pub const BOTH_FIND_IT_ABSENT: &str = r#"{"format":1,"logs":1,"objects":1}
 {"end":8,"log":0}
 "#;
 
+/// Transaction 1 reads 0 while 2 reads 1, which nobody wrote.
+pub const READ_OF_NOTHING: &str = r#"{"format":1,"logs":1,"objects":1}
+{"kind":"register","name":"x","open":0}
+{"at":0,"ev":"inv","log":0,"ob":"x","op":"read","stamp":0,"tx":1}
+{"at":1,"ev":"inv","log":0,"ob":"x","op":"read","stamp":1,"tx":2}
+{"ans":1,"at":2,"ev":"ret","log":0,"ob":"x","op":"read","stamp":2,"tx":2}
+{"ans":0,"at":3,"ev":"ret","log":0,"ob":"x","op":"read","stamp":3,"tx":1}
+{"at":4,"ev":"tryc","log":0,"stamp":4,"tx":1}
+{"at":5,"ev":"commit","log":0,"stamp":5,"tx":1}
+{"at":6,"ev":"tryc","log":0,"stamp":6,"tx":2}
+{"at":7,"ev":"commit","log":0,"stamp":7,"tx":2}
+{"end":8,"log":0}
+"#;
+
+/// Transactions 1 and 2 count one each while 3 gets 3.
+pub const BAD_COUNT: &str = r#"{"format":1,"logs":1,"objects":1}
+{"kind":"counter","name":"c","open":0}
+{"at":0,"ev":"inv","log":0,"ob":"c","op":"inc","stamp":0,"tx":1}
+{"at":1,"ev":"inv","log":0,"ob":"c","op":"inc","stamp":1,"tx":2}
+{"at":2,"ev":"inv","log":0,"ob":"c","op":"get","stamp":2,"tx":3}
+{"ans":3,"at":3,"ev":"ret","log":0,"ob":"c","op":"get","stamp":3,"tx":3}
+{"at":4,"ev":"tryc","log":0,"stamp":4,"tx":3}
+{"at":5,"ev":"commit","log":0,"stamp":5,"tx":3}
+{"ans":"done","at":6,"ev":"ret","log":0,"ob":"c","op":"inc","stamp":6,"tx":1}
+{"at":7,"ev":"tryc","log":0,"stamp":7,"tx":1}
+{"at":8,"ev":"commit","log":0,"stamp":8,"tx":1}
+{"ans":"done","at":9,"ev":"ret","log":0,"ob":"c","op":"inc","stamp":9,"tx":2}
+{"at":10,"ev":"tryc","log":0,"stamp":10,"tx":2}
+{"at":11,"ev":"commit","log":0,"stamp":11,"tx":2}
+{"end":12,"log":0}
+"#;
+
 /// An answer that nobody asked for: this history is not well-formed.
 pub const ANSWER_UNASKED: &str = r#"{"format":1,"logs":1,"objects":1}
 {"kind":"register","name":"x","open":0}
