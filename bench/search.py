@@ -13,7 +13,6 @@ import glob
 import json
 import os
 import random
-import resource
 import subprocess
 import sys
 import tempfile
@@ -146,22 +145,35 @@ def small():
     yield "16 writers of an object each among 256 and a bad read", at_once(many, apart + [("x", "read", None, -1)])
 
 
+# A process begins with the most memory of the one that began it, so a small one stands between.
+BETWEEN = """
+import os, sys
+_, status, used = os.wait4(os.posix_spawn(sys.argv[2], sys.argv[2:], os.environ), 0)
+os.write(int(sys.argv[1]), f"{1000 * (used.ru_utime + used.ru_stime)} {used.ru_maxrss / 1024}".encode())
+"""
+
+
 def timed(words, text, wanted, runs=3):
-    """The least processor time of some runs, in milliseconds, and the most memory so far, in megabytes."""
-    best = None
-    with tempfile.TemporaryFile() as file:
+    """The least processor time of some runs, in milliseconds, and the most memory, in megabytes: no less than 8, which the process
+    that begins the program takes."""
+    figures = []
+    with tempfile.TemporaryFile() as file, tempfile.TemporaryFile() as told:
         file.write(text.encode())
         for _ in range(runs):
             file.seek(0)
-            child = subprocess.Popen(words, stdin=file, stdout=subprocess.PIPE)
-            told = child.stdout.read().decode()
-            _, _, used = os.wait4(child.pid, 0)
-            spent = 1000 * (used.ru_utime + used.ru_stime)
-            if not told.startswith(wanted):
-                sys.exit(f"{words[:2]}: {told[:100]}, wanted {wanted}")
-            if best is None or spent < best[0]:
-                best = (spent, used.ru_maxrss / 1024)
-    return best
+            told.seek(0)
+            told.truncate()
+            readable, writable = os.pipe()
+            between = [sys.executable, "-S", "-E", "-c", BETWEEN, str(writable), *words]
+            subprocess.run(between, stdin=file, stdout=told, pass_fds=[writable], check=True)
+            figures.append([float(figure) for figure in os.read(readable, 100).split()])
+            os.close(readable)
+            os.close(writable)
+            told.seek(0)
+            line = told.readline().decode()
+            if not line.startswith(wanted):
+                sys.exit(f"{words[:2]}: {line[:100]}, wanted {wanted}")
+    return min(spent for spent, _ in figures), max(used for _, used in figures)
 
 
 def tell(name, figures, beside=""):
@@ -190,4 +202,5 @@ def main():
                     tell(name, figures, f"; check {check[0]:.0f} ms, {figures[0] / check[0]:.2f} times")
 
 
-main()
+if __name__ == "__main__":
+    main()
