@@ -59,9 +59,9 @@ DecideSays budget cert plan h (said.Verdict (verdict.Opaque p)) = Shows plan.obj
 DecideSays budget cert plan h (said.Verdict verdict.Unfinished) = IsSpent budget plan h
 DecideSays budget cert plan h s = NoneSays cert plan h s
 
--- verify: `not opaque` where the certificate is accepted, else that it is refused
+-- verify: `not opaque` where the certificate is accepted, and then no order shows the history; else that it is refused
 abbrev pub VerifySays : List CertLineOf → Answers
-VerifySays lines plan h (said.Verdict verdict.NotOpaque) = IsAccepted plan.objects h lines
+VerifySays lines plan h (said.Verdict verdict.NotOpaque) = IsAccepted plan.objects h lines × (Opaque plan.objects h → ⊥)
 VerifySays lines plan h said.CertificateRefused = IsAccepted plan.objects h lines → ⊥
 VerifySays lines plan h _ = ⊥
 

@@ -1,0 +1,13 @@
+use Rattle.aud_order.specs.Shapes.{plan_of, objects_of, history_of}
+use Rattle.aud_accept.proofs.Refutes.{accepted-refuted}
+use Rattle.aud_cli.proofs.HistoryLemmas.{none-from_refuted}
+use Rattle.aud_cli.proofs.question.answer_verify.Goals as goal
+
+pub returns-then-branch : goal.returns-then-branch
+returns-then-branch c =
+    let shape = c.args.shape.now in
+    let accepted = c.in_ok-check_cert.ensures.0 c.if-branch.true in (
+      accepted,
+      none-from_refuted (objects_of shape) (history_of shape)
+      (accepted-refuted (plan_of shape) (history_of shape) c.args.cert.now.lines.items c.history.ensures.sound c.plan.ensures.sound accepted),
+    )
