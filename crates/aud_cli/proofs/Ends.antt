@@ -1,6 +1,5 @@
 -- How jobs end that say a line.
 use Rattle.std.specs.Prelude.{◌≡◌}
-use Rattle.std.proofs.Common.{sym, ◌∙◌}
 use Rattle.aud_know.specs.declared.verdict.Verdict.{Verdict}
 use Rattle.aud_know.specs.declared.verdict.Verdict.TheVariants as verdict
 use Rattle.aud_report.specs.declared.said.Said.{Said}

@@ -1,4 +1,4 @@
-use Rattle.std.specs.Prelude.{◌≡◌, ◌+◌, Ok, Err, IfOk}
+use Rattle.std.specs.Prelude.{◌≡◌, ◌+◌, Ok, IfOk}
 use Rattle.std.proofs.Common.{sym, subst, inl, inr, arith}
 use Rattle.aud_cert.specs.CertText.{cert_read}
 use Rattle.aud_text.specs.declared.fault.TextFault.TheVariants as fault
