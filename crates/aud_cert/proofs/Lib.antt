@@ -1,4 +1,4 @@
-pub mod Writing
+pub mod Recording
 pub mod Reading
 pub mod Parts
 pub mod Bytes

@@ -1,4 +1,4 @@
-pub mod Made
+pub mod Recorded
 pub mod LineText
 pub mod CertText
 pub mod Written

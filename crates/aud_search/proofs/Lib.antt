@@ -8,3 +8,4 @@ pub mod Readiness
 pub mod Spotting
 pub mod Keeping
 pub mod Passing
+pub mod Recording

@@ -1,8 +1,8 @@
 -- What a memo keeps true.
-use Rattle.std.specs.Prelude.{◌≡◌, ℕ, zero, suc, ◌-◌, ◌<◌, Bool, true, false, ◌||◌, nat_eq, List, [], ◌∷◌, ◌++◌, map, length, take, reverse, Option, Some, None, slice_get, refl, ◌⊎◌}
+use Rattle.std.specs.Prelude.{◌≡◌, ℕ, zero, suc, ◌+◌, ◌-◌, ◌<◌, Bool, true, false, ◌||◌, nat_eq, List, [], ◌∷◌, ◌++◌, map, length, take, reverse, Option, Some, None, IfSome, slice_get, refl, ◌⊎◌}
 use Rattle.std.specs.List.{Contains}
 use Rattle.std.proofs.Common.{sym, ◌∙◌, ap, subst, inl, inr, arith, get_or, set}
-use Rattle.std.proofs.lemmas.List.{append-nil, reverse-append, length-map}
+use Rattle.std.proofs.lemmas.List.{append-nil, reverse-append, length-map, length-append}
 use Rattle.aud_event.proofs.Bools.{or_right, true_or, nat_eq-refl}
 use Rattle.aud_object.specs.Objects.{ObjState}
 use Rattle.aud_object.specs.Replayed.{replayed}
@@ -18,15 +18,16 @@ use Rattle.aud_witness.proofs.Beginnings.{is_named-append}
 use Rattle.aud_witness.proofs.BridgeSteps.{set-named}
 use Rattle.aud_witness.proofs.Good.{IsGood-push}
 use Rattle.aud_order.specs.Shapes.{ShapeOf, plan_of, objects_of, history_of}
-use Rattle.aud_order.specs.Cursors.{CursorOf}
+use Rattle.aud_order.specs.Cursors.{CursorOf, IsGoodAt}
 use Rattle.aud_order.specs.Silent.{silent_fate}
 use Rattle.aud_order.proofs.Lists.{take-push}
 use Rattle.aud_order.proofs.Moves.{shown-same, step-states}
 use Rattle.aud_search.specs.declared.choice.Choice.{Choice}
 use Rattle.aud_search.specs.declared.memo.Lead.{Lead}
 use Rattle.aud_search.specs.Kept.{IsMoreOf, LeadsTo}
-use Rattle.aud_search.specs.Spots.{EntryOf, AreWith}
+use Rattle.aud_search.specs.Spots.{EntryOf, AreWith, IsKeptAs}
 use Rattle.aud_search.specs.Memos.{MemoOf, states_behind, Names, NameWay, IsDead, IsLead, IsTrueMemo, IsGrown, IsStep, IsNext, IsAfter}
+use Rattle.aud_search.specs.Recorders.{IsNotedAlike}
 use Rattle.aud_search.proofs.Refuting.{next-shown}
 
 -- # Lists
@@ -51,7 +52,7 @@ way-more shape all more [] p way = tt
 way-more shape all more (n ∷ ns) p way = (names-more all more n (states_behind shape p) way.0, way-more shape all more ns (take (length p - 1) p) way.1)
 
 -- the way stays named
-pub way-grown : (shape : ShapeOf) (old new : MemoOf) (ns : List (Option ℕ)) (p : List Decision) → IsGrown old new → NameWay shape old.states ns p → NameWay shape new.states ns p
+pub way-grown : {V : Type 0} (shape : ShapeOf) (old new : MemoOf V) (ns : List (Option ℕ)) (p : List Decision) → IsGrown old new → NameWay shape old.states ns p → NameWay shape new.states ns p
 way-grown shape old new ns p grown way = subst (λ l. NameWay shape l ns p) (sym grown.states) (way-more shape old.states grown.more ns p way)
 
 -- the way is one list longer
@@ -70,57 +71,117 @@ way-back shape all n last below less p way is =
 
 -- # What is true stays true
 
-pub true-none : (shape : ShapeOf) (all : List (List ObjState)) (entries : List EntryOf) (leads : List Lead) → entries ≡ [] → leads ≡ [] → IsTrueMemo shape all entries leads
-true-none shape all entries leads none empty = record {
-  dead = λ e there. let (k, inside, is) = subst (λ (l : List EntryOf). Contains l e) none there in absurd (omega arith);
+no-first : {X : Type 0} (k : ℕ) (x : X) → slice_get [] k ≡ Some x → ⊥
+no-first k x at = absurd (cc)
+
+pub true-none : {N : Type 0} (shape : ShapeOf) (all : List (List ObjState)) (noted : N → List Decision → Type 0) (entries : List EntryOf) (notes : List N) (leads : List Lead) → entries ≡ [] → notes ≡ [] → leads ≡ [] →
+    IsTrueMemo shape all noted entries notes leads
+true-none shape all noted entries notes leads none unnoted empty = record {
+  even = ap length unnoted ∙ sym (ap length none);
+  dead = λ k e there. let clash : slice_get [] k ≡ Some e = ap (λ (l : List EntryOf). slice_get l k) (sym none) ∙ there in absurd (no-first k e clash);
   true_leads = λ e there. let (k, inside, is) = subst (λ (l : List Lead). Contains l e) empty there in absurd (omega arith);
 }
 
-true-more : (shape : ShapeOf) (all more : List (List ObjState)) (entries : List EntryOf) (leads : List Lead) → IsTrueMemo shape all entries leads → IsTrueMemo shape (all ++ more) entries leads
-true-more shape all more entries leads sound = record {
-  dead = λ e there. let d = sound.dead e there in record { path = d.path; good = d.good; refuted = d.refuted; placed = d.placed; states = get-front all more e.states (states_behind shape d.path) d.states };
+true-more : {N : Type 0} (shape : ShapeOf) (all more : List (List ObjState)) (noted : N → List Decision → Type 0) (entries : List EntryOf) (notes : List N) (leads : List Lead) → IsTrueMemo shape all noted entries notes leads →
+    IsTrueMemo shape (all ++ more) noted entries notes leads
+true-more shape all more noted entries notes leads sound = record {
+  even = sound.even;
+  dead = λ k e there. let (note, (at, d)) = sound.dead k e there in
+      (note, (at, record { path = d.path; good = d.good; refuted = d.refuted; placed = d.placed; states = get-front all more e.states (states_behind shape d.path) d.states; noted = d.noted }));
   true_leads = λ l there. let t = sound.true_leads l there in record { before = t.before; after = t.after; from = get-front all more l.from t.before t.from; to = get-front all more l.to t.after t.to; runs = t.runs };
 }
 
 -- once states came after the others
-pub true-states : (shape : ShapeOf) (old new : List (List ObjState)) (entries : List EntryOf) (leads : List Lead) → IsMoreOf old new → IsTrueMemo shape old entries leads → IsTrueMemo shape new entries leads
-true-states shape old new entries leads (more, grown) sound = subst (λ l. IsTrueMemo shape l entries leads) (sym grown) (true-more shape old more entries leads sound)
+pub true-states : {N : Type 0} (shape : ShapeOf) (old new : List (List ObjState)) (noted : N → List Decision → Type 0) (entries : List EntryOf) (notes : List N) (leads : List Lead) → IsMoreOf old new → IsTrueMemo shape old noted entries notes leads →
+    IsTrueMemo shape new noted entries notes leads
+true-states shape old new noted entries notes leads (more, grown) sound = subst (λ l. IsTrueMemo shape l noted entries notes leads) (sym grown) (true-more shape old more noted entries notes leads sound)
 
-pub grown-states : (shape : ShapeOf) (seen : MemoOf) (old new : List (List ObjState)) → record { shape = shape; states = old } ≡ seen → IsMoreOf old new → IsGrown seen (record { shape = shape; states = new })
-grown-states shape seen old new is (more, grown) = record {
-  shape = ap (λ (m : MemoOf). m.shape) is;
-  more = more;
-  states = grown ∙ ap (λ (m : MemoOf). m.states ++ more) is;
+-- once the recorder heard of more
+pub true-noted : {N : Type 0} (shape : ShapeOf) (all : List (List ObjState)) (old new : N → List Decision → Type 0) (entries : List EntryOf) (notes : List N) (leads : List Lead) → ((note : N) (p : List Decision) → old note p → new note p) →
+    IsTrueMemo shape all old entries notes leads → IsTrueMemo shape all new entries notes leads
+true-noted shape all old new entries notes leads stays sound = record {
+  even = sound.even;
+  dead = λ k e there. let (note, (at, d)) = sound.dead k e there in
+      (note, (at, record { path = d.path; good = d.good; refuted = d.refuted; placed = d.placed; states = d.states; noted = stays note d.path d.noted }));
+  true_leads = sound.true_leads;
 }
 
-pub grown-itself : (m : MemoOf) → IsGrown m m
-grown-itself m = record { shape = refl; more = []; states = sym (append-nil m.states) }
+pub grown-states : {V : Type 0} (shape : ShapeOf) (recorder : V) (seen : MemoOf V) (old new : List (List ObjState)) → record { shape = shape; states = old; recorder = recorder } ≡ seen → IsMoreOf old new →
+    IsGrown seen (record { shape = shape; states = new; recorder = recorder })
+grown-states shape recorder seen old new is (more, grown) = record {
+  shape = ap (λ (m : MemoOf _). m.shape) is;
+  more = more;
+  states = grown ∙ ap (λ (m : MemoOf _). m.states ++ more) is;
+  recorder = ap (λ (m : MemoOf _). m.recorder) is;
+}
+
+pub grown-itself : {V : Type 0} (m : MemoOf V) → IsGrown m m
+grown-itself m = record { shape = refl; more = []; states = sym (append-nil m.states); recorder = refl }
 
 -- once the entries are forgotten
-pub true-forgotten : (shape : ShapeOf) (all : List (List ObjState)) (old new : List EntryOf) (leads : List Lead) → new ≡ [] → IsTrueMemo shape all old leads → IsTrueMemo shape all new leads
-true-forgotten shape all old new leads none sound = record {
-  dead = λ e there. let (k, inside, is) = subst (λ (l : List EntryOf). Contains l e) none there in absurd (omega arith);
+pub true-forgotten : {N : Type 0} (shape : ShapeOf) (all : List (List ObjState)) (noted : N → List Decision → Type 0) (old new : List EntryOf) (notes left : List N) (leads : List Lead) → new ≡ [] → left ≡ [] → IsTrueMemo shape all noted old notes leads →
+    IsTrueMemo shape all noted new left leads
+true-forgotten shape all noted old new notes left leads none unnoted sound =
+    let fresh = true-none shape all noted new left [] none unnoted refl in
+    record { even = fresh.even; dead = fresh.dead; true_leads = sound.true_leads }
+
+-- what stands in a list with one after it
+last-at : {X : Type 0} (xs : List X) (x y : X) (k : ℕ) → slice_get (xs ++ x ∷ []) k ≡ Some y → (slice_get xs k ≡ Some y) ⊎ ((k ≡ length xs) × (y ≡ x))
+last-at [] x y zero at = inr (refl, (let same : x ≡ y = cc in sym same))
+last-at [] x y (suc k) at = absurd (cc)
+last-at (z ∷ xs) x y zero at = inl at
+last-at (z ∷ xs) x y (suc k) at = elim (last-at xs x y k at) [
+  | inl earlier ↦ inl earlier
+  | inr last ↦ inr (ap (λ n. suc n) last.0, last.1)
+]
+
+last-there : {X : Type 0} (xs : List X) (x : X) → slice_get (xs ++ x ∷ []) (length xs) ≡ Some x
+last-there [] x = refl
+last-there (z ∷ xs) x = last-there xs x
+
+-- once an entry came, and its note
+pub true-entry : {N : Type 0} (shape : ShapeOf) (all : List (List ObjState)) (noted : N → List Decision → Type 0) (old new : List EntryOf) (notes more : List N) (leads : List Lead) (e : EntryOf) (note : N) → IsKeptAs old new e true → more ≡ notes ++ note ∷ [] →
+    IsDead shape all (noted note) e → IsTrueMemo shape all noted old notes leads → IsTrueMemo shape all noted new more leads
+true-entry shape all noted old new notes more leads e note kept grown dead sound = record {
+  even = ap length grown ∙ length-append notes (note ∷ []) ∙ ap (λ n. n + 1) sound.even ∙ sym (ap length kept ∙ length-append old (e ∷ []));
+  dead = λ k x there. elim (last-at old e x k (ap (λ (l : List EntryOf). slice_get l k) (sym kept) ∙ there)) [
+    | inl earlier ↦ let (n, (at, d)) = sound.dead k x earlier in (n, (ap (λ (l : List _). slice_get l k) grown ∙ get-front notes (note ∷ []) k n at, d))
+    | inr last ↦ (
+      note,
+      (
+        (λ i. slice_get (grown i) ((last.0 ∙ sym sound.even) i)) ∙ last-there notes note,
+        subst (λ (y : EntryOf). IsDead shape all (noted note) y) (sym last.1) dead,
+      ),
+    )
+  ];
   true_leads = sound.true_leads;
 }
 
--- once an entry came
-pub true-entry : (shape : ShapeOf) (all : List (List ObjState)) (old new : List EntryOf) (leads : List Lead) (e : EntryOf) → AreWith old new e → IsDead shape all e → IsTrueMemo shape all old leads → IsTrueMemo shape all new leads
-true-entry shape all old new leads e with dead sound = record {
-  dead = λ x there. elim (with x there) [ inl earlier ↦ sound.dead x earlier | inr same ↦ subst (λ (y : EntryOf). IsDead shape all y) (sym same) dead ];
-  true_leads = sound.true_leads;
-}
+-- once one was not kept
+pub true-unkept : {N : Type 0} (shape : ShapeOf) (all : List (List ObjState)) (noted : N → List Decision → Type 0) (old new : List EntryOf) (notes same : List N) (leads : List Lead) → new ≡ old → same ≡ notes → IsTrueMemo shape all noted old notes leads →
+    IsTrueMemo shape all noted new same leads
+true-unkept shape all noted old new notes same leads is stays sound =
+    subst (λ l. IsTrueMemo shape all noted l same leads) (sym is) (subst (λ l. IsTrueMemo shape all noted old l leads) (sym stays) sound)
 
 -- once a lead came
-pub true-lead : (shape : ShapeOf) (all : List (List ObjState)) (entries : List EntryOf) (old new : List Lead) (l : Lead) → AreWith old new l → IsLead shape all l → IsTrueMemo shape all entries old → IsTrueMemo shape all entries new
-true-lead shape all entries old new l with lead sound = record {
+pub true-lead : {N : Type 0} (shape : ShapeOf) (all : List (List ObjState)) (noted : N → List Decision → Type 0) (entries : List EntryOf) (notes : List N) (old new : List Lead) (l : Lead) → AreWith old new l → IsLead shape all l →
+    IsTrueMemo shape all noted entries notes old → IsTrueMemo shape all noted entries notes new
+true-lead shape all noted entries notes old new l with lead sound = record {
+  even = sound.even;
   dead = sound.dead;
   true_leads = λ x there. elim (with x there) [ inl earlier ↦ sound.true_leads x earlier | inr same ↦ subst (λ (y : Lead). IsLead shape all y) (sym same) lead ];
 }
 
+-- the note of an entry, where it is looked for
+pub note-of : {N : Type 0} (shape : ShapeOf) (all : List (List ObjState)) (noted : N → List Decision → Type 0) (entries : List EntryOf) (notes : List N) (leads : List Lead) (k : ℕ) (e : EntryOf) (o : Option N) (Q : N → Type 0) → IsTrueMemo shape all noted entries notes leads →
+    slice_get entries k ≡ Some e → o ≡ slice_get notes k → ((note : N) → IsDead shape all (noted note) e → Q note) → IfSome o Q
+note-of shape all noted entries notes leads k e o Q sound there is each =
+    let (note, (at, dead)) = sound.dead k e there in subst (λ (x : Option _). IfSome x Q) (sym (is ∙ at)) (each note dead)
+
 -- # Steps
 
 -- what the step's choice does to the states
-leads-on : (memo : MemoOf) (n : ℕ) (c : Choice) (at : CursorOf) → IsWellFormed (history_of at.shape) → IsWithinLimits (plan_of at.shape) (history_of at.shape) → IsGood (objects_of at.shape) (history_of at.shape) at.path → (s : IsStep memo (Some n) c at) →
+leads-on : {V : Type 0} (memo : MemoOf V) (n : ℕ) (c : Choice) (at : CursorOf) → IsWellFormed (history_of at.shape) → IsWithinLimits (plan_of at.shape) (history_of at.shape) → IsGood (objects_of at.shape) (history_of at.shape) at.path → (s : IsStep memo (Some n) c at) →
     (c.decision.fate ≡ C → replayed (states_behind at.shape s.path) (row_of (history_of at.shape) c.decision.tx).block ≡ Some (states_behind at.shape at.path))
     × ((c.decision.fate ≡ A) ⊎ (silent_fate (history_of at.shape) c.decision.tx ≡ Some c.decision.fate) → states_behind at.shape at.path ≡ states_behind at.shape s.path)
 leads-on memo n c at fine within good s =
@@ -130,12 +191,12 @@ leads-on memo n c at fine within good s =
     )
 
 -- a choice that leaves the states leaves their number
-pub step-stays : (memo : MemoOf) (n : ℕ) (c : Choice) (at : CursorOf) → IsWellFormed (history_of at.shape) → IsWithinLimits (plan_of at.shape) (history_of at.shape) → IsGood (objects_of at.shape) (history_of at.shape) at.path → (s : IsStep memo (Some n) c at) →
+pub step-stays : {V : Type 0} (memo : MemoOf V) (n : ℕ) (c : Choice) (at : CursorOf) → IsWellFormed (history_of at.shape) → IsWithinLimits (plan_of at.shape) (history_of at.shape) → IsGood (objects_of at.shape) (history_of at.shape) at.path → (s : IsStep memo (Some n) c at) →
     (c.decision.fate ≡ A) ⊎ (silent_fate (history_of at.shape) c.decision.tx ≡ Some c.decision.fate) → Names memo.states (Some n) (states_behind at.shape at.path)
 step-stays memo n c at fine within good s leaves = s.names ∙ ap (λ l. Some l) (sym ((leads-on memo n c at fine within good s).1 leaves))
 
 -- a lead that is known leads there
-pub step-known : (memo : MemoOf) (n to : ℕ) (c : Choice) (at : CursorOf) → IsWellFormed (history_of at.shape) → IsWithinLimits (plan_of at.shape) (history_of at.shape) → IsGood (objects_of at.shape) (history_of at.shape) at.path → (s : IsStep memo (Some n) c at) →
+pub step-known : {V : Type 0} (memo : MemoOf V) (n to : ℕ) (c : Choice) (at : CursorOf) → IsWellFormed (history_of at.shape) → IsWithinLimits (plan_of at.shape) (history_of at.shape) → IsGood (objects_of at.shape) (history_of at.shape) at.path → (s : IsStep memo (Some n) c at) →
     c.decision.fate ≡ C → IsLead memo.shape memo.states (record { from = n; tx = c.decision.tx; to = to }) → Names memo.states (Some to) (states_behind at.shape at.path)
 step-known memo n to c at fine within good s commits lead =
     let ran = (leads-on memo n c at fine within good s).0 commits in
@@ -145,7 +206,7 @@ step-known memo n to c at fine within good s commits lead =
     lead.to ∙ ap (λ l. Some l) (one-at lead.after (states_behind at.shape at.path) (replayed (states_behind at.shape s.path) (row_of (history_of at.shape) c.decision.tx).block) own ran)
 
 -- a step makes a lead
-pub step-lead : (memo new : MemoOf) (n to : ℕ) (c : Choice) (at : CursorOf) → IsWellFormed (history_of at.shape) → IsWithinLimits (plan_of at.shape) (history_of at.shape) → IsGood (objects_of at.shape) (history_of at.shape) at.path → (s : IsStep memo (Some n) c at) →
+pub step-lead : {V : Type 0} (memo new : MemoOf V) (n to : ℕ) (c : Choice) (at : CursorOf) → IsWellFormed (history_of at.shape) → IsWithinLimits (plan_of at.shape) (history_of at.shape) → IsGood (objects_of at.shape) (history_of at.shape) at.path → (s : IsStep memo (Some n) c at) →
     c.decision.fate ≡ C → IsGrown memo new → Names new.states (Some to) (states_behind at.shape at.path) → IsLead new.shape new.states (record { from = n; tx = c.decision.tx; to = to })
 step-lead memo new n to c at fine within good s commits grown names =
     let ran = (leads-on memo n c at fine within good s).0 commits in
@@ -158,14 +219,14 @@ step-lead memo new n to c at fine within good s commits grown names =
     }
 
 -- where a step leads, if it is known
-pub after-names : (memo : MemoOf) (n to : ℕ) (c : Choice) (at : CursorOf) → IsWellFormed (history_of at.shape) → IsWithinLimits (plan_of at.shape) (history_of at.shape) → IsGood (objects_of at.shape) (history_of at.shape) at.path → (s : IsStep memo (Some n) c at) →
+pub after-names : {V : Type 0} (memo : MemoOf V) (n to : ℕ) (c : Choice) (at : CursorOf) → IsWellFormed (history_of at.shape) → IsWithinLimits (plan_of at.shape) (history_of at.shape) → IsGood (objects_of at.shape) (history_of at.shape) at.path → (s : IsStep memo (Some n) c at) →
     IsAfter memo n c to → Names memo.states (Some to) (states_behind at.shape at.path)
 after-names memo n to c at fine within good s (inl (inl aborts, same)) = subst (λ m. Names memo.states (Some m) (states_behind at.shape at.path)) (sym same) (step-stays memo n c at fine within good s (inl aborts))
 after-names memo n to c at fine within good s (inl (inr quiet, same)) = subst (λ m. Names memo.states (Some m) (states_behind at.shape at.path)) (sym same) (step-stays memo n c at fine within good s (inr (s.silent quiet)))
 after-names memo n to c at fine within good s (inr (commits, lead)) = step-known memo n to c at fine within good s commits lead
 
 -- the block of a step leads to the states there
-pub step-leads : (memo : MemoOf) (n : ℕ) (c : Choice) (at : CursorOf) → IsWellFormed (history_of at.shape) → IsWithinLimits (plan_of at.shape) (history_of at.shape) → IsGood (objects_of at.shape) (history_of at.shape) at.path → (s : IsStep memo (Some n) c at) →
+pub step-leads : {V : Type 0} (memo : MemoOf V) (n : ℕ) (c : Choice) (at : CursorOf) → IsWellFormed (history_of at.shape) → IsWithinLimits (plan_of at.shape) (history_of at.shape) → IsGood (objects_of at.shape) (history_of at.shape) at.path → (s : IsStep memo (Some n) c at) →
     c.decision.fate ≡ C → LeadsTo (history_of memo.shape) memo.states (Some (record { from = n; tx = c.decision.tx })) (states_behind at.shape at.path)
 step-leads memo n c at fine within good s commits = (
   states_behind at.shape s.path,
@@ -178,22 +239,34 @@ step-leads memo n c at fine within good s commits = (
 -- # Refuted lists
 
 -- the entry of a refuted list
-pub dead-here : (shape : ShapeOf) (all : List (List ObjState)) (placed : List Bool) (n : ℕ) (at : CursorOf) → shape ≡ at.shape → IsGood (objects_of at.shape) (history_of at.shape) at.path → Refuted (objects_of at.shape) (history_of at.shape) at.path →
-    placed ≡ map (is_named at.path) (transactions (history_of at.shape)) → Names all (Some n) (states_behind at.shape at.path) → IsDead shape all (record { placed = placed; states = n })
-dead-here shape all placed n at same good refuted is names =
-    subst (λ (x : ShapeOf). IsDead x all (record { placed = placed; states = n })) (sym same)
-    (record { path = at.path; good = good; refuted = refuted; placed = is; states = names })
+pub dead-here : (shape : ShapeOf) (all : List (List ObjState)) (P : List Decision → Type 0) (placed : List Bool) (n : ℕ) (at : CursorOf) → shape ≡ at.shape → IsGood (objects_of at.shape) (history_of at.shape) at.path → Refuted (objects_of at.shape) (history_of at.shape) at.path →
+    placed ≡ map (is_named at.path) (transactions (history_of at.shape)) → Names all (Some n) (states_behind at.shape at.path) → P at.path → IsDead shape all P (record { placed = placed; states = n })
+dead-here shape all P placed n at same good refuted is names noted =
+    subst (λ (x : ShapeOf). IsDead x all P (record { placed = placed; states = n })) (sym same)
+    (record { path = at.path; good = good; refuted = refuted; placed = is; states = names; noted = noted })
 
 -- as many marks as rows
 pub rows-placed : (shape : ShapeOf) (placed : List Bool) (at : CursorOf) → shape ≡ at.shape → placed ≡ map (is_named at.path) (transactions (history_of at.shape)) → length placed ≡ length (transactions (history_of shape))
 rows-placed shape placed at same is = ap length is ∙ length-map (transactions (history_of at.shape)) (is_named at.path) ∙ ap (λ (x : ShapeOf). length (transactions (history_of x))) (sym same)
 
+-- the list of an entry is the same to what comes after it
+pub dead-alike : (shape : ShapeOf) (all : List (List ObjState)) (P : List Decision → Type 0) (placed : List Bool) (n : ℕ) (at : CursorOf) → shape ≡ at.shape →
+    placed ≡ map (is_named at.path) (transactions (history_of at.shape)) → Names all (Some n) (states_behind at.shape at.path) → IsDead shape all P (record { placed = placed; states = n }) → IsNotedAlike at.shape P at.path
+dead-alike shape all P placed n at same is names dead =
+    let d = subst (λ (x : ShapeOf). IsDead x all P (record { placed = placed; states = n })) same dead in record {
+      other = d.path;
+      good = d.good;
+      noted = d.noted;
+      placed = sym is ∙ d.placed;
+      states = one-at (states_behind at.shape at.path) (states_behind at.shape d.path) (slice_get all n) names d.states;
+    }
+
 -- a list of which an entry is there is refuted
-pub dead-refuted : (shape : ShapeOf) (all : List (List ObjState)) (placed : List Bool) (n : ℕ) (at : CursorOf) → shape ≡ at.shape → IsWellFormed (history_of at.shape) → IsWithinLimits (plan_of at.shape) (history_of at.shape) →
-    IsGood (objects_of at.shape) (history_of at.shape) at.path → placed ≡ map (is_named at.path) (transactions (history_of at.shape)) → Names all (Some n) (states_behind at.shape at.path) → IsDead shape all (record { placed = placed; states = n }) →
+pub dead-refuted : (shape : ShapeOf) (all : List (List ObjState)) (P : List Decision → Type 0) (placed : List Bool) (n : ℕ) (at : CursorOf) → shape ≡ at.shape → IsWellFormed (history_of at.shape) → IsWithinLimits (plan_of at.shape) (history_of at.shape) →
+    IsGood (objects_of at.shape) (history_of at.shape) at.path → placed ≡ map (is_named at.path) (transactions (history_of at.shape)) → Names all (Some n) (states_behind at.shape at.path) → IsDead shape all P (record { placed = placed; states = n }) →
     Refuted (objects_of at.shape) (history_of at.shape) at.path
-dead-refuted shape all placed n at same fine within good is names dead rest shown =
-    let d = subst (λ (x : ShapeOf). IsDead x all (record { placed = placed; states = n })) same dead in
+dead-refuted shape all P placed n at same fine within good is names dead rest shown =
+    let d = subst (λ (x : ShapeOf). IsDead x all P (record { placed = placed; states = n })) same dead in
     d.refuted rest (shown-same (plan_of at.shape) (history_of at.shape) at.path d.path rest fine within good d.good (sym is ∙ d.placed)
     (one-at (states_behind at.shape at.path) (states_behind at.shape d.path) (slice_get all n) names d.states) shown)
 
@@ -222,21 +295,38 @@ placed-with h p c r at own =
     let (inside, tx) = row-tx h (transactions h) c.place r at in
     set-named (is_named p) (is_named (p ++ c.decision ∷ [])) (transactions h) c.place c.decision.tx 0 (different-transactions h) inside (tx ∙ own) (named-own p c.decision) (named-others p c.decision)
 
-pub place-there : (shape : ShapeOf) (memo : MemoOf) (n : Option ℕ) (c : Choice) (at : CursorOf) (placed : List Bool) → IsNext memo n c at → placed ≡ map (is_named at.path) (transactions (history_of at.shape)) → c.place < length placed
+pub place-there : {V : Type 0} (shape : ShapeOf) (memo : MemoOf V) (n : Option ℕ) (c : Choice) (at : CursorOf) (placed : List Bool) → IsNext memo n c at → placed ≡ map (is_named at.path) (transactions (history_of at.shape)) → c.place < length placed
 place-there shape memo n c at placed next is =
     let inside = (row-tx (history_of at.shape) (transactions (history_of at.shape)) c.place next.row.0 next.row.1.0).0 in
     subst (λ m. c.place < m) (sym (ap length is ∙ length-map (transactions (history_of at.shape)) (is_named at.path))) inside
 
+-- one decision further
+abbrev further : CursorOf → Decision → CursorOf
+further at d = record { shape = at.shape; path = at.path ++ d ∷ [] }
+
+-- where a choice leads that is good
+next-names : {V : Type 0} (memo : MemoOf V) (n after : ℕ) (c : Choice) (at : CursorOf) → IsWellFormed (history_of at.shape) → IsWithinLimits (plan_of at.shape) (history_of at.shape) → IsGood (objects_of at.shape) (history_of at.shape) (at.path ++ c.decision ∷ []) →
+    IsNext memo (Some n) c at → IsAfter memo n c after → Names memo.states (Some after) (states_behind at.shape (at.path ++ c.decision ∷ []))
+next-names memo n after c at fine within longer next leads =
+    after-names memo n after c (further at c.decision) fine within longer (record { shape = next.shape; path = at.path; on = refl; names = next.names; silent = next.silent }) leads
+
 -- a choice that leads to a spot that is known is refuted
-pub known-behind : (memo : MemoOf) (n after : ℕ) (c : Choice) (at : CursorOf) (placed : List Bool) → IsWellFormed (history_of at.shape) → IsWithinLimits (plan_of at.shape) (history_of at.shape) → IsGood (objects_of at.shape) (history_of at.shape) at.path →
+pub known-behind : {V : Type 0} (memo : MemoOf V) (P : List Decision → Type 0) (n after : ℕ) (c : Choice) (at : CursorOf) (placed : List Bool) → IsWellFormed (history_of at.shape) → IsWithinLimits (plan_of at.shape) (history_of at.shape) → IsGood (objects_of at.shape) (history_of at.shape) at.path →
     IsNext memo (Some n) c at → placed ≡ map (is_named at.path) (transactions (history_of at.shape)) → IsAfter memo n c after →
-    IsDead memo.shape memo.states (record { placed = set placed c.place true; states = after }) → Refuted (objects_of at.shape) (history_of at.shape) (at.path ++ c.decision ∷ [])
-known-behind memo n after c at placed fine within good next is leads dead rest shown =
+    IsDead memo.shape memo.states P (record { placed = set placed c.place true; states = after }) → Refuted (objects_of at.shape) (history_of at.shape) (at.path ++ c.decision ∷ [])
+known-behind memo P n after c at placed fine within good next is leads dead rest shown =
     let longer : IsGood (objects_of at.shape) (history_of at.shape) (at.path ++ c.decision ∷ []) =
     IsGood-push (objects_of at.shape) (history_of at.shape) at.path c.decision good (next-shown (objects_of at.shape) (history_of at.shape) at.path c.decision rest shown) in
-    dead-refuted memo.shape memo.states (set placed c.place true) after further next.shape fine within longer
+    dead-refuted memo.shape memo.states P (set placed c.place true) after (further at c.decision) next.shape fine within longer
     (ap (λ l. set l c.place true) is ∙ placed-with (history_of at.shape) at.path c next.row.0 next.row.1.0 next.row.1.1)
-    (after-names memo n after c further fine within longer (record { shape = next.shape; path = at.path; on = refl; names = next.names; silent = next.silent }) leads) dead rest shown
-  where
-    further : CursorOf
-    further = record { shape = at.shape; path = at.path ++ c.decision ∷ [] }
+    (next-names memo n after c at fine within longer next leads) dead rest shown
+
+-- and where it is good it is the same to what comes after it
+pub alike-behind : {V : Type 0} (memo : MemoOf V) (P : List Decision → Type 0) (n after : ℕ) (c : Choice) (at : CursorOf) (placed : List Bool) → IsWellFormed (history_of at.shape) → IsWithinLimits (plan_of at.shape) (history_of at.shape) → IsGood (objects_of at.shape) (history_of at.shape) at.path →
+    IsNext memo (Some n) c at → placed ≡ map (is_named at.path) (transactions (history_of at.shape)) → IsAfter memo n c after →
+    IsDead memo.shape memo.states P (record { placed = set placed c.place true; states = after }) → IsGoodAt at c.decision → IsNotedAlike at.shape P (at.path ++ c.decision ∷ [])
+alike-behind memo P n after c at placed fine within good next is leads dead next_good =
+    let longer : IsGood (objects_of at.shape) (history_of at.shape) (at.path ++ c.decision ∷ []) = IsGood-push (objects_of at.shape) (history_of at.shape) at.path c.decision good next_good in
+    dead-alike memo.shape memo.states P (set placed c.place true) after (further at c.decision) next.shape
+    (ap (λ l. set l c.place true) is ∙ placed-with (history_of at.shape) at.path c next.row.0 next.row.1.0 next.row.1.1)
+    (next-names memo n after c at fine within longer next leads) dead

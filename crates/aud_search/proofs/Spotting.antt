@@ -1,5 +1,5 @@
 -- Spots as words.
-use Rattle.std.specs.Prelude.{◌≡◌, ℕ, zero, suc, ◌+◌, ◌-◌, ◌*◌, ◌/◌, ◌<◌, ◌≤◌, Bool, true, List, [], ◌∷◌, ◌++◌, map, length, take, drop, Option, Some, None, MatchOption, refl, ◌⊎◌}
+use Rattle.std.specs.Prelude.{◌≡◌, ℕ, zero, suc, ◌+◌, ◌-◌, ◌*◌, ◌/◌, ◌<◌, ◌≤◌, Bool, true, List, [], ◌∷◌, ◌++◌, map, length, take, drop, Option, Some, None, slice_get, MatchOption, refl, ◌⊎◌}
 use Rattle.std.specs.List.{Contains}
 use Rattle.std.proofs.Common.{sym, ◌∙◌, ap, subst, inl, inr, arith, get_or, set}
 use Rattle.std.proofs.Math.Nat.{zero-mul, suc-mul, mul-le-mul_right}
@@ -7,7 +7,7 @@ use Rattle.std.proofs.Math.Seq.{take-length, drop-nil}
 use Rattle.std.proofs.lemmas.List.{nil_from_length, length-append, take-append-le, take_all, drop-append-le, length-drop, map-append}
 use Rattle.aud_marks.specs.Marked.{marks_of}
 use Rattle.aud_marks.proofs.Marking.{marks-written, word-written}
-use Rattle.aud_search.specs.Spots.{EntryOf, chunks, entry_of, with_place, WithPlace, IsSpot, AreWith}
+use Rattle.aud_search.specs.Spots.{EntryOf, chunks, entry_of, with_place, WithPlace, IsSpot, AreWith, IsKeptAs}
 
 -- # Lists of one length
 
@@ -82,10 +82,10 @@ marks-with others words count place inside (v, (within, written, is)) =
 
 -- # Entries
 
-map-at : {X Y : Type 0} (f : X → Y) (xs : List X) (k : ℕ) (d : X) → k < length xs → Contains (map f xs) (f (get_or xs k d))
+map-at : {X Y : Type 0} (f : X → Y) (xs : List X) (k : ℕ) (d : X) → k < length xs → slice_get (map f xs) k ≡ Some (f (get_or xs k d))
 map-at f [] k d inside = absurd (omega arith)
-map-at f (x ∷ xs) zero d inside = (0, omega arith, refl)
-map-at f (x ∷ xs) (suc k) d inside = let (j, within, at) = map-at f xs k d (omega arith) in (suc j, omega arith, at)
+map-at f (x ∷ xs) zero d inside = refl
+map-at f (x ∷ xs) (suc k) d inside = map-at f xs k d (omega arith)
 
 -- the entry of a spot that was found
 pub spot-entry : (words placed : List ℕ) (marks : List Bool) (n : ℕ) (further : Option ℕ) → marks ≡ marks_of placed (length marks) → MatchOption further (Unit {0}) (λ k. k < length marks) → IsSpot words n placed further →
@@ -96,9 +96,9 @@ spot-entry words placed marks n (Some place) is inside (own, (split, more)) =
     ap (entry_of (length marks)) split ∙ (λ i. record { placed = (marks-with placed own (length marks) place inside more ∙ ap (λ (l : List Bool). set l place true) (sym is)) i; states = n })
 
 pub found-entry : (spots : List (List ℕ)) (place : ℕ) (placed : List ℕ) (marks : List Bool) (n : ℕ) (further : Option ℕ) → place < length spots → marks ≡ marks_of placed (length marks) → MatchOption further (Unit {0}) (λ k. k < length marks) →
-    IsSpot (get_or spots place []) n placed further → Contains (map (entry_of (length marks)) spots) (record { placed = with_place marks further; states = n })
+    IsSpot (get_or spots place []) n placed further → slice_get (map (entry_of (length marks)) spots) place ≡ Some (record { placed = with_place marks further; states = n })
 found-entry spots place placed marks n further inside is there spot =
-    subst (λ (e : EntryOf). Contains (map (entry_of (length marks)) spots) e) (spot-entry (get_or spots place []) placed marks n further is there spot) (map-at (entry_of (length marks)) spots place [] inside)
+    map-at (entry_of (length marks)) spots place [] inside ∙ ap (λ (e : EntryOf). Some e) (spot-entry (get_or spots place []) placed marks n further is there spot)
 
 -- what is contained in a list with one after it
 last-of : {X : Type 0} (xs : List X) (x y : X) → Contains (xs ++ x ∷ []) y → Contains xs y ⊎ (y ≡ x)
@@ -123,12 +123,12 @@ width-same items (suc count) other w (inr same) long = (long ∙ ap (λ m. suc c
 
 -- a spot came after the others
 pub spots-with : (other w : ℕ) (old new placed : List ℕ) (marks : List Bool) (seen : List (List ℕ)) (count n : ℕ) → (count ≡ 0) ⊎ (other ≡ w) → length old ≡ count * other → w ≡ length placed + 1 → marks ≡ marks_of placed (length marks) →
-    new ≡ old ++ n ∷ placed → chunks other old count ≡ seen → AreWith (map (entry_of (length marks)) seen) (map (entry_of (length marks)) (chunks w new (count + 1))) (record { placed = marks; states = n })
+    new ≡ old ++ n ∷ placed → chunks other old count ≡ seen → IsKeptAs (map (entry_of (length marks)) seen) (map (entry_of (length marks)) (chunks w new (count + 1))) (record { placed = marks; states = n }) true
 spots-with other w old new placed marks seen count n either long own is grown view =
     let (even, same) = width-same old count other w either long in
     let wide : length (n ∷ placed) ≡ w = omega arith in
     let one : count + 1 ≡ suc count = omega arith in
-    with-last _ _ _ ((λ i. map (entry_of (length marks)) (chunks w (grown i) (one i))) ∙ ap (map (entry_of (length marks))) (chunks-push w old (n ∷ placed) count even wide)
+    ((λ i. map (entry_of (length marks)) (chunks w (grown i) (one i))) ∙ ap (map (entry_of (length marks))) (chunks-push w old (n ∷ placed) count even wide)
     ∙ map-append (entry_of (length marks)) (chunks w old count) ((n ∷ placed) ∷ []) ∙ (λ i. map (entry_of (length marks)) ((same ∙ view) i) ++ spot-entry (n ∷ placed) placed marks n None is tt refl i ∷ []))
 
 pub words-grown : (other w : ℕ) (old new placed : List ℕ) (count n : ℕ) → (count ≡ 0) ⊎ (other ≡ w) → length old ≡ count * other → w ≡ length placed + 1 → new ≡ old ++ n ∷ placed → length new ≡ (count + 1) * w

@@ -27,11 +27,13 @@ use Rattle.aud_search.specs.declared.choice.Choice.{Choice}
 use Rattle.aud_search.specs.declared.outcome.Outcome.{Outcome}
 use Rattle.aud_search.specs.declared.search.Turn.{Turn}
 use Rattle.aud_search.specs.declared.outcome.Outcome.TheVariants as outcome
+use Rattle.aud_search.specs.declared.outcome.Ended.{Ended}
+use Rattle.aud_search.specs.declared.outcome.Ended.TheVariants as ended
 use Rattle.aud_search.specs.Choices.{AreChoices}
 use Rattle.aud_search.specs.Searches.{SpentBy, Tells}
 use Rattle.aud_search.specs.Levels.{AreTried, IsSearching, IsOneLess}
 use Rattle.aud_search.specs.Memos.{MemoOf, states_behind, Names, NameWay, IsStep}
-use Rattle.aud_search.specs.Tried.{IsTried, IsFound, IsBehind, Spends, TellsFrom}
+use Rattle.aud_search.specs.Tried.{IsTried, IsFound, IsBehind, Spends, TellsFrom, outcome_of}
 use Rattle.aud_search.proofs.Levels.{tried-more, tried-behind, search-on, search-deeper, search-spent, search-unspent, refuted-here, search-back, search-refuted, search-begins}
 use Rattle.aud_search.proofs.Weights.{weigh, lighter-deeper, lighter-on, lighter-back}
 
@@ -114,12 +116,12 @@ spends-more (Some whole) None rest used spends less = absurd spends
 spends-more None None (Some rest) used spends less = absurd less
 spends-more (Some whole) (Some left) None used spends less = absurd less
 
-pub spent-from : (X : Type 0) (objects : List Declared) (h : History) (p : List Decision) (budget left : Option ℕ) (used : ℕ) → Spends budget used left → left ≡ Some 0 → SpentBy objects h p used →
-    TellsFrom {X = X} objects h p budget outcome.Spent
-spent-from X objects h p None None used spends none spent = absurd (cc)
-spent-from X objects h p None (Some left) used spends none spent = absurd spends
-spent-from X objects h p (Some whole) None used spends none spent = absurd (cc)
-spent-from X objects h p (Some whole) (Some left) used spends none spent =
+pub spent-from : (R N X : Type 0) (noted : R → N → List Decision → Type 0) (objects : List Declared) (h : History) (p : List Decision) (budget left : Option ℕ) (used : ℕ) → Spends budget used left → left ≡ Some 0 → SpentBy objects h p used →
+    TellsFrom {R = R} {N = N} {X = X} objects h noted p budget ended.Spent
+spent-from R N X noted objects h p None None used spends none spent = absurd (cc)
+spent-from R N X noted objects h p None (Some left) used spends none spent = absurd spends
+spent-from R N X noted objects h p (Some whole) None used spends none spent = absurd (cc)
+spent-from R N X noted objects h p (Some whole) (Some left) used spends none spent =
     let before : used + left ≡ whole + 1 = spends in
     let zero_left : left ≡ 0 = cc in
     let all : used ≡ whole + 1 = omega arith in
@@ -129,14 +131,15 @@ pub tells-spent : (X : Type 0) (objects : List Declared) (h : History) (p : List
 tells-spent X objects h p None none spent = absurd (cc)
 tells-spent X objects h p (Some whole) none spent = let zero_left : 0 ≡ whole = cc in subst (λ n. SpentBy objects h p n) zero_left spent
 
-pub tells-from : (X : Type 0) (objects : List Declared) (h : History) (p : List Decision) (budget left : Option ℕ) (o : Outcome X) → IsOneLess budget left → TellsFrom {X = X} objects h p left o → Tells {X = X} objects h p budget o
-tells-from X objects h p budget left outcome.Refuted less told = told
-tells-from X objects h p budget left (outcome.Witness q) less told = told
-tells-from X objects h p None None outcome.Spent less told = absurd told
-tells-from X objects h p (Some whole) (Some left) outcome.Spent less told =
+pub tells-from : (R N X : Type 0) (noted : R → N → List Decision → Type 0) (objects : List Declared) (h : History) (p : List Decision) (budget left : Option ℕ) (o : Ended R N X) → IsOneLess budget left → TellsFrom objects h noted p left o →
+    Tells {X = X} objects h p budget (outcome_of o)
+tells-from R N X noted objects h p budget left (ended.Refuted r note) less told = told.0
+tells-from R N X noted objects h p budget left (ended.Witness q) less told = told
+tells-from R N X noted objects h p None None ended.Spent less told = absurd told
+tells-from R N X noted objects h p (Some whole) (Some left) ended.Spent less told =
     let fewer : whole ≡ left + 1 = less in subst (λ n. SpentBy objects h p n) (sym fewer) told
-tells-from X objects h p None (Some left) outcome.Spent less told = absurd less
-tells-from X objects h p (Some whole) None outcome.Spent less told = absurd less
+tells-from R N X noted objects h p None (Some left) ended.Spent less told = absurd less
+tells-from R N X noted objects h p (Some whole) None ended.Spent less told = absurd less
 
 -- # The loop
 
@@ -248,7 +251,7 @@ loop-known start cur new popped cs used next k g below on s f behind refuted is 
     (followed-tried start cur new cs next k g on f behind (followed-refuted start cur new cs next k f refuted)))
 
 -- the followed choice is a step on from a list after which the states have the number
-pub step-at : (start cur new : CursorOf) (cs : List Choice) (next k : ℕ) (memo : MemoOf) (n : Option ℕ) (ns : List (Option ℕ)) → Grounds start.shape cs → Follows start cur new cs next k → memo.shape ≡ start.shape →
+pub step-at : {V : Type 0} (start cur new : CursorOf) (cs : List Choice) (next k : ℕ) (memo : MemoOf V) (n : Option ℕ) (ns : List (Option ℕ)) → Grounds start.shape cs → Follows start cur new cs next k → memo.shape ≡ start.shape →
     NameWay start.shape memo.states (n ∷ ns) cur.path → IsStep memo n (slice_index_or cs k no_choice) new
 step-at start cur new cs next k memo n ns on f same way =
     let there : slice_get cs k ≡ Some picked = choice-at cs k f.inside in
@@ -356,8 +359,9 @@ whole-spent X shape cur p budget is good unfull none =
     tells-spent X (objects_of shape) (history_of shape) p budget none
     (subst (λ (v : CursorOf). SpentBy (objects_of v.shape) (history_of v.shape) v.path 0) is (search-unspent (objects_of cur.shape) (history_of cur.shape) cur.path good unfull))
 
-pub whole-told : (X : Type 0) (shape : ShapeOf) (cur : CursorOf) (p : List Decision) (budget left : Option ℕ) (o : Outcome X) → cur ≡ cursor_at shape p → IsOneLess budget left →
-    TellsFrom {X = X} (objects_of cur.shape) (history_of cur.shape) cur.path left o → Tells {X = X} (objects_of shape) (history_of shape) p budget o
-whole-told X shape cur p budget left o is less told =
-    tells-from X (objects_of shape) (history_of shape) p budget left o less
-    (subst (λ (v : CursorOf). TellsFrom {X = X} (objects_of v.shape) (history_of v.shape) v.path left o) is told)
+pub whole-told : (R N X : Type 0) (noted : R → N → List Decision → Type 0) (shape : ShapeOf) (cur : CursorOf) (p : List Decision) (budget left : Option ℕ) (o : Ended R N X) (w : Outcome X) → cur ≡ cursor_at shape p → IsOneLess budget left →
+    TellsFrom (objects_of cur.shape) (history_of cur.shape) noted cur.path left o → w ≡ outcome_of o → Tells {X = X} (objects_of shape) (history_of shape) p budget w
+whole-told R N X noted shape cur p budget left o w is less told same =
+    subst (λ (x : Outcome X). Tells {X = X} (objects_of shape) (history_of shape) p budget x) (sym same)
+    (tells-from R N X noted (objects_of shape) (history_of shape) p budget left o less
+    (subst (λ (v : CursorOf). TellsFrom (objects_of v.shape) (history_of v.shape) noted v.path left o) is told))

@@ -6,3 +6,4 @@ pub mod Memos
 pub mod Readiness
 pub mod Spots
 pub mod Kept
+pub mod Recorders

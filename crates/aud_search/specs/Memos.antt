@@ -17,10 +17,11 @@ use Rattle.aud_search.specs.declared.choice.Choice.{Choice}
 use Rattle.aud_search.specs.declared.memo.Lead.{Lead}
 use Rattle.aud_search.specs.Spots.{EntryOf, entry_of}
 
--- how contracts see a memo: the shape of the search, and the states that it numbered
-pub record MemoOf : Type 0 where
+-- how contracts see a memo: the shape of the search, the states that it numbered, and what hears of refuted lists
+pub record MemoOf (V : Type 0) : Type 0 where
   pub shape : ShapeOf
   pub states : List (List ObjState)
+  pub recorder : V
 
 -- the states of all objects after what is kept of a list
 abbrev pub states_behind : ShapeOf → List Decision → List ObjState
@@ -40,13 +41,14 @@ NameWay shape all (n ∷ ns) p = Names all n (states_behind shape p) × NameWay 
 abbrev pub entries_of : History → List (List ℕ) → List EntryOf
 entries_of h spots = map (entry_of (length (transactions h))) spots
 
--- an entry is of a good list that is refuted
-pub record IsDead (shape : ShapeOf) (all : List (List ObjState)) (e : EntryOf) : Type 0 where
+-- an entry is of a good list that is refuted, and of which P holds
+pub record IsDead (shape : ShapeOf) (all : List (List ObjState)) (P : List Decision → Type 0) (e : EntryOf) : Type 0 where
   pub path : List Decision
   pub good : IsGood (objects_of shape) (history_of shape) path
   pub refuted : Refuted (objects_of shape) (history_of shape) path
   pub placed : e.placed ≡ map (is_named path) (transactions (history_of shape))
   pub states : slice_get all e.states ≡ Some (states_behind shape path)
+  pub noted : P path
 
 -- the block of the transaction leads from some states to others
 pub record IsLead (shape : ShapeOf) (all : List (List ObjState)) (l : Lead) : Type 0 where
@@ -56,19 +58,27 @@ pub record IsLead (shape : ShapeOf) (all : List (List ObjState)) (l : Lead) : Ty
   pub to : slice_get all l.to ≡ Some after
   pub runs : replayed before (row_of (history_of shape) l.tx).block ≡ Some after
 
--- what is remembered is true
-pub record IsTrueMemo (shape : ShapeOf) (all : List (List ObjState)) (entries : List EntryOf) (leads : List Lead) : Type 0 where
-  pub dead : (e : EntryOf) → Contains entries e → IsDead shape all e
+-- what is remembered is true, and each entry has the note of its list
+pub record IsTrueMemo {N : Type 0} (shape : ShapeOf) (all : List (List ObjState)) (noted : N → List Decision → Type 0) (entries : List EntryOf) (notes : List N) (leads : List Lead) : Type 0 where
+  pub even : length notes ≡ length entries
+  pub dead : (k : ℕ) (e : EntryOf) → slice_get entries k ≡ Some e → (note : N) × ((slice_get notes k ≡ Some note) × IsDead shape all (noted note) e)
   pub true_leads : (l : Lead) → Contains leads l → IsLead shape all l
 
 -- no states lost their number
-pub record IsGrown (old new : MemoOf) : Type 0 where
+pub record IsGrown {V : Type 0} (old new : MemoOf V) : Type 0 where
   pub shape : new.shape ≡ old.shape
   pub more : List (List ObjState)
   pub states : new.states ≡ old.states ++ more
+  pub recorder : new.recorder ≡ old.recorder
+
+-- only the recorder heard of something
+pub record IsTold {V : Type 0} (grows : V → V → Type 0) (old new : MemoOf V) : Type 0 where
+  pub shape : new.shape ≡ old.shape
+  pub states : new.states ≡ old.states
+  pub recorder : grows old.recorder new.recorder
 
 -- the cursor is one choice further than a list after which the states have the number
-pub record IsStep (memo : MemoOf) (from : Option ℕ) (c : Choice) (at : CursorOf) : Type 0 where
+pub record IsStep {V : Type 0} (memo : MemoOf V) (from : Option ℕ) (c : Choice) (at : CursorOf) : Type 0 where
   pub shape : memo.shape ≡ at.shape
   pub path : List Decision
   pub on : at.path ≡ path ++ c.decision ∷ []
@@ -76,7 +86,7 @@ pub record IsStep (memo : MemoOf) (from : Option ℕ) (c : Choice) (at : CursorO
   pub silent : c.effect ≡ Silent → silent_fate (history_of at.shape) c.decision.tx ≡ Some c.decision.fate
 
 -- after the cursor's list, where the states have the number, the choice is one of its row's transaction
-pub record IsNext (memo : MemoOf) (states : Option ℕ) (c : Choice) (at : CursorOf) : Type 0 where
+pub record IsNext {V : Type 0} (memo : MemoOf V) (states : Option ℕ) (c : Choice) (at : CursorOf) : Type 0 where
   pub shape : memo.shape ≡ at.shape
   pub names : Names memo.states states (states_behind at.shape at.path)
   pub silent : c.effect ≡ Silent → silent_fate (history_of at.shape) c.decision.tx ≡ Some c.decision.fate
@@ -88,5 +98,5 @@ LeavesStates c true = (c.decision.fate ≡ A) ⊎ (c.effect ≡ Silent)
 LeavesStates c false = c.decision.fate ≡ C
 
 -- after the choice the states have the number: it leaves them, or a lead of its block is known
-abbrev pub IsAfter : MemoOf → ℕ → Choice → ℕ → Type 0
+abbrev pub IsAfter : {V : Type 0} → MemoOf V → ℕ → Choice → ℕ → Type 0
 IsAfter memo n c to = (LeavesStates c true × (to ≡ n)) ⊎ ((c.decision.fate ≡ C) × IsLead memo.shape memo.states (record { from = n; tx = c.decision.tx; to = to }))

@@ -9,6 +9,8 @@ use Rattle.aud_witness.specs.Orders.{IsFull, IsGood, Shows, Refuted}
 use Rattle.aud_witness.specs.Orders as orders
 use Rattle.aud_search.specs.declared.outcome.Outcome.{Outcome}
 use Rattle.aud_search.specs.declared.outcome.Outcome.TheVariants as outcome
+use Rattle.aud_search.specs.declared.outcome.Searched.{Searched}
+use Rattle.aud_search.specs.declared.outcome.Searched.TheVariants as searched
 use Rattle.aud_search.specs.declared.outcome.Decided.{Decided}
 use Rattle.aud_search.specs.declared.outcome.Decided.TheVariants as decided
 
@@ -51,3 +53,8 @@ Tells objects h p None outcome.Spent = ⊥
 abbrev pub Decides : {X : Type 0} → List Declared → History → Decided X → Type 0
 Decides objects h (decided.Opaque q) = Shows objects h q
 Decides objects h decided.NotOpaque = orders.Opaque objects h → ⊥
+
+-- the same of a search over a recorder, which has a note of the empty list where no list shows the history
+abbrev pub TellsWith : {R N X : Type 0} → List Declared → History → (R → N → List Decision → Type 0) → Searched R N X → Type 0
+TellsWith objects h noted (searched.Opaque q) = Shows objects h q
+TellsWith objects h noted (searched.NotOpaque r note) = (orders.Opaque objects h → ⊥) × noted r note []

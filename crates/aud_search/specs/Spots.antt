@@ -1,5 +1,5 @@
 -- Spots of refuted lists, as words.
-use Rattle.std.specs.Prelude.{◌≡◌, ℕ, zero, suc, ◌/◌, ◌%◌, ◌<◌, Bool, true, List, [], ◌∷◌, length, take, drop, Option, Some, None, slice_index_or, slice_set, ◌⊎◌}
+use Rattle.std.specs.Prelude.{◌≡◌, ℕ, zero, suc, ◌/◌, ◌%◌, ◌<◌, Bool, true, false, List, [], ◌∷◌, ◌++◌, length, take, drop, Option, Some, None, slice_index_or, slice_set, ◌⊎◌}
 use Rattle.std.specs.List.{Contains}
 use Rattle.aud_marks.specs.Marked.{marks_of, IsBitWritten}
 
@@ -36,3 +36,8 @@ IsSpot words n placed (Some place) = (marks : List ℕ) × ((words ≡ n ∷ mar
 -- nothing came but perhaps one
 abbrev pub AreWith : {X : Type 0} → List X → List X → X → Type 0
 AreWith {X} old new x = (y : X) → Contains new y → Contains old y ⊎ (y ≡ x)
+
+-- one came after the others, if it did
+abbrev pub IsKeptAs : {X : Type 0} → List X → List X → X → Bool → Type 0
+IsKeptAs old new x true = new ≡ old ++ x ∷ []
+IsKeptAs old new x false = new ≡ old

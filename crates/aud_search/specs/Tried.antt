@@ -11,6 +11,8 @@ use Rattle.aud_search.specs.declared.choice.Effect.TheVariants.{Silent}
 use Rattle.aud_search.specs.declared.choice.Choice.{Choice}
 use Rattle.aud_search.specs.declared.outcome.Outcome.{Outcome}
 use Rattle.aud_search.specs.declared.outcome.Outcome.TheVariants as outcome
+use Rattle.aud_search.specs.declared.outcome.Ended.{Ended}
+use Rattle.aud_search.specs.declared.outcome.Ended.TheVariants as ended
 use Rattle.aud_search.specs.Searches.{SpentBy}
 
 -- one choice was tried: it is good, and the cursor went on, or it is not, and nothing changed
@@ -29,11 +31,12 @@ IsFound old new cs from (Some k) =
 abbrev pub ArePassed : CursorOf → List Choice → ℕ → ℕ → Type 0
 ArePassed at cs from to = (from ≤ to) × ((j : ℕ) (c : Choice) → from ≤ j → j < to → slice_get cs j ≡ Some c → Refuted (objects_of at.shape) (history_of at.shape) (at.path ++ c.decision ∷ []))
 
--- the place of the next choice once the one at k is refuted: after one of a silent transaction it may be any
+-- the place of the next choice once the one at k is refuted: after one of a silent transaction none is left
 pub record IsBehind (cs : List Choice) (k g : ℕ) : Type 0 where
   pub past : k < g
   pub inside : g ≤ length cs
   pub silent : (c : Choice) → slice_get cs k ≡ Some c → (g ≡ k + 1) ⊎ (c.effect ≡ Silent)
+  pub over : (c : Choice) → slice_get cs k ≡ Some c → c.effect ≡ Silent → g ≡ length cs
 
 -- of a budget some is used, and the rest is left; one expansion is not of the budget
 abbrev pub Spends : Option ℕ → ℕ → Option ℕ → Type 0
@@ -43,8 +46,14 @@ Spends None used (Some left) = ⊥
 Spends (Some whole) used None = ⊥
 
 -- what is reported of the lists that begin with one that was expanded, where so much of the budget is left
-abbrev pub TellsFrom : {X : Type 0} → List Declared → History → List Decision → Option ℕ → Outcome X → Type 0
-TellsFrom objects h p left outcome.Refuted = Refuted objects h p
-TellsFrom objects h p left (outcome.Witness q) = BeginsWith p q × Shows objects h q
-TellsFrom objects h p (Some left) outcome.Spent = SpentBy objects h p (left + 1)
-TellsFrom objects h p None outcome.Spent = ⊥
+abbrev pub TellsFrom : {R N X : Type 0} → List Declared → History → (R → N → List Decision → Type 0) → List Decision → Option ℕ → Ended R N X → Type 0
+TellsFrom objects h noted p left (ended.Refuted r note) = Refuted objects h p × noted r note p
+TellsFrom objects h noted p left (ended.Witness q) = BeginsWith p q × Shows objects h q
+TellsFrom objects h noted p (Some left) ended.Spent = SpentBy objects h p (left + 1)
+TellsFrom objects h noted p None ended.Spent = ⊥
+
+-- the same without what a recorder has
+abbrev pub outcome_of : {R N X : Type 0} → Ended R N X → Outcome X
+outcome_of (ended.Refuted r note) = outcome.Refuted
+outcome_of (ended.Witness q) = outcome.Witness q
+outcome_of ended.Spent = outcome.Spent

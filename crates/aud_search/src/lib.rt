@@ -8,9 +8,11 @@ mod kept;
 mod memo;
 mod outcome;
 mod ready;
+mod recorder;
 mod room;
 mod search;
 mod spots;
 
-pub use outcome::{Decided, Outcome};
-pub use search::{decide, explore};
+pub use outcome::{Decided, Outcome, Searched};
+pub use recorder::Recorder;
+pub use search::{decide, explore, search_with};

@@ -1,18 +1,22 @@
 //! What a search remembers of the lists that it refuted: which transactions were placed, and the states of all objects.
 //! After two lists of which these are the same, the same shows.
 
-ghost use Rattle.std.specs.Prelude.{◌≡◌, ◌++◌, [], ◌∷◌, Some, IsTrue, MatchOption};
+ghost use Rattle.std.specs.Prelude.{◌≡◌, ◌++◌, [], ◌∷◌, Some, List, IsTrue, IfSome, IfOk, OnOk, MatchOption, slice_get};
+ghost use Rattle.aud_witness.specs.declared.decision.Decision.{Decision};
 ghost use Rattle.std.specs.List.{Contains};
 ghost use Rattle.aud_witness.specs.declared.decision.Fate.TheVariants.{C};
 ghost use Rattle.aud_witness.specs.Orders.{Refuted};
 ghost use Rattle.aud_order.specs.Shapes.{objects_of, history_of};
+ghost use Rattle.aud_order.specs.Cursors.{IsGoodAt};
 ghost use Rattle.aud_search.specs.Kept.{LeadsTo};
-ghost use Rattle.aud_search.specs.Memos.{states_behind, Names, IsLead, IsGrown, IsStep, IsNext, IsAfter, LeavesStates};
+ghost use Rattle.aud_search.specs.Memos.{states_behind, Names, IsLead, IsGrown, IsTold, IsStep, IsNext, IsAfter, LeavesStates};
+ghost use Rattle.aud_search.specs.Recorders.{IsReason, IsNotedAlike, HasNote};
 ghost use Rattle.aud_search.specs.Spots.{AreWith};
 
 use crate::choice::{Choice, Effect};
 use crate::index::{Index, Look, hash_of};
 use crate::kept::{Finder, Kept, Step, keep_states};
+use crate::recorder::Recorder;
 use crate::room::takes;
 use crate::spots::Spots;
 use aud_event::OutOfMemory;
@@ -29,12 +33,24 @@ pub(crate) struct Lead {
     pub to: usize,
 }
 
+/// Why a list is refuted.
+#[derive(Clone, Copy, Debug)]
+pub(crate) enum Reason<N> {
+    /// It is not full, and each good list that is one decision longer was noted.
+    Kids,
+    /// The decision is of a silent transaction and good after the list, and the list behind it was noted.
+    Silent(Decision),
+    /// The note is of a good list that places the same transactions and leaves the same states.
+    Same(N),
+}
+
 /// Spots of refuted lists of one shape, and where blocks lead. States that many spots share are kept once, under a number.
 ///
 /// A spot is kept as words: the number of the states, then the marks of the rows that were placed. When its room is full,
-/// the spots are forgotten and others come; where memory runs out a new one is.
+/// the spots are forgotten and others come; where memory runs out a new one is. Each spot has the note of its list, and what
+/// notes the lists is kept here too.
 #[derive(Drop)]
-pub(crate) struct Memo<'a, A: Allocator + Copy = Global> {
+pub(crate) struct Memo<'a, N: Copy, R: Recorder<N>, A: Allocator + Copy = Global> {
     alloc: A,
     shape: &'a Shape<A>,
     kept: Vec<Kept<A>, A>,
@@ -42,20 +58,22 @@ pub(crate) struct Memo<'a, A: Allocator + Copy = Global> {
     leads: Vec<Lead, A>,
     leads_by_hash: Index<A>,
     spots: Spots<A>,
+    notes: Vec<N, A>,
+    recorder: R,
     room: usize,
     spots_room: usize,
 }
 
-impl<'a, A: Allocator + Copy> Model for Memo<'a, A> {
+impl<'a, N: Copy, R: Recorder<N>, A: Allocator + Copy> Model for Memo<'a, N, R, A> {
     ghost use Rattle.aud_order.specs.Shapes.{history_of};
     ghost use Rattle.aud_search.specs.Kept.{states_of};
     ghost use Rattle.aud_search.specs.Memos.{MemoOf, entries_of, IsTrueMemo};
 
-    ghost Value = { MemoOf };
+    ghost Value = { MemoOf R };
 
-    ghost view = { λ m. record { shape = m.shape.now; states = states_of (history_of m.shape.now) m.kept.items } };
+    ghost view = { λ m. record { shape = m.shape.now; states = states_of (history_of m.shape.now) m.kept.items; recorder = m.recorder } };
 
-    ghost invariant = { λ m. IsTrueMemo m.shape.now (states_of (history_of m.shape.now) m.kept.items) (entries_of (history_of m.shape.now) m.spots) m.leads.items };
+    ghost invariant = { λ m. IsTrueMemo m.shape.now (states_of (history_of m.shape.now) m.kept.items) (R.noted m.recorder) (entries_of (history_of m.shape.now) m.spots) m.notes.items m.leads.items × R.is_for m.recorder m.shape.now };
 }
 
 /// How much memory a memo takes, about, in bytes.
@@ -91,6 +109,13 @@ fn find_lead<A: Allocator + Copy>(
     None
 }
 
+/// The note at the place, if there is one.
+fn note_at<N: Copy>(notes: &[N], place: usize) -> Option<N>
+    ensures { result ≡ slice_get notes.now place }
+{
+    notes.get(place).copied()
+}
+
 /// Whether the choice leaves the states of all objects.
 fn leaves_states(choice: &Choice) -> bool
     ensures { LeavesStates choice.now result }
@@ -114,10 +139,11 @@ fn keep_lead<A: Allocator + Copy>(
     Ok(())
 }
 
-impl<'a, A: Allocator + Copy> Memo<'a, A> {
+impl<'a, N: Copy, R: Recorder<N>, A: Allocator + Copy> Memo<'a, N, R, A> {
     /// A memo of nothing. It does not allocate.
-    pub(crate) fn new(alloc: A, shape: &'a Shape<A>) -> Memo<'a, A>
-        ensures { result ≡ record { shape = shape.entry.now; states = [] } }
+    pub(crate) fn new(alloc: A, shape: &'a Shape<A>, recorder: R) -> Memo<'a, N, R, A>
+        requires { R.is_for recorder shape.now }
+        ensures { result ≡ record { shape = shape.entry.now; states = []; recorder = recorder } }
     {
         Memo {
             alloc,
@@ -127,9 +153,41 @@ impl<'a, A: Allocator + Copy> Memo<'a, A> {
             leads: Vec::new(alloc),
             leads_by_hash: Index::new(alloc),
             spots: Spots::new(alloc),
+            notes: Vec::new(alloc),
+            recorder,
             room: ROOM,
             spots_room: 0,
         }
+    }
+
+    /// What noted the lists.
+    pub(crate) fn into_recorder(self) -> R
+        ensures recorder { result ≡ self.entry.recorder }
+        ensures own { R.is_for result self.entry.shape }
+    {
+        self.recorder
+    }
+
+    /// Notes the cursor's list, which is refuted for the reason.
+    pub(crate) fn note(&mut self, cursor: &Cursor<A>, reason: Reason<N>) -> Result<N, OutOfMemory>
+        requires shape { self.old.shape ≡ cursor.now.shape }
+        requires reason { IsReason (R.noted self.old.recorder) cursor.now.shape cursor.now.path reason }
+        ensures noted { IfOk result (λ note. R.noted self.new.recorder note cursor.now.path) }
+        ensures told { IsTold R.grows self.old self.new }
+    {
+        let list = cursor.prefix();
+        match reason {
+            Reason::Kids => self.recorder.note_kids(list),
+            Reason::Silent(decision) => self.recorder.note_silent(list, decision),
+            Reason::Same(note) => self.recorder.note_same(list, note),
+        }
+    }
+
+    /// Whether nothing needs to be noted.
+    pub(crate) fn is_deaf(&self) -> bool
+        ensures { IsTrue result → ((p : List Decision) → HasNote (R.noted self.now.recorder) p) }
+    {
+        self.recorder.is_deaf()
     }
 
     /// The number of the states where the cursor stands, which may be a new one, if there is room and memory for it.
@@ -224,50 +282,59 @@ impl<'a, A: Allocator + Copy> Memo<'a, A> {
         Some(to)
     }
 
-    /// Whether a refuted list placed the transactions that the cursor's list places, and left the same states, which have the
-    /// number. It does not allocate.
-    pub(crate) fn knows(&self, states: Option<usize>, cursor: &Cursor<A>) -> bool
+    /// The note of a refuted list that placed the transactions that the cursor's list places, and left the same states, which
+    /// have the number. It does not allocate.
+    pub(crate) fn knows(&self, states: Option<usize>, cursor: &Cursor<A>) -> Option<N>
         requires shape { self.now.shape ≡ cursor.now.shape }
         requires named { Names self.now.states states (states_behind cursor.now.shape cursor.now.path) }
-        ensures { IsTrue result → Refuted (objects_of cursor.now.shape) (history_of cursor.now.shape) cursor.now.path }
+        ensures refuted { IfSome result (λ note. Refuted (objects_of cursor.now.shape) (history_of cursor.now.shape) cursor.now.path) }
+        ensures alike { IfSome result (λ note. IsNotedAlike cursor.now.shape (R.noted self.now.recorder note) cursor.now.path) }
     {
         let _ = self.shape.history();
         let _ = self.shape.plan();
         let _ = cursor.prefix();
-        match states {
-            None => false,
-            Some(states) => self.spots.has(states, cursor.placed(), None),
-        }
+        let Some(number) = states else {
+            return None;
+        };
+        let Some(place) = self.spots.find(number, cursor.placed(), None) else {
+            return None;
+        };
+        note_at(&self.notes, place)
     }
 
-    /// Whether the cursor's list with the choice after it is known to be refuted, by where its block leads. No block runs,
-    /// and it does not allocate.
+    /// The note of a refuted list that is the same as the cursor's with the choice after it, if one is known by where the
+    /// choice's block leads. No block runs, and it does not allocate.
     pub(crate) fn knows_behind(
         &self,
         states: Option<usize>,
         choice: &Choice,
         cursor: &Cursor<A>,
-    ) -> bool
+    ) -> Option<N>
         requires { IsNext self.now states choice.now cursor.now }
-        ensures { IsTrue result → Refuted (objects_of cursor.now.shape) (history_of cursor.now.shape) (cursor.now.path ++ choice.now.decision ∷ []) }
+        ensures refuted { IfSome result (λ note. Refuted (objects_of cursor.now.shape) (history_of cursor.now.shape) (cursor.now.path ++ choice.now.decision ∷ [])) }
+        ensures alike { IfSome result (λ note. IsGoodAt cursor.now choice.now.decision → IsNotedAlike cursor.now.shape (R.noted self.now.recorder note) (cursor.now.path ++ choice.now.decision ∷ [])) }
     {
         let _ = self.shape.history();
         let _ = self.shape.plan();
         let _ = cursor.prefix();
         let Some(before) = states else {
-            return false;
+            return None;
         };
-        match self.after(before, choice) {
-            None => false,
-            Some(after) => self.spots.has(after, cursor.placed(), Some(choice.place)),
-        }
+        let Some(after) = self.after(before, choice) else {
+            return None;
+        };
+        let Some(place) = self.spots.find(after, cursor.placed(), Some(choice.place)) else {
+            return None;
+        };
+        note_at(&self.notes, place)
     }
 
-    /// Remembers the cursor's list, which is refuted, if memory is there for it.
-    pub(crate) fn learn(&mut self, states: Option<usize>, cursor: &Cursor<A>)
+    /// Remembers the cursor's list, which is refuted, with its note, if memory is there for it.
+    pub(crate) fn learn(&mut self, states: Option<usize>, note: N, cursor: &Cursor<A>)
         requires shape { self.old.shape ≡ cursor.now.shape }
         requires named { Names self.old.states states (states_behind cursor.now.shape cursor.now.path) }
         requires refuted { Refuted (objects_of cursor.now.shape) (history_of cursor.now.shape) cursor.now.path }
+        requires noted { R.noted self.old.recorder note cursor.now.path }
         ensures { IsGrown self.old self.new }
     {
         let number = match states {
@@ -275,7 +342,7 @@ impl<'a, A: Allocator + Copy> Memo<'a, A> {
             None => self.number(None, cursor),
         };
         if let Some(number) = number {
-            self.keep_refuted(number, cursor);
+            self.keep_refuted(number, note, cursor);
         }
     }
 
@@ -284,15 +351,17 @@ impl<'a, A: Allocator + Copy> Memo<'a, A> {
         ensures { self.new ≡ self.old }
     {
         self.spots = Spots::new(self.alloc);
+        self.notes.clear();
         self.room = self.room.saturating_add(self.spots_room);
         self.spots_room = 0;
     }
 
     /// Keeps the spot of the cursor's list, which is refuted, and whose states have the number.
-    fn keep_refuted(&mut self, states: usize, cursor: &Cursor<A>)
+    fn keep_refuted(&mut self, states: usize, note: N, cursor: &Cursor<A>)
         requires shape { self.old.shape ≡ cursor.now.shape }
         requires named { Names self.old.states (Some states) (states_behind cursor.now.shape cursor.now.path) }
         requires refuted { Refuted (objects_of cursor.now.shape) (history_of cursor.now.shape) cursor.now.path }
+        requires noted { R.noted self.old.recorder note cursor.now.path }
         ensures { self.new ≡ self.old }
     {
         let _ = cursor.prefix();
@@ -303,6 +372,13 @@ impl<'a, A: Allocator + Copy> Memo<'a, A> {
             return;
         }
         self.spots_room = self.spots_room.saturating_add(size);
-        self.spots.keep(states, placed);
+        if self.notes.reserve(1).is_err() {
+            return;
+        }
+        if self.spots.keep(states, placed) {
+            let Ok(()) = self.notes.push(note) else {
+                unreachable!()
+            };
+        }
     }
 }

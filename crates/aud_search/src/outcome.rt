@@ -1,5 +1,8 @@
 //! What a search answers.
 
+ghost use Rattle.std.specs.Prelude.{◌≡◌};
+ghost use Rattle.aud_search.specs.Tried.{outcome_of};
+
 use aud_witness::Prefix;
 use std::alloc::{Allocator, Global};
 
@@ -21,4 +24,37 @@ pub enum Decided<A: Allocator = Global> {
     Opaque(Prefix<A>),
     /// It is not: no list shows it.
     NotOpaque,
+}
+
+/// How a search over a recorder ended.
+#[derive(Drop)]
+pub(crate) enum Ended<R: Drop, N: Copy, A: Allocator = Global> {
+    /// No list that begins with the one that it began at shows the history, and the recorder has its note.
+    Refuted(R, N),
+    /// This one does.
+    Witness(Prefix<A>),
+    /// The budget is spent, and neither was found.
+    Spent,
+}
+
+impl<R: Drop, N: Copy, A: Allocator> Ended<R, N, A> {
+    /// The same without what the recorder has.
+    pub(crate) fn outcome(self) -> Outcome<A>
+        ensures { result ≡ outcome_of self }
+    {
+        match self {
+            Ended::Refuted(_, _) => Outcome::Refuted,
+            Ended::Witness(witness) => Outcome::Witness(witness),
+            Ended::Spent => Outcome::Spent,
+        }
+    }
+}
+
+/// Whether a history is opaque, by a search over a recorder.
+#[derive(Drop)]
+pub enum Searched<R: Drop, N: Copy, A: Allocator = Global> {
+    /// It is: the list shows it.
+    Opaque(Prefix<A>),
+    /// It is not: no list shows it. The recorder has the note of the empty list.
+    NotOpaque(R, N),
 }

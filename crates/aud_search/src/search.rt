@@ -1,7 +1,7 @@
 //! The search over one cursor: each good list of decisions is expanded at most once, and so is each spot, which is the
 //! transactions placed and the states of all objects. Where a silent transaction is good, only its choice is followed.
 
-ghost use Rattle.std.specs.Prelude.{◌≡◌, ◌↔◌, ◌<◌, ◌≤◌, Some, None, length, true, IfOk, MatchOption, ◌++◌, ◌∷◌, []};
+ghost use Rattle.std.specs.Prelude.{◌≡◌, ◌↔◌, ◌<◌, ◌≤◌, Some, None, length, true, IfOk, OnOk, MatchOption, ◌++◌, ◌∷◌, []};
 ghost use Rattle.aud_witness.specs.Orders.{IsFull, Opaque};
 ghost use Rattle.aud_history.specs.WellFormed.{IsWellFormed};
 ghost use Rattle.aud_history.specs.FirstFault.{IsWithinLimits};
@@ -9,15 +9,17 @@ ghost use Rattle.aud_order.specs.Shapes.{plan_of, objects_of, history_of};
 ghost use Rattle.aud_search.specs.Choices.{AreChoices};
 ghost use Rattle.aud_search.specs.Levels.{IsOneLess};
 ghost use Rattle.aud_search.specs.Readiness.{IsReady};
-ghost use Rattle.aud_search.specs.Searches.{Tells, Decides};
-ghost use Rattle.aud_order.specs.Cursors.{cursor_back, cursor_with};
+ghost use Rattle.aud_search.specs.Searches.{Tells, TellsWith, Decides};
+ghost use Rattle.aud_order.specs.Cursors.{IsGoodAt, cursor_back, cursor_with};
 ghost use Rattle.aud_search.specs.Tried.{IsTried, IsFound, IsBehind, ArePassed, TellsFrom};
-ghost use Rattle.aud_search.specs.Memos.{Names, states_behind};
+ghost use Rattle.aud_search.specs.Memos.{Names, states_behind, IsTold};
+ghost use Rattle.aud_search.specs.Recorders.{HasNote, IsNotedFor, IsNotedAlike, AreKept, IsSilentAt, reason_by};
 
 use crate::choice::{Choice, Effect, choices_of};
-use crate::memo::Memo;
-use crate::outcome::{Decided, Outcome};
+use crate::memo::{Memo, Reason};
+use crate::outcome::{Decided, Ended, Outcome, Searched};
 use crate::ready::Ready;
+use crate::recorder::{Recorder, Unrecorded};
 use aud_event::OutOfMemory;
 use aud_order::{Cursor, Pushed, Shape};
 use aud_witness::{Decision, Prefix};
@@ -67,33 +69,67 @@ fn try_from<A: Allocator + Copy>(
     Ok(None)
 }
 
-/// Passes over choices that are known to be refuted, from a place on, and answers where the others begin.
-fn pass_known<A: Allocator + Copy>(
-    memo: &Memo<A>,
-    cursor: &Cursor<A>,
+/// Notes the cursor's list with the decision after it, if that is good: the note is of a list that is the same to what comes
+/// after them. The cursor comes back.
+fn pass<N: Copy, R: Recorder<N>, A: Allocator + Copy>(
+    memo: &mut Memo<N, R, A>,
+    cursor: &mut Cursor<A>,
+    decision: Decision,
+    note: N,
+) -> Result<(), OutOfMemory>
+    requires shape { memo.old.shape ≡ cursor.old.shape }
+    requires alike { IsGoodAt cursor.old decision → IsNotedAlike cursor.old.shape (R.noted memo.old.recorder note) (cursor.old.path ++ decision ∷ []) }
+    ensures noted { OnOk result (IsGoodAt cursor.old decision → HasNote (R.noted memo.new.recorder) (cursor.old.path ++ decision ∷ [])) }
+    ensures stays { OnOk result (cursor.new ≡ cursor.old) }
+    ensures told { OnOk result (IsTold R.grows memo.old memo.new) }
+{
+    if memo.is_deaf() {
+        return Ok(());
+    }
+    if !try_decision(cursor, decision)? {
+        return Ok(());
+    }
+    memo.note(cursor, Reason::Same(note))?;
+    let _ = cursor.pop();
+    Ok(())
+}
+
+/// Passes over choices that are known to be refuted, from a place on, and answers where the others begin. Those that are good
+/// are noted.
+fn pass_known<N: Copy, R: Recorder<N>, A: Allocator + Copy>(
+    memo: &mut Memo<N, R, A>,
+    cursor: &mut Cursor<A>,
     choices: &[Choice],
     ready: &Ready<A>,
     here: Turn,
-) -> usize
-    requires choices { AreChoices (history_of cursor.now.shape) choices.now }
+) -> Result<usize, OutOfMemory>
+    requires choices { AreChoices (history_of cursor.old.shape) choices.now }
     requires same { ready.now.choices ≡ choices.now }
-    requires ready { IsReady ready.now cursor.now }
-    requires shape { memo.now.shape ≡ cursor.now.shape }
-    requires named { Names memo.now.states here.states (states_behind cursor.now.shape cursor.now.path) }
-    ensures { ArePassed cursor.now choices.now here.next result }
+    requires ready { IsReady ready.now cursor.old }
+    requires shape { memo.old.shape ≡ cursor.old.shape }
+    requires named { Names memo.old.states here.states (states_behind cursor.old.shape cursor.old.path) }
+    ensures passed { IfOk result (ArePassed cursor.old choices.now here.next) }
+    ensures kept { IfOk result (AreKept (HasNote (R.noted memo.new.recorder)) cursor.old.shape choices.now cursor.old.path here.next) }
+    ensures stays { OnOk result (cursor.new ≡ cursor.old) }
+    ensures told { OnOk result (IsTold R.grows memo.old memo.new) }
 {
     let mut from = here.next;
     while let Some(place) = ready.next(from) {
-        if !memo.knows_behind(here.states, &choices[place], cursor) {
-            return from;
-        }
+        let choice = &choices[place];
+        let Some(note) = memo.knows_behind(here.states, choice, cursor) else {
+            return Ok(from);
+        };
+        pass(memo, cursor, choice.decision, note)?;
         from = place + 1;
     }
-    from
+    Ok(from)
 }
 
 /// Takes the last decision back, and reports it.
-fn take_back<A: Allocator + Copy>(cursor: &mut Cursor<A>, memo: &mut Memo<A>) -> Option<Decision>
+fn take_back<N: Copy, R: Recorder<N>, A: Allocator + Copy>(
+    cursor: &mut Cursor<A>,
+    memo: &mut Memo<N, R, A>,
+) -> Option<Decision>
     ensures last { MatchOption result (cursor.old.path ≡ []) (λ last. cursor.old ≡ cursor_with cursor.new last) }
     ensures back { cursor.new ≡ cursor_back cursor.old }
     ensures memo { memo.new ≡ memo.old }
@@ -105,7 +141,11 @@ fn take_back<A: Allocator + Copy>(cursor: &mut Cursor<A>, memo: &mut Memo<A>) ->
 }
 
 /// Takes the last decision back, and its choices may be good again.
-fn go_back<A: Allocator + Copy>(cursor: &mut Cursor<A>, ready: &mut Ready<A>, memo: &mut Memo<A>)
+fn go_back<N: Copy, R: Recorder<N>, A: Allocator + Copy>(
+    cursor: &mut Cursor<A>,
+    ready: &mut Ready<A>,
+    memo: &mut Memo<N, R, A>,
+)
     requires { IsReady ready.old cursor.old }
     ensures back { cursor.new ≡ cursor_back cursor.old }
     ensures ready { IsReady ready.new cursor.new }
@@ -129,67 +169,100 @@ fn place_behind(choices: &[Choice], place: usize) -> usize
     }
 }
 
-/// Which choice after a list is tried next, and the number of the states there, if they have one.
+/// The decision of the choice, if it is of a silent transaction.
+fn silent_at(choices: &[Choice], place: usize) -> Option<Decision>
+    requires { place < length choices.now }
+    ensures { IsSilentAt choices.now place result }
+{
+    match choices[place].effect {
+        Effect::Silent => Some(choices[place].decision),
+        Effect::Unseen => None,
+        Effect::Seen => None,
+    }
+}
+
+/// Why a list is refuted, once all its choices are, or once the one of a silent transaction is.
+fn reason_of<N>(silent: Option<Decision>) -> Reason<N>
+    ensures { result ≡ reason_by silent }
+{
+    match silent {
+        None => Reason::Kids,
+        Some(decision) => Reason::Silent(decision),
+    }
+}
+
+/// Which choice after a list is tried next, the number of the states there, if they have one, and the choice of a silent
+/// transaction that was followed, if one was.
 #[derive(Clone, Copy, Debug, PartialEq, Eq)]
 struct Turn {
     next: usize,
     states: Option<usize>,
+    silent: Option<Decision>,
 }
 
 impl Turn {
     /// After a list that was just expanded.
     fn new(states: Option<usize>) -> Turn
-        ensures { result ≡ record { next = 0; states = states } }
+        ensures { result ≡ record { next = 0; states = states; silent = None } }
     {
-        Turn { next: 0, states }
+        Turn {
+            next: 0,
+            states,
+            silent: None,
+        }
     }
 }
 
 /// Searches the lists that begin with the cursor's, which is expanded first.
-fn search_from<'a, A: Allocator + Copy>(
+fn search_from<'a, N: Copy, R: Recorder<N>, A: Allocator + Copy>(
     alloc: A,
     shape: &'a Shape<A>,
     cursor: &mut Cursor<'a, A>,
     choices: &[Choice],
     budget: Option<u64>,
-) -> Result<Outcome<A>, OutOfMemory>
+    recorder: R,
+) -> Result<Ended<R, N, A>, OutOfMemory>
+    requires recorder { R.is_for recorder shape.now }
     requires shape { cursor.old.shape ≡ shape.now }
     requires choices { AreChoices (history_of cursor.old.shape) choices.now }
     requires unfull { IsFull (history_of cursor.old.shape) cursor.old.path → ⊥ }
     requires fine { IsWellFormed (history_of cursor.old.shape) }
     requires within { IsWithinLimits (plan_of cursor.old.shape) (history_of cursor.old.shape) }
-    ensures { IfOk result (TellsFrom (objects_of cursor.old.shape) (history_of cursor.old.shape) cursor.old.path budget) }
+    ensures { IfOk result (TellsFrom (objects_of cursor.old.shape) (history_of cursor.old.shape) (IsNotedFor R.is_for R.noted cursor.old.shape) cursor.old.path budget) }
 {
     let mut left = budget;
-    let mut memo = Memo::new(alloc, shape);
+    let mut memo = Memo::new(alloc, shape, recorder);
     let mut ready = Ready::at(alloc, shape, choices, cursor)?;
     let mut turns = Vec::new(alloc);
     let mut here = Turn::new(None);
     let _ = cursor.prefix();
     'search: loop {
-        let from = pass_known(&memo, cursor, choices, &ready, here);
+        let from = pass_known(&mut memo, cursor, choices, &ready, here)?;
         let Some(place) = try_from(cursor, choices, &ready, from)? else {
+            let note = memo.note(cursor, reason_of(here.silent))?;
             let Some(turn) = turns.pop() else {
-                return Ok(Outcome::Refuted);
+                return Ok(Ended::Refuted(memo.into_recorder(), note));
             };
-            memo.learn(here.states, cursor);
+            memo.learn(here.states, note, cursor);
             go_back(cursor, &mut ready, &mut memo);
             here = turn;
             continue;
         };
         if cursor.full() {
             let witness = Prefix::copy_of(alloc, cursor.prefix())?;
-            return Ok(Outcome::Witness(witness));
+            return Ok(Ended::Witness(witness));
         }
         here.next = place_behind(choices, place);
+        here.silent = silent_at(choices, place);
         memo.touch(choices[place].decision);
         let states = memo.follow(here.states, &choices[place], cursor);
-        if memo.knows(states, cursor) {
+        if let Some(note) = memo.knows(states, cursor) {
+            memo.note(cursor, Reason::Same(note))?;
             take_back(cursor, &mut memo);
             continue;
         }
         let Some(rest) = spend(left) else {
-            return Ok(Outcome::Spent);
+            return Ok(Ended::Spent);
         };
         left = rest;
         ready.go_on(choices[place].decision, cursor);
@@ -219,8 +292,8 @@ fn search<A: Allocator + Copy>(
         return Ok(Outcome::Spent);
     };
     let choices = choices_of(alloc, shape)?;
-    let outcome = search_from(alloc, shape, &mut cursor, &choices, left)?;
-    Ok(outcome)
+    let ended = search_from(alloc, shape, &mut cursor, &choices, left, Unrecorded)?;
+    Ok(ended.outcome())
 }
 
 /// Whether some list that begins with the prefix shows the history, as far as the budget goes: exactly so many prefixes
@@ -246,5 +319,30 @@ pub fn decide<A: Allocator + Copy>(alloc: A, shape: &Shape<A>) -> Result<Decided
         Outcome::Refuted => Ok(Decided::NotOpaque),
         // Without a budget none is spent.
         Outcome::Spent => unreachable!(),
+    }
+}
+
+/// Whether the history is opaque, as `decide` says, over a recorder that hears of each good list that is refuted, with the reason.
+/// It is handed back with its note of the empty list.
+pub fn search_with<N: Copy, R: Recorder<N>, A: Allocator + Copy>(
+    alloc: A,
+    shape: &Shape<A>,
+    recorder: R,
+) -> Result<Searched<R, N, A>, OutOfMemory>
+    requires { R.is_for recorder shape.now }
+    ensures { IfOk result (TellsWith (objects_of shape.now) (history_of shape.now) (IsNotedFor R.is_for R.noted shape.now)) }
+{
+    let mut cursor = Cursor::root(alloc, shape)?;
+    let _ = cursor.prefix();
+    if cursor.full() {
+        let witness = Prefix::copy_of(alloc, cursor.prefix())?;
+        return Ok(Searched::Opaque(witness));
+    }
+    let choices = choices_of(alloc, shape)?;
+    match search_from(alloc, shape, &mut cursor, &choices, None, recorder)? {
+        Ended::Refuted(recorder, note) => Ok(Searched::NotOpaque(recorder, note)),
+        Ended::Witness(witness) => Ok(Searched::Opaque(witness)),
+        // Without a budget none is spent.
+        Ended::Spent => unreachable!(),
     }
 }

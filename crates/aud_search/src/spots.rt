@@ -1,9 +1,8 @@
 //! Spots as words, all in one memory.
 
-ghost use Rattle.std.specs.Prelude.{◌≡◌, ◌+◌, ◌<◌, ◌≤◌, ◌++◌, [], ◌∷◌, true, nat_eq, IsTrue, MatchOption, map, length, take, drop, slice_index_or, if◌then◌else◌, ◌⊎◌};
-ghost use Rattle.std.specs.List.{Contains};
+ghost use Rattle.std.specs.Prelude.{◌≡◌, ◌+◌, ◌<◌, ◌≤◌, ◌++◌, [], ◌∷◌, true, nat_eq, IsTrue, MatchOption, map, length, take, drop, slice_get, slice_index_or, if◌then◌else◌, ◌⊎◌, Some};
 ghost use Rattle.aud_marks.specs.Marked.{IsBitWritten};
-ghost use Rattle.aud_search.specs.Spots.{AreWith, entry_of, with_place, WithPlace, IsSpot};
+ghost use Rattle.aud_search.specs.Spots.{IsKeptAs, entry_of, with_place, WithPlace, IsSpot};
 
 use crate::index::{Index, Look, hash_of};
 use aud_marks::Marks;
@@ -148,43 +147,51 @@ impl<A: Allocator + Copy> Spots<A> {
         part(words, place * self.width, self.width)
     }
 
-    /// Whether one of the spots has the number of the states, and the rows placed, with one further where there is one.
-    pub(crate) fn has(&self, states: usize, placed: &Marks<A>, further: Option<usize>) -> bool
+    /// The place of one of the spots that has the number of the states, and the rows placed, with one further where there is
+    /// one.
+    pub(crate) fn find(
+        &self,
+        states: usize,
+        placed: &Marks<A>,
+        further: Option<usize>,
+    ) -> Option<usize>
         requires { MatchOption further (Unit {0}) (λ k. k < length placed.now) }
-        ensures { IsTrue result → Contains (map (entry_of (length placed.now)) self.now) (record { placed = with_place placed.now further; states = states }) }
+        ensures { MatchOption result (Unit {0}) (λ k. slice_get (map (entry_of (length placed.now)) self.now) k ≡ Some (record { placed = with_place placed.now further; states = states })) }
     {
         let words = placed.words();
         let hash = hash_spot(states, words, further);
         for step in 0..LOOKS {
             match self.by_hash.look(hash, step) {
-                Look::Free => return false,
+                Look::Free => return None,
                 Look::Other => {}
                 Look::At(place) => {
                     if place < self.count && is_spot(self.get(place), states, words, further) {
-                        return true;
+                        return Some(place);
                     }
                 }
             }
         }
-        false
+        None
     }
 
     /// Puts a spot after the others, if it has as many words as they have and there is memory for it.
-    pub(crate) fn keep(&mut self, states: usize, placed: &Marks<A>)
-        ensures { AreWith (map (entry_of (length placed.now)) self.old) (map (entry_of (length placed.now)) self.new) (record { placed = placed.now; states = states }) }
+    pub(crate) fn keep(&mut self, states: usize, placed: &Marks<A>) -> bool
+        ensures { IsKeptAs (map (entry_of (length placed.now)) self.old) (map (entry_of (length placed.now)) self.new) (record { placed = placed.now; states = states }) result }
     {
         let marks = placed.words();
         let width = marks.len() + 1;
         if !is_width(self.count, self.width, width) {
-            return;
+            return false;
         }
         let hash = hash_spot(states, marks, None);
         if self.by_hash.put(hash, self.count).is_err() {
-            return;
+            return false;
         }
         if append(&mut self.words, states, marks) {
             self.width = width;
             self.count += 1;
+            return true;
         }
+        false
     }
 }

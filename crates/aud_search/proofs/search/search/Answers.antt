@@ -27,7 +27,7 @@ returns-in_default-spend g c =
 pub returns : goal.returns
 returns g c =
     let found = rw c.in-Some.is at c.in_ok-cursor.ensures in
-    whole-told g.row.A.Denot c.args.shape.now c.in-Some.cursor c.args.prefix.now c.args.budget c.in-Some-spend.left c.in_ok-outcome.outcome found.0 (rw c.in-Some-spend.is at c.spend.ensures) c.in_ok-outcome.ensures
+    whole-told _ _ g.row.A.Denot (λ r note p. Unit {0} × Unit {0}) c.args.shape.now c.in-Some.cursor c.args.prefix.now c.args.budget c.in-Some-spend.left c.in_ok-ended.ended c.outcome.result found.0 (rw c.in-Some-spend.is at c.spend.ensures) c.in_ok-ended.ensures c.outcome.ensures
 
 pub search_from-requires-clause-fine : goal.search_from-requires-clause-fine
 search_from-requires-clause-fine g c = subst (λ (v : CursorOf). IsWellFormed (history_of v.shape)) c.cursor.view_is c.cursor.invariant.fine

@@ -3,7 +3,9 @@ use Rattle.aud_order.specs.Shapes.{objects_of, history_of}
 use Rattle.aud_search.specs.Levels.{IsSearching}
 use Rattle.aud_search.specs.Memos.{NameWay}
 use Rattle.aud_search.specs.Readiness.{IsReady}
+use Rattle.aud_search.specs.Recorders.{HasNote}
 use Rattle.aud_search.specs.Tried.{Spends}
+use Rattle.aud_search.proofs.Recording.{IsHeard, AreOpen}
 use Rattle.aud_search.proofs.Steps.{weight, next_of, states_of}
 use Rattle.aud_search.proofs.search.search_from.Given as goal
 
@@ -15,6 +17,8 @@ invariant-search g l = record {
   memo : l.memo.shape ≡ l.fn.cursor.shape;
   way : NameWay l.fn.cursor.shape l.memo.states (l.here.states ∷ reverse (map states_of l.turns.items)) l.cursor.path;
   searching : IsSearching (objects_of l.fn.cursor.shape) (history_of l.fn.cursor.shape) l.fn.cursor.path l.choices used l.cursor.path l.here.next (reverse (map next_of l.turns.items));
+  heard : IsHeard (HasNote (g.R.Recorder.noted l.memo.recorder)) l.fn.cursor.shape l.choices l.cursor.path l.here.next l.here.silent;
+  opens : AreOpen (HasNote (g.R.Recorder.noted l.memo.recorder)) l.fn.cursor.shape l.choices (reverse l.turns.items) l.cursor.path;
   choices : l.ready.choices ≡ l.choices;
   ready : IsReady l.ready l.cursor;
 }

@@ -5,4 +5,4 @@ use Rattle.aud_search.proofs.MemoLemmas.{true-none}
 use Rattle.aud_search.proofs.memo.Memo.new.Goals as goal
 
 pub invariant_of-result : goal.invariant_of-result
-invariant_of-result g c = true-none _ _ _ _ (ap (entries_of (history_of c.args.shape.now)) c.new-5.ensures) c.new-3.ensures.items
+invariant_of-result g c = (true-none _ _ _ _ _ _ (ap (entries_of (history_of c.args.shape.now)) c.new-5.ensures) c.new-6.ensures.items c.new-3.ensures.items, c.requires)

@@ -2,7 +2,7 @@ use Rattle.std.specs.Prelude.{◌<◌, List, ℕ, length}
 use Rattle.std.proofs.Common.{sym, ◌∙◌, ap, subst}
 use Rattle.aud_search.specs.Spots.{IsSpot}
 use Rattle.aud_search.proofs.Spotting.{length-chunks, found-entry}
-use Rattle.aud_search.proofs.spots.Spots.has.Goals as goal
+use Rattle.aud_search.proofs.spots.Spots.find.Goals as goal
 
 pub get-requires : goal.get-requires
 get-requires g c =
@@ -13,5 +13,5 @@ pub returns-then-is_spot : goal.returns-then-is_spot
 returns-then-is_spot g c =
     let i = c.self.inside in
     let inside : c.in-At.place < length c.args.self.now = subst (λ n. c.in-At.place < n) (sym (length-chunks i.width i.words.items i.count) ∙ ap length c.self.view_is) c.if-place-self.true in
-    λ it. found-entry c.args.self.now c.in-At.place c.words-words.result.now c.args.placed.now c.args.states c.args.further inside c.words-words.ensures c.requires
+    found-entry c.args.self.now c.in-At.place c.words-words.result.now c.args.placed.now c.args.states c.args.further inside c.words-words.ensures c.requires
     (subst (λ (l : List ℕ). IsSpot l c.args.states c.words-words.result.now c.args.further) c.get.ensures (c.is_spot.ensures c.if-is_spot.true))
