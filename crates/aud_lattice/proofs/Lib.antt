@@ -1,3 +1,4 @@
+pub mod Leftovers
 pub mod Grouped
 pub mod Turns
 pub mod CoverCrosses
