@@ -68,7 +68,6 @@ pub fn joined<T: Key + Dup, A: Allocator + Clone>(
 }
 
 /// The items of the first tree that the second has not. Only these are copied.
-#[tactic(auto, using(crate::proofs::Leftovers::sorted_without))]
 pub fn without<T: Key + Dup, A: Allocator + Clone>(
     alloc: &A,
     xs: &Link<T, A>,
