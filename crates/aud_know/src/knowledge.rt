@@ -166,7 +166,7 @@ impl<A: Allocator + Copy> Knowledge<A> {
         ensures joins { IfOk result (λ news. JoinAlike other.now.held news.held self.now.held) }
         ensures mismatch { IsErrOf result KnowFault.PlanMismatch ↔ (other.now.plan ≢ self.now.plan) }
     {
-        if !other.plan().same(self.facts.plan()) {
+        if !self.plan().same(other.plan()) {
             return Err(KnowFault::PlanMismatch);
         }
         Ok(self.news_for(other)?)

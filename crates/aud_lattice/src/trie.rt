@@ -416,19 +416,19 @@ impl<D: Key + Dup, A: Allocator + Copy> Trie<D, A> {
     #[cycle(leavings)]
     fn left(
         first: &D,
-        node: &Arc<Trie<D, A>, A>,
+        ours: &Arc<Trie<D, A>, A>,
         theirs: &BTreeMap<D, Arc<Trie<D, A>, A>, A>,
         alloc: &A,
     ) -> Result<Option<Arc<Trie<D, A>, A>>, OutOfMemory>
-        requires node { IsTrie D.Ord.cmp (arc_value node.now) }
-        requires live { IsLive D.Ord.cmp (arc_value node.now) }
+        requires ours { IsTrie D.Ord.cmp (arc_value ours.now) }
+        requires live { IsLive D.Ord.cmp (arc_value ours.now) }
         requires theirs { IsTrie D.Ord.cmp (Fork theirs.now) }
-        ensures { IfOk result (IsLeft D.Ord.cmp (but (leads D.Ord.cmp (arc_value node.now)) (after first.now (leads D.Ord.cmp (Fork theirs.now))))) }
+        ensures { IfOk result (IsLeft D.Ord.cmp (but (leads D.Ord.cmp (arc_value ours.now)) (after first.now (leads D.Ord.cmp (Fork theirs.now))))) }
     {
         match theirs.get(first) {
-            None => Ok(Some(Arc::try_clone(node)?)),
+            None => Ok(Some(Arc::try_clone(ours)?)),
             Some(known) => {
-                let left = node.without(known, alloc)?;
+                let left = ours.without(known, alloc)?;
                 if left.is_bare() {
                     Ok(None)
                 } else {

@@ -67,9 +67,9 @@ left-returns-in_ok-try_clone-in-None g t c =
     let m = c.args.theirs.now in
     let gone = gone_node R m x (sym c.get.ensures.value ∙ ap option_copied c.in-None.is) in
     let is = c.in_ok-try_clone-in-None.ensures in (
-      subst (IsTrie R) (sym is) c.requires.node,
+      subst (IsTrie R) (sym is) c.requires.ours,
       subst (IsLive R) (sym is) c.requires.live,
-      ap (leads R) is ∙ gone_left R (leads R (arc_value c.args.node.now)) m x gone,
+      ap (leads R) is ∙ gone_left R (leads R (arc_value c.args.ours.now)) m x gone,
     )
 
 pub left-returns-then-is_bare : goal.left-returns-then-is_bare
@@ -82,7 +82,7 @@ left-returns-then-is_bare g t c =
     let found : node_of R m x ≡ Some known = found_node R m x c.in-Some.known.now (sym c.get.ensures.value ∙ ap option_copied c.in-Some.is) in
     let is : leads R left ≡ but (leads R c.deref.result.now) (leads R c.deref-in-Some.result.now) = c.in_ok-left-in-Some.ensures.left in
     let bare : leads R left ≡ nothing = subst (λ b. MatchBool b (leads R left ≡ nothing) (IsLive R left)) c.if-is_bare.true c.is_bare.ensures in
-    sym (is ∙ (λ i. but (leads R (c.deref.ensures i)) (leads R (c.deref-in-Some.ensures i))) ∙ known_left R (leads R (arc_value c.args.node.now)) m x known found) ∙ bare
+    sym (is ∙ (λ i. but (leads R (c.deref.ensures i)) (leads R (c.deref-in-Some.ensures i))) ∙ known_left R (leads R (arc_value c.args.ours.now)) m x known found) ∙ bare
 
 pub left-returns-in_ok-new-in-Some : goal.left-returns-in_ok-new-in-Some
 left-returns-in_ok-new-in-Some g t c =
@@ -97,7 +97,7 @@ left-returns-in_ok-new-in-Some g t c =
     let new : arc_value c.in_ok-new-in-Some.field-0 ≡ left = c.in_ok-new-in-Some.ensures.ok in (
       subst (IsTrie R) (sym new) c.in_ok-left-in-Some.ensures.good,
       subst (IsLive R) (sym new) live,
-      ap (leads R) new ∙ is ∙ (λ i. but (leads R (c.deref.ensures i)) (leads R (c.deref-in-Some.ensures i))) ∙ known_left R (leads R (arc_value c.args.node.now)) m x known found,
+      ap (leads R) new ∙ is ∙ (λ i. but (leads R (c.deref.ensures i)) (leads R (c.deref-in-Some.ensures i))) ∙ known_left R (leads R (arc_value c.args.ours.now)) m x known found,
     )
 
 pub without-loop-first-init : goal.without-loop-first-init

@@ -27,4 +27,4 @@ abbrev pub decreases-leave : goal.decreases-leave
 decreases-leave g l = 3 * size-Trie g.row.D.Denot g.row.A.Denot (arc_value l.node.now) + 2
 
 abbrev pub decreases-left : goal.decreases-left
-decreases-left g l = 3 * size-Trie g.row.D.Denot g.row.A.Denot (arc_value l.node.now) + 1
+decreases-left g l = 3 * size-Trie g.row.D.Denot g.row.A.Denot (arc_value l.ours.now) + 1
