@@ -145,11 +145,11 @@ beyond_keeps plan n m d k b normal sound = record {
   sound = sound;
   true_for = record {
     refuted = λ quiet p h.
-      let same = b.all_facts (p, inl h) in
-      subst (λ l. AreRefutedAt plan l p) (sym same) (k.true_for.refuted (subst AreQuiet same quiet) p ((b.cover p).0 h).0);
+        let same = b.all_facts (p, inl h) in
+        subst (λ l. AreRefutedAt plan l p) (sym same) (k.true_for.refuted (subst AreQuiet same quiet) p ((b.cover p).0 h).0);
     shown = λ quiet p e.
-      let same = b.all_facts (p, inr e) in
-      subst (λ l. AreShownBy plan l p) (sym same) (k.true_for.shown (subst AreQuiet same quiet) p ((b.witness p).0 e).0);
+        let same = b.all_facts (p, inr e) in
+        subst (λ l. AreShownBy plan l p) (sym same) (k.true_for.shown (subst AreQuiet same quiet) p ((b.witness p).0 e).0);
   };
 }
 

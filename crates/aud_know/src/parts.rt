@@ -166,10 +166,7 @@ pub fn witness_beyond<A: Allocator>(
 }
 
 /// Whether there is a refuted list or a witness.
-pub fn has_finding<A: Allocator + Copy>(
-    cover: &SharedCover<A>,
-    witness: &SharedWitness<A>,
-) -> bool
+pub fn has_finding<A: Allocator + Copy>(cover: &SharedCover<A>, witness: &SharedWitness<A>) -> bool
     ensures { IsTrue result ↔ HasFinding cover.now.value (linked witness.now) }
 {
     witness.is_some() || !cover.is_empty()

@@ -360,11 +360,7 @@ impl<D: Key + Dup, A: Allocator + Copy> Trie<D, A> {
 
     /// A trie of the lists that the other has not. What the other has nothing beside is shared.
     #[cycle(leavings)]
-    pub(crate) fn without(
-        &self,
-        other: &Trie<D, A>,
-        alloc: &A,
-    ) -> Result<Trie<D, A>, OutOfMemory>
+    pub(crate) fn without(&self, other: &Trie<D, A>, alloc: &A) -> Result<Trie<D, A>, OutOfMemory>
         requires here { IsTrie D.Ord.cmp self.now }
         requires there { IsTrie D.Ord.cmp other.now }
         ensures good { IfOk result (IsTrie D.Ord.cmp) }

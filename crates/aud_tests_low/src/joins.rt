@@ -9,7 +9,10 @@ use aud_lattice::{
 use std::alloc::{Allocator, Global};
 use std::process::Abort;
 
-pub fn set_of<A: Allocator + Copy>(alloc: A, items: &[u32]) -> Result<UnionSet<u32, A>, OutOfMemory> {
+pub fn set_of<A: Allocator + Copy>(
+    alloc: A,
+    items: &[u32],
+) -> Result<UnionSet<u32, A>, OutOfMemory> {
     let mut set = UnionSet::empty(alloc);
     for item in items {
         set.insert(*item)?;
@@ -17,7 +20,10 @@ pub fn set_of<A: Allocator + Copy>(alloc: A, items: &[u32]) -> Result<UnionSet<u
     Ok(set)
 }
 
-pub fn cover_of<A: Allocator + Copy>(alloc: A, lists: &[&[u32]]) -> Result<Cover<u32, A>, OutOfMemory> {
+pub fn cover_of<A: Allocator + Copy>(
+    alloc: A,
+    lists: &[&[u32]],
+) -> Result<Cover<u32, A>, OutOfMemory> {
     let mut cover = Cover::empty(alloc);
     for list in lists {
         cover.insert(list)?;

@@ -67,7 +67,7 @@ fn deltas_have_what_is_new(rt: HostRuntime) -> Result<(), Fail> {
         Some((13, 1, false)),
         Some((0, 0, false)),
     ];
-    assert!(rt; told.as_slice() == wanted && is_last, "{told:?}");
+    assert!(rt; told.as_slice() == wanted.as_slice() && is_last, "{told:?}");
     Ok(())
 }
 
