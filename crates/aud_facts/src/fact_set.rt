@@ -1,6 +1,6 @@
 //! Facts of one plan.
 
-ghost use Rattle.std.specs.Prelude.{◌≡◌, ◌≢◌, IfOk, OnOk, OnErr, IsTrue, ◌↔◌, [], None, MatchOption, All, false};
+ghost use Rattle.std.specs.Prelude.{◌≡◌, ◌≢◌, IfOk, OnOk, OnErr, IsTrue, ◌↔◌, [], None, MatchOption, All, Contains, false};
 ghost use Rattle.aud_event.specs.Facts.{first_fact_fault};
 ghost use Rattle.aud_event.specs.contracts.fact.FactOrd.TheImpl as fact_ord;
 ghost use Rattle.aud_history.specs.FirstFault.{IsWithinLimits};
@@ -148,6 +148,22 @@ impl<A: Allocator + Copy> Facts<A> {
         let theirs = other.set();
         self.set.join(theirs)?;
         Ok(())
+    }
+
+    /// The facts that the other has not, of an equal plan or not.
+    pub fn without(&self, other: &Facts<A>) -> Result<Facts<A>, OutOfMemory>
+        ensures plan { IfOk result (λ left. left.plan ≡ self.now.plan) }
+        ensures facts { IfOk result (λ left. (f : Fact) → Contains left.facts f ↔ (Contains self.now.facts f × ¬ (Contains other.now.facts f))) }
+        ensures ordered { IfOk result (λ left. AreOrdered left.facts) }
+    {
+        let plan = Arc::try_clone(&self.plan)?;
+        let set = self.set.without(&other.set)?;
+        let _ordered = set.iter();
+        Ok(Facts {
+            alloc: self.alloc,
+            plan,
+            set,
+        })
     }
 
     /// Whether both have equal plans and the same facts. It does not allocate.

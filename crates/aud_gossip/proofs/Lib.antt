@@ -1,1 +1,2 @@
 mod Offering
+mod Joining

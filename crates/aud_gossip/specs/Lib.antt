@@ -1,1 +1,3 @@
 pub mod Receiving
+pub mod Deltas
+pub mod Faults

@@ -3,6 +3,7 @@ pub mod Truths
 pub mod Taking
 pub mod Keeping
 pub mod Staying
+pub mod Beyonds
 pub mod Judging
 pub mod Exact
 pub mod Crosses

@@ -6,4 +6,5 @@ pub mod Findings
 pub mod Items
 pub mod KnowFaultNumbers
 pub mod Verdicts
+pub mod Beyond
 pub mod Laws

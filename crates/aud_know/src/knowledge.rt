@@ -6,6 +6,7 @@ ghost use Rattle.std.specs.Result.{IsErrOf};
 ghost use Rattle.aud_event.specs.Facts.{first_fact_fault};
 ghost use Rattle.aud_cover.specs.Closings.{IsCovered};
 ghost use Rattle.aud_know.specs.Norms.{fact, refuted, shown, atoms_of};
+ghost use Rattle.aud_know.specs.Beyond.{IsBeyond, JoinAlike};
 ghost use Rattle.aud_know.specs.Known.{knowing, Takes};
 ghost use Rattle.aud_know.specs.Truth.{IsKnowledge};
 ghost use Rattle.aud_know.specs.Findings.{found, IsTrueFinding};
@@ -16,8 +17,8 @@ use crate::fault::KnowFault;
 use crate::finding::Finding;
 use crate::item::Item;
 use crate::parts::{
-    SharedCover, SharedWitness, cover_with, covers_joined, same_witness, shared, witness_with,
-    witnesses_joined,
+    SharedCover, SharedWitness, cover_beyond, cover_with, covers_joined, facts_beyond, has_finding,
+    same_witness, shared, witness_beyond, witness_with, witnesses_joined,
 };
 use aud_event::{Dup, Fact, OutOfMemory, Plan};
 use aud_facts::Facts;
@@ -156,6 +157,21 @@ impl<A: Allocator + Copy> Knowledge<A> {
         Ok(())
     }
 
+    /// What the other has not: the refuted lists that are not lists of the other's cover, and the witness where the other has
+    /// not the same. Where there is any of these, all facts go with it, so that it is true by itself; else the facts that the
+    /// other has not. What joins it to the other then knows what it would by joining all.
+    pub fn beyond(&self, other: &Knowledge<A>) -> Result<Knowledge<A>, KnowFault>
+        ensures beyond { IfOk result (λ news. IsBeyond self.now.held other.now.held news.held) }
+        ensures plan { IfOk result (λ news. news.plan ≡ self.now.plan) }
+        ensures joins { IfOk result (λ news. JoinAlike other.now.held news.held self.now.held) }
+        ensures mismatch { IsErrOf result KnowFault.PlanMismatch ↔ (other.now.plan ≢ self.now.plan) }
+    {
+        if !self.plan().same(other.plan()) {
+            return Err(KnowFault::PlanMismatch);
+        }
+        Ok(self.news_for(other)?)
+    }
+
     /// Takes an item of its plan: a fact that the plan does not refuse, or what was found or is known under an equal
     /// plan. A refused call leaves the value.
     pub fn take(&mut self, item: &Item<A>) -> Result<(), KnowFault>
@@ -224,6 +240,25 @@ impl<A: Allocator + Copy> Knowledge<A> {
         self.facts.join(facts)?;
         self.witness = witness;
         Ok(())
+    }
+
+    // What another of the same plan has not.
+    fn news_for(&self, other: &Knowledge<A>) -> Result<Knowledge<A>, OutOfMemory>
+        ensures beyond { IfOk result (λ news. IsBeyond self.now.held other.now.held news.held) }
+        ensures plan { IfOk result (λ news. news.plan ≡ self.now.plan) }
+        ensures joins { IfOk result (λ news. JoinAlike other.now.held news.held self.now.held) }
+    {
+        let cover = cover_beyond(self.alloc, &self.cover, &other.cover)?;
+        let witness = witness_beyond(&self.witness, &other.witness)?;
+        let all = has_finding(&cover, &witness);
+        let facts = facts_beyond(all, &self.facts, &other.facts)?;
+        let _sound = facts.set();
+        Ok(Knowledge {
+            alloc: self.alloc,
+            facts,
+            cover,
+            witness,
+        })
     }
 
     // All that another knows of the same plan.

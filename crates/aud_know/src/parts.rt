@@ -5,9 +5,11 @@ ghost use Rattle.std.specs.Cmp.Lexicographic.{slice_cmp};
 ghost use Rattle.aud_lattice.specs.Covers.{IsCover, with_list, cover_union};
 ghost use Rattle.aud_lattice.specs.Least.{least_of};
 ghost use Rattle.aud_witness.specs.DecisionOrder.{decision_cmp};
+ghost use Rattle.aud_know.specs.Beyond.{AreAllOrNew, AreNew, HasFinding, IsNewWitness};
 ghost use Rattle.aud_know.specs.Known.{linked};
 
 use aud_event::{Dup, OutOfMemory};
+use aud_facts::Facts;
 use aud_lattice::{Cover, Lattice, Mark};
 use aud_witness::{Decision, Prefix};
 use std::alloc::Allocator;
@@ -134,6 +136,55 @@ pub fn witnesses_joined<A: Allocator>(
             Ordering::Less | Ordering::Equal => Ok(Some(Arc::try_clone(x)?)),
             Ordering::Greater => Ok(Some(Arc::try_clone(y)?)),
         },
+    }
+}
+
+/// The lists of the cover that are not lists of the other.
+pub fn cover_beyond<A: Allocator + Copy>(
+    alloc: A,
+    ours: &SharedCover<A>,
+    theirs: &SharedCover<A>,
+) -> Result<SharedCover<A>, OutOfMemory>
+    ensures new { IfOk result (λ left. AreNew ours.now.value theirs.now.value left.value) }
+    ensures cover { IfOk result (λ left. IsCover decision_cmp left.value) }
+{
+    let left = ours.without(theirs)?;
+    Ok(Arc::new(alloc, left)?)
+}
+
+/// The witness, where the other is not the same. It is shared.
+pub fn witness_beyond<A: Allocator>(
+    ours: &SharedWitness<A>,
+    theirs: &SharedWitness<A>,
+) -> Result<SharedWitness<A>, OutOfMemory>
+    ensures { IfOk result (λ left. IsNewWitness (linked ours.now) (linked theirs.now) (linked left)) }
+{
+    if same_witness(ours, theirs) {
+        return Ok(None);
+    }
+    shared(ours)
+}
+
+/// Whether there is a refuted list or a witness.
+pub fn has_finding<A: Allocator + Copy>(cover: &SharedCover<A>, witness: &SharedWitness<A>) -> bool
+    ensures { IsTrue result ↔ HasFinding cover.now.value (linked witness.now) }
+{
+    witness.is_some() || !cover.is_empty()
+}
+
+/// All of the facts, shared, or those that the others have not.
+pub fn facts_beyond<A: Allocator + Copy>(
+    all: bool,
+    ours: &Facts<A>,
+    theirs: &Facts<A>,
+) -> Result<Facts<A>, OutOfMemory>
+    ensures plan { IfOk result (λ f. f.plan ≡ ours.now.plan) }
+    ensures facts { IfOk result (λ f. AreAllOrNew all ours.now.facts theirs.now.facts f.facts) }
+{
+    if all {
+        ours.dup()
+    } else {
+        ours.without(theirs)
     }
 }
 

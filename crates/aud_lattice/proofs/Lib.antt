@@ -1,3 +1,5 @@
+pub mod Leftovers
+pub mod Leads
 pub mod Grouped
 pub mod Turns
 pub mod CoverCrosses

@@ -1,9 +1,9 @@
 -- A set as the list of its items, least first.
-use Rattle.std.specs.Prelude.{◌≡◌, Bool, true, false, ◌||◌, List, [], ◌∷◌, refl}
+use Rattle.std.specs.Prelude.{◌≡◌, Bool, true, false, ◌||◌, not, List, [], ◌∷◌, refl}
 use Rattle.std.specs.declared.cmp.Ordering.{Ordering}
 use Rattle.std.specs.declared.cmp.Ordering.TheVariants.{Less, Equal, Greater}
 use Rattle.std.specs.Ordering.{eq_by_cmp}
-use Rattle.std.specs.List.{list_any}
+use Rattle.std.specs.List.{filter, list_any}
 use Rattle.aud_lattice.specs.Laws.{SemilatticeLaws}
 
 -- one of three, by what a comparison answered
@@ -25,6 +25,10 @@ with_item cmp x (y ∷ ys) = by_order (cmp x y) (x ∷ y ∷ ys) (y ∷ ys) (y �
 abbrev pub union : {T : Type 0} → (T → T → Ordering) → List T → List T → List T
 union cmp [] ys = ys
 union cmp (x ∷ xs) ys = with_item cmp x (union cmp xs ys)
+
+-- the items of the first that the other has not
+abbrev pub without : {T : Type 0} → (T → T → Ordering) → List T → List T → List T
+without cmp xs ys = filter (λ x. not (has cmp ys x)) xs
 
 -- the set once each item of the list is put in, from the front
 abbrev pub inserted : {T : Type 0} → (T → T → Ordering) → List T → List T → List T

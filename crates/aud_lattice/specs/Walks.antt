@@ -1,5 +1,5 @@
 -- A trie by what its walks meet.
-use Rattle.std.specs.Prelude.{◌≡◌, ◌≢◌, Bool, true, false, ◌||◌, List, [], ◌∷◌, Option, Some, None, ⊤, ◌&&◌, cond}
+use Rattle.std.specs.Prelude.{◌≡◌, ◌≢◌, Bool, true, false, not, ◌||◌, List, [], ◌∷◌, Option, Some, None, MatchBool, ⊤, ◌&&◌, cond}
 use Rattle.std.specs.Arc.{arc_value}
 use Rattle.std.specs.declared.sync.Arc.{Arc}
 use Rattle.std.specs.declared.cmp.Ordering.{Ordering}
@@ -61,6 +61,11 @@ abbrev pub node_at : {D A : Type 0} → (D → D → Ordering) → List D → Tr
 node_at cmp [] t = Some t
 node_at cmp (x ∷ q) t = go_on (λ u. node_at cmp q u) (child cmp t x)
 
+-- whether q leads to a member
+abbrev pub leads : {D A : Type 0} → (D → D → Ordering) → Trie D A → List D → Bool
+leads cmp t [] = is_member t
+leads cmp t (x ∷ q) = walk_on (λ u. leads cmp u q) (child cmp t x)
+
 -- some list has a beginning in it
 abbrev pub IsLive : {D A : Type 0} → (D → D → Ordering) → Trie D A → Type 0
 IsLive {D} cmp t = ((q : List D) → walk cmp t q ≡ false) → ⊥
@@ -77,6 +82,14 @@ nothing q = false
 abbrev pub starts : {D : Type 0} → (D → D → Ordering) → D → (List D → Bool) → List D → Bool
 starts cmp x f [] = false
 starts cmp x f (y ∷ q) = is_eq (cmp x y) && f q
+
+-- what the first passes and the other does not
+abbrev pub but : {D : Type 0} → (List D → Bool) → (List D → Bool) → List D → Bool
+but f g q = f q && not (g q)
+
+-- what f passes after x
+abbrev pub after : {D : Type 0} → D → (List D → Bool) → List D → Bool
+after x f q = f (x ∷ q)
 
 -- what the first passes the other passes too
 pub record IsWithin {D : Type 0} (f g : List D → Bool) : Type 0 where
@@ -108,6 +121,15 @@ abbrev pub now_of : {X : Type 0} → X → Option X → X
 now_of old None = old
 now_of old (Some new) = new
 
+-- f passes nothing; or a new node is to stand there, that leads to just what it passes
+abbrev pub IsLeft : {D A : Type 0} → (D → D → Ordering) → (List D → Bool) → Option (Arc (Trie D A) A) → Type 0
+IsLeft cmp f None = f ≡ nothing
+IsLeft cmp f (Some a) = IsTrie cmp (arc_value a) × IsLive cmp (arc_value a) × (leads cmp (arc_value a) ≡ f)
+
+-- the test says whether no list has a beginning in it
+abbrev pub TellsWhetherBare : {D A : Type 0} → (D → D → Ordering) → Bool → Trie D A → Type 0
+TellsWhetherBare cmp test t = MatchBool test (leads cmp t ≡ nothing) (IsLive cmp t)
+
 -- behind x all that f passes passes in the node found there; or a new node is to stand there, in which it does, and what passed
 abbrev pub IsMet : {D A : Type 0} → (D → D → Ordering) → BTreeMap D (Arc (Trie D A) A) A → D → (List D → Bool) → Option (Arc (Trie D A) A) → Type 0
 IsMet {D} {A} cmp next x f None = (w : Trie D A) × ((node_of cmp next x ≡ Some w) × (walk cmp w ≡ either f (walk cmp w)))
@@ -124,3 +146,7 @@ StandsBehind {D} cmp x node old new = (y : D) → node_of cmp new y ≡ cond (is
 -- the same nodes stand behind the same elements
 abbrev pub AreAlike : {D A : Type 0} → (D → D → Ordering) → BTreeMap D (Arc (Trie D A) A) A → BTreeMap D (Arc (Trie D A) A) A → Type 0
 AreAlike {D} cmp old new = (y : D) → node_of cmp new y ≡ node_of cmp old y
+
+-- the same nodes stand behind all elements but x
+abbrev pub AreAlikeBut : {D A : Type 0} → (D → D → Ordering) → D → BTreeMap D (Arc (Trie D A) A) A → BTreeMap D (Arc (Trie D A) A) A → Type 0
+AreAlikeBut {D} cmp x old new = (y : D) → is_eq (cmp x y) ≡ false → node_of cmp new y ≡ node_of cmp old y

@@ -86,6 +86,26 @@ impl<D: Key + Dup, A: Allocator + Copy> Cover<D, A> {
         marked(&self.root, list)
     }
 
+    /// Whether there is no list. It does not allocate.
+    pub fn is_empty(&self) -> bool
+        ensures { IsTrue result ↔ (self.now ≡ []) }
+    {
+        is_bare(&self.root)
+    }
+
+    /// The lists that are not lists of the other, whatever the other covers. Both are walked where they have nodes at the
+    /// same places; what the other has nothing beside is shared.
+    pub fn without(&self, other: &Cover<D, A>) -> Result<Cover<D, A>, OutOfMemory>
+        ensures members { IfOk result (λ left. (p : List D) → Contains left p ↔ (Contains self.now p × ¬ (Contains other.now p))) }
+        ensures cover { IfOk result (IsCover D.Ord.cmp) }
+    {
+        let root = without(&self.root, &other.root, &self.alloc)?;
+        Ok(Cover {
+            root,
+            alloc: self.alloc,
+        })
+    }
+
     /// Whether a beginning of each of the other's lists is there. It does not allocate, and takes one walk of both.
     pub fn covers_all(&self, other: &Cover<D, A>) -> bool
         ensures { IsTrue result ↔ All (λ list. covers D.Ord.cmp self.now list ≡ true) other.now }
@@ -119,6 +139,27 @@ fn marked<D: Key + Dup, A: Allocator + Copy>(root: &Trie<D, A>, list: &[D]) -> M
     ensures { result ≡ mark_of D.Ord.cmp (paths root.now) list.now }
 {
     root.mark(list)
+}
+
+fn is_bare<D: Key + Dup, A: Allocator + Copy>(root: &Trie<D, A>) -> bool
+    requires { IsTrie D.Ord.cmp root.now }
+    ensures { IsTrue result ↔ (paths root.now ≡ []) }
+{
+    root.is_bare()
+}
+
+fn without<D: Key + Dup, A: Allocator + Copy>(
+    root: &Trie<D, A>,
+    other: &Trie<D, A>,
+    alloc: &A,
+) -> Result<Trie<D, A>, OutOfMemory>
+    requires root { IsTrie D.Ord.cmp root.now }
+    requires other { IsTrie D.Ord.cmp other.now }
+    ensures good { IfOk result (IsTrie D.Ord.cmp) }
+    ensures cover { IfOk result (λ t. IsCover D.Ord.cmp (paths t)) }
+    ensures members { IfOk result (λ t. (p : List D) → Contains (paths t) p ↔ (Contains (paths root.now) p × ¬ (Contains (paths other.now) p))) }
+{
+    root.without(other, alloc)
 }
 
 fn covers_each<D: Key + Dup, A: Allocator + Copy>(root: &Trie<D, A>, other: &Trie<D, A>) -> bool

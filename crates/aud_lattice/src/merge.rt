@@ -1,10 +1,12 @@
 //! Two trees at once.
 
-ghost use Rattle.std.specs.Prelude.{◌≡◌, IfOk, IsTrue, ◌↔◌};
+ghost use Rattle.std.specs.Prelude.{◌≡◌, ◌∷◌, ◌++◌, [], IfOk, OnOk, IsTrue, ◌↔◌};
 ghost use Rattle.std.specs.List.Sorted.{IsStrictlySortedBy};
-ghost use Rattle.aud_lattice.specs.Sets.{with_item, union};
+ghost use Rattle.aud_lattice.specs.Sets.{with_item, without, union};
 ghost use Rattle.aud_lattice.specs.Trees.{items_of};
 
+use crate::bulk::tree_of;
+use crate::copies::push_copy;
 use crate::iter::all_of;
 use crate::tree::{Link, contains, count, shared, with};
 use aud_event::{Dup, Key, OutOfMemory};
@@ -63,6 +65,37 @@ pub fn joined<T: Key + Dup, A: Allocator + Clone>(
     } else {
         poured(alloc, ys, xs)
     }
+}
+
+/// The items of the first tree that the second has not. Only these are copied.
+pub fn without<T: Key + Dup, A: Allocator + Clone>(
+    alloc: &A,
+    xs: &Link<T, A>,
+    ys: &Link<T, A>,
+) -> Result<Link<T, A>, OutOfMemory>
+    requires { IsStrictlySortedBy T.Ord.cmp (items_of ys.now) }
+    ensures { IfOk result (λ all. items_of all ≡ without T.Ord.cmp (items_of xs.now) (items_of ys.now)) }
+{
+    let mut all = Vec::new(alloc.clone()?);
+    for item in all_of(xs) {
+        put_new(&mut all, item, ys)?;
+    }
+    tree_of(alloc, all)
+}
+
+// Puts a copy of the item at the end where the tree has it not.
+fn put_new<T: Key + Dup, A: Allocator, B: Allocator>(
+    all: &mut Vec<T, B>,
+    item: &T,
+    tree: &Link<T, A>,
+) -> Result<(), OutOfMemory>
+    requires { IsStrictlySortedBy T.Ord.cmp (items_of tree.now) }
+    ensures { OnOk result (all.new.items ≡ all.old.items ++ without T.Ord.cmp (item.now ∷ []) (items_of tree.now)) }
+{
+    if contains(tree, item) {
+        return Ok(());
+    }
+    push_copy(all, item)
 }
 
 fn alike<T: Key>(x: &T, y: &T) -> bool

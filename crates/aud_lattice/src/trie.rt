@@ -1,10 +1,10 @@
 //! Tries of lists, whose nodes are shared: a changed trie keeps what it did not change of the old one.
 
-ghost use Rattle.std.specs.Prelude.{◌≡◌, ◌++◌, OnOk, OnErr, IfOk, IsTrue, ◌↔◌, ◌∷◌, map};
+ghost use Rattle.std.specs.Prelude.{None, ◌≡◌, ◌++◌, OnOk, OnErr, IfOk, IsTrue, ◌↔◌, ◌∷◌, map};
 ghost use Rattle.std.specs.Option.{option_copied};
 ghost use Rattle.std.specs.Arc.{arc_value};
 ghost use Rattle.std.specs.BTreeMap.{IsOrdered};
-ghost use Rattle.aud_lattice.specs.Walks.{walk, walk_mark, nothing, starts, node_at, now_of, AreAlike, IsTrie, IsLive, IsMet, IsWithin, PassesBehind, StandsBehind};
+ghost use Rattle.aud_lattice.specs.Walks.{walk, walk_mark, leads, nothing, but, after, starts, node_at, node_of, now_of, AreAlike, AreAlikeBut, IsTrie, IsLeft, IsLive, IsMet, IsWithin, PassesBehind, StandsBehind, TellsWhetherBare};
 ghost use Rattle.aud_lattice.specs.Paths.{paths};
 ghost use Rattle.aud_lattice.specs.Covers.{begins};
 ghost use Rattle.aud_lattice.specs.Sets.{either};
@@ -344,6 +344,93 @@ impl<D: Key + Dup, A: Allocator + Copy> Trie<D, A> {
                 None => false,
                 Some(known) => node.is_within(known),
             },
+        }
+    }
+
+    /// Whether there is no list. It does not allocate.
+    pub(crate) fn is_bare(&self) -> bool
+        requires { IsTrie D.Ord.cmp self.now }
+        ensures { TellsWhetherBare D.Ord.cmp result self.now }
+    {
+        match self {
+            Trie::Member => false,
+            Trie::Fork(next) => next.is_empty(),
+        }
+    }
+
+    /// A trie of the lists that the other has not. What the other has nothing beside is shared.
+    #[cycle(leavings)]
+    pub(crate) fn without(&self, other: &Trie<D, A>, alloc: &A) -> Result<Trie<D, A>, OutOfMemory>
+        requires here { IsTrie D.Ord.cmp self.now }
+        requires there { IsTrie D.Ord.cmp other.now }
+        ensures good { IfOk result (IsTrie D.Ord.cmp) }
+        ensures left { IfOk result (λ t. leads D.Ord.cmp t ≡ but (leads D.Ord.cmp self.now) (leads D.Ord.cmp other.now)) }
+    {
+        match self {
+            Trie::Member => match other {
+                Trie::Member => Ok(Trie::empty(*alloc)),
+                Trie::Fork(_) => Ok(Trie::Member),
+            },
+            Trie::Fork(nodes) => match other {
+                Trie::Member => self.copied(alloc),
+                Trie::Fork(theirs) => {
+                    let mut all = BTreeMap::new(*alloc);
+                    for (first, node) in nodes {
+                        Trie::leave(&mut all, first, node, theirs, alloc)?;
+                    }
+                    Ok(Trie::Fork(all))
+                }
+            },
+        }
+    }
+
+    // Puts behind the element the lists of the node that they have not there.
+    #[cycle(leavings)]
+    fn leave(
+        all: &mut BTreeMap<D, Arc<Trie<D, A>, A>, A>,
+        first: &D,
+        node: &Arc<Trie<D, A>, A>,
+        theirs: &BTreeMap<D, Arc<Trie<D, A>, A>, A>,
+        alloc: &A,
+    ) -> Result<(), OutOfMemory>
+        requires node { IsTrie D.Ord.cmp (arc_value node.now) }
+        requires live { IsLive D.Ord.cmp (arc_value node.now) }
+        requires theirs { IsTrie D.Ord.cmp (Fork theirs.now) }
+        requires into { IsTrie D.Ord.cmp (Fork all.old) }
+        requires absent { node_of D.Ord.cmp all.old first.now ≡ None }
+        ensures good { OnOk result (IsTrie D.Ord.cmp (Fork all.new)) }
+        ensures others { OnOk result (AreAlikeBut D.Ord.cmp first.now all.old all.new) }
+        ensures left { OnOk result (leads D.Ord.cmp (Fork all.new) ≡ either (but (starts D.Ord.cmp first.now (leads D.Ord.cmp (arc_value node.now))) (leads D.Ord.cmp (Fork theirs.now))) (leads D.Ord.cmp (Fork all.old))) }
+    {
+        match Trie::left(first, node, theirs, alloc)? {
+            None => Ok(()),
+            Some(node) => set(all, first, node),
+        }
+    }
+
+    // A node of the lists that they have not behind the element, if there are any.
+    #[cycle(leavings)]
+    fn left(
+        first: &D,
+        ours: &Arc<Trie<D, A>, A>,
+        theirs: &BTreeMap<D, Arc<Trie<D, A>, A>, A>,
+        alloc: &A,
+    ) -> Result<Option<Arc<Trie<D, A>, A>>, OutOfMemory>
+        requires ours { IsTrie D.Ord.cmp (arc_value ours.now) }
+        requires live { IsLive D.Ord.cmp (arc_value ours.now) }
+        requires theirs { IsTrie D.Ord.cmp (Fork theirs.now) }
+        ensures { IfOk result (IsLeft D.Ord.cmp (but (leads D.Ord.cmp (arc_value ours.now)) (after first.now (leads D.Ord.cmp (Fork theirs.now))))) }
+    {
+        match theirs.get(first) {
+            None => Ok(Some(Arc::try_clone(ours)?)),
+            Some(known) => {
+                let left = ours.without(known, alloc)?;
+                if left.is_bare() {
+                    Ok(None)
+                } else {
+                    Ok(Some(Arc::new(*alloc, left)?))
+                }
+            }
         }
     }
 

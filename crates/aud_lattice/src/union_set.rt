@@ -2,14 +2,14 @@
 
 ghost use Rattle.std.specs.Prelude.{◌≡◌, IfOk, OnOk, OnErr, IsTrue, ◌↔◌, ◌⊎◌, List, [], length, not, Bool, Contains};
 ghost use Rattle.std.specs.List.Sorted.{IsStrictlySortedBy};
-ghost use Rattle.aud_lattice.specs.Sets.{has, with_item, inserted, union, either, either_laws};
+ghost use Rattle.aud_lattice.specs.Sets.{has, with_item, without, inserted, union, either, either_laws};
 ghost use Rattle.aud_lattice.specs.Sorted.{has-union};
 ghost use Rattle.aud_lattice.specs.Trees.{items_of};
 
 use crate::Lattice;
 use crate::bulk::{arranged, tree_of};
 use crate::iter::{Iter, all_of};
-use crate::merge::{joined, same};
+use crate::merge::{joined, same, without};
 use crate::ranked::{Rank, ranked};
 use crate::tree::{Link, contains, count, shared, with};
 use aud_event::{Dup, Key, OutOfMemory};
@@ -95,6 +95,17 @@ impl<T: Key + Dup, A: Allocator + Clone> UnionSet<T, A> {
         };
         self.root = root;
         Ok(true)
+    }
+
+    /// The items that the other has not. Each item is looked up in the other once, and only those that are left take memory.
+    #[tactic(auto, using(crate::proofs::Leftovers::sorted_without))]
+    pub fn without(&self, other: &UnionSet<T, A>) -> Result<UnionSet<T, A>, OutOfMemory>
+        ensures left { IfOk result (λ left. left ≡ without T.Ord.cmp self.now other.now) }
+        ensures members { IfOk result (λ left. (x : T) → Contains left x ↔ (Contains self.now x × ¬ (Contains other.now x))) }
+    {
+        let alloc = self.alloc.clone()?;
+        let root = without(&alloc, &self.root, &other.root)?;
+        Ok(UnionSet { alloc, root })
     }
 }
 

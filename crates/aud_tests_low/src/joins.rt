@@ -9,7 +9,10 @@ use aud_lattice::{
 use std::alloc::{Allocator, Global};
 use std::process::Abort;
 
-fn set_of<A: Allocator + Copy>(alloc: A, items: &[u32]) -> Result<UnionSet<u32, A>, OutOfMemory> {
+pub fn set_of<A: Allocator + Copy>(
+    alloc: A,
+    items: &[u32],
+) -> Result<UnionSet<u32, A>, OutOfMemory> {
     let mut set = UnionSet::empty(alloc);
     for item in items {
         set.insert(*item)?;
@@ -17,7 +20,10 @@ fn set_of<A: Allocator + Copy>(alloc: A, items: &[u32]) -> Result<UnionSet<u32, 
     Ok(set)
 }
 
-fn cover_of<A: Allocator + Copy>(alloc: A, lists: &[&[u32]]) -> Result<Cover<u32, A>, OutOfMemory> {
+pub fn cover_of<A: Allocator + Copy>(
+    alloc: A,
+    lists: &[&[u32]],
+) -> Result<Cover<u32, A>, OutOfMemory> {
     let mut cover = Cover::empty(alloc);
     for list in lists {
         cover.insert(list)?;
@@ -37,7 +43,7 @@ fn least_of<A: Allocator + Copy>(
 }
 
 /// Whether the value is the same as one that was to be made, for which there was memory.
-fn is_same<L: Lattice + Dup>(value: &L, made: Result<L, OutOfMemory>) -> bool {
+pub fn is_same<L: Lattice + Dup>(value: &L, made: Result<L, OutOfMemory>) -> bool {
     match made {
         Ok(other) => value.same(&other),
         Err(OutOfMemory) => false,

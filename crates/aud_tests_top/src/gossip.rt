@@ -26,12 +26,12 @@ fn log_of(fact: &Fact) -> u32 {
 
 /// A node with the pass of its one seat.
 #[derive(Drop)]
-struct Site<J: Fleet, S: Wait + Drop> {
-    node: Running<J, S>,
-    pass: Pass<J>,
+pub struct Site<J: Fleet, S: Wait + Drop> {
+    pub node: Running<J, S>,
+    pub pass: Pass<J>,
 }
 
-fn started<J: Fleet, R: Wait>(
+pub fn started<J: Fleet, R: Wait>(
     rt: &R,
     alloc: Global,
     opened: Opened,
@@ -61,7 +61,7 @@ fn posted<R: Wait>(rt: &R, alloc: Global, packets: &[Packet]) -> Option<Receiver
 
 impl<J: Fleet, S: Wait + Drop> Site<J, S> {
     /// Offers the facts of the log.
-    fn offer_log<R: Wait>(&mut self, rt: &R, alloc: Global, facts: &[Fact], log: u32) {
+    pub fn offer_log<R: Wait>(&mut self, rt: &R, alloc: Global, facts: &[Fact], log: u32) {
         for fact in facts {
             if log_of(fact) == log {
                 let _taken = offer_facts(rt, alloc, &self.node, &mut self.pass, &[*fact]);
@@ -69,7 +69,7 @@ impl<J: Fleet, S: Wait + Drop> Site<J, S> {
         }
     }
 
-    fn verdict(&mut self) -> Result<Judgement, ReadFault> {
+    pub fn verdict(&mut self) -> Result<Judgement, ReadFault> {
         verdict_at(&self.node, &mut self.pass)
     }
 
@@ -80,7 +80,7 @@ impl<J: Fleet, S: Wait + Drop> Site<J, S> {
         posted(rt, alloc, &[packet, Packet { known }])
     }
 
-    fn receive<R: Wait>(
+    pub fn receive<R: Wait>(
         &mut self,
         rt: &R,
         alloc: Global,

@@ -2,7 +2,11 @@
 #![tactic(auto)]
 
 #[cfg(test)]
+mod beyond;
+#[cfg(test)]
 mod certified;
+#[cfg(test)]
+mod deltas;
 #[cfg(test)]
 mod devices;
 #[cfg(test)]

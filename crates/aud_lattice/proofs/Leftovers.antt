@@ -1,0 +1,44 @@
+-- What is left of a set without the items of another.
+use Rattle.std.proofs.Common.{◌≡◌, Bool, true, false, not, ◌&&◌, List, [], ◌∷◌, ◌++◌, refl, sym, ap, ◌∙◌, ◌↔◌, append_assoc}
+use mathlib.Core.Bool.{true≢false}
+use Rattle.std.specs.declared.cmp.Ordering.{Ordering}
+use Rattle.std.specs.Ordering.{eq_by_cmp}
+use Rattle.std.specs.Cmp.{IsTotalOrder, Equal-is}
+use Rattle.std.specs.List.{Contains}
+use Rattle.std.proofs.lemmas.List.Elements.{filter-append}
+use Rattle.std.proofs.lemmas.Map.Views.{any-filter_same}
+use Rattle.std.specs.List.Sorted.{IsStrictlySortedBy}
+use Rattle.std.proofs.lemmas.List.Kept.{IsStrictlySortedBy-filter}
+use Rattle.aud_event.specs.Exact.{IsExact}
+use Rattle.aud_lattice.specs.Sets.{has, without}
+use Rattle.aud_lattice.specs.Members.{has_is}
+use Rattle.aud_lattice.specs.Tries.{not_true}
+
+pub sorted_without : {T : Type 0} (R : T → T → Ordering) (xs ys : List T) → IsStrictlySortedBy R xs → IsStrictlySortedBy R (without R xs ys)
+sorted_without R xs ys s = IsStrictlySortedBy-filter R (λ x. not (has R ys x)) xs s
+
+and_true : (a b : Bool) → (not a && b) ≡ true → (b ≡ true) × (a ≡ false)
+and_true true b e = absurd (true≢false (sym e))
+and_true false b e = (e, refl)
+
+true_and : (a b : Bool) → b ≡ true → a ≡ false → (not a && b) ≡ true
+true_and a b e f = (λ i. not (f i) && b) ∙ e
+
+-- one item more
+pub without_more : {T : Type 0} (R : T → T → Ordering) (x : T) (xs ys all : List T) → (all ++ without R (x ∷ []) ys) ++ without R xs ys ≡ all ++ without R (x ∷ xs) ys
+without_more R x xs ys all = append_assoc all (without R (x ∷ []) ys) (without R xs ys) ∙ ap (λ l. all ++ l) (sym (filter-append (λ z. not (has R ys z)) (x ∷ []) xs))
+
+module _ {T : Type 0} {R : T → T → Ordering} (o : IsTotalOrder R) (ex : IsExact R) where
+  pub has-without : (xs ys : List T) (q : T) → has R (without R xs ys) q ≡ (not (has R ys q) && has R xs q)
+  has-without xs ys q = any-filter_same (eq_by_cmp R q) (λ x. not (has R ys x)) (not (has R ys q)) (λ k e. ap (λ z. not (has R ys z)) (sym (ex q k ((Equal-is (R q k)).0 e)))) xs
+
+  pub contains_without : (xs ys : List T) (q : T) → Contains (without R xs ys) q ↔ (Contains xs q × ¬ (Contains ys q))
+  contains_without xs ys q = (from, to)
+    where
+      from : Contains (without R xs ys) q → Contains xs q × ¬ (Contains ys q)
+      from h =
+          let both = and_true (has R ys q) (has R xs q) (sym (has-without xs ys q) ∙ (has_is o ex (without R xs ys) q).1 h) in
+          ((has_is o ex xs q).0 both.0, λ there. true≢false (sym ((has_is o ex ys q).1 there) ∙ both.1))
+
+      to : Contains xs q × ¬ (Contains ys q) → Contains (without R xs ys) q
+      to h = (has_is o ex (without R xs ys) q).0 (has-without xs ys q ∙ true_and (has R ys q) (has R xs q) ((has_is o ex xs q).1 h.0) (not_true (has R ys q) (λ e. h.1 ((has_is o ex ys q).0 e))))
