@@ -11,7 +11,7 @@ use aud_event::{Fact, Plan};
 use aud_facts::Facts;
 use aud_gossip::laws::{deltas_are_enough, last_is_join};
 use aud_gossip::{Outbox, Received, SinceFault};
-use aud_know::{Finding, Item, Knowledge};
+use aud_know::{Finding, Knowledge};
 use aud_node::{Fleet, Opened, Packet, ReadFault};
 use aud_worked::{TORN_READ_THEN_ABORT, Unread, facts_of};
 use crossbeam_channel::Receiver;
@@ -185,8 +185,7 @@ fn rounds<J: Fleet, R: Wait>(
     first.offer_log(rt, alloc, facts, 0);
     first.offer_log(rt, alloc, facts, 1);
     let all = round(rt, alloc, &mut first, &mut second, &mut outbox)?;
-    let item = Item::Finding(finding);
-    let _offered = first.node.offer(rt, alloc, &mut first.pass, item);
+    first.offer_found(rt, alloc, finding);
     let found = round(rt, alloc, &mut first, &mut second, &mut outbox)?;
     let nothing = round(rt, alloc, &mut first, &mut second, &mut outbox)?;
     Some([all, found, nothing])

@@ -69,6 +69,12 @@ impl<J: Fleet, S: Wait + Drop> Site<J, S> {
         }
     }
 
+    /// Offers what was found.
+    pub fn offer_found<R: Wait>(&mut self, rt: &R, alloc: Global, finding: Finding) {
+        let item = Item::Finding(finding);
+        let _offered = self.node.offer(rt, alloc, &mut self.pass, item);
+    }
+
     pub fn verdict(&mut self) -> Result<Judgement, ReadFault> {
         verdict_at(&self.node, &mut self.pass)
     }
