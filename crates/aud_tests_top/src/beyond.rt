@@ -11,7 +11,7 @@ use std::alloc::{Allocator, Global};
 use std::test::Fail;
 
 /// How many facts and refuted lists there are, and whether there is a witness.
-pub type Counts = (usize, usize, bool);
+type Counts = (usize, usize, bool);
 
 /// A run, what is known of it, what another knows of it, and what the first knows beyond that.
 #[derive(Clone, Copy)]
@@ -51,7 +51,7 @@ const ROWS: [Row; 9] = [
 ];
 
 /// What is counted of what is known.
-pub fn counts<A: Allocator + Copy>(known: &Knowledge<A>) -> Result<Counts, OutOfMemory> {
+fn counts<A: Allocator + Copy>(known: &Knowledge<A>) -> Result<Counts, OutOfMemory> {
     let lists = known.cover().lists()?.len();
     Ok((known.facts().len(), lists, known.witness().is_some()))
 }
@@ -68,16 +68,33 @@ fn joined<A: Allocator + Copy>(
     }
 }
 
+/// Whether the other knows as much by the news as by all that is known.
+fn is_enough(other: &Knowledge, news: &Knowledge, known: &Knowledge) -> Result<bool, OutOfMemory> {
+    let by_news = joined(other, news)?;
+    let by_all = joined(other, known)?;
+    Ok(by_news.same(&by_all))
+}
+
 /// What is counted of the news, and whether they are enough for the other.
-fn told(row: Row, alloc: Global) -> Result<Option<(Counts, bool)>, Unread> {
-    let run = facts_of(alloc, row.0)?;
-    let known = known_by(alloc, &run, row.1)?;
-    let other = known_by(alloc, &run, row.2)?;
-    let Ok(news) = known.beyond(&other) else {
+fn judged(known: &Knowledge, other: &Knowledge) -> Result<Option<(Counts, bool)>, OutOfMemory> {
+    let Ok(news) = known.beyond(other) else {
         return Ok(None);
     };
-    let is_enough = joined(&other, &news)?.same(&joined(&other, &known)?);
-    Ok(Some((counts(&news)?, is_enough)))
+    let counts = counts(&news)?;
+    let is_enough = is_enough(other, &news, known)?;
+    Ok(Some((counts, is_enough)))
+}
+
+fn told_of(alloc: Global, run: &Facts, row: Row) -> Result<Option<(Counts, bool)>, Unread> {
+    let known = known_by(alloc, run, row.1)?;
+    let other = known_by(alloc, run, row.2)?;
+    Ok(judged(&known, &other)?)
+}
+
+/// What is said of the row.
+fn told(row: Row, alloc: Global) -> Result<Option<(Counts, bool)>, Unread> {
+    let run = facts_of(alloc, row.0)?;
+    told_of(alloc, &run, row)
 }
 
 #[test]

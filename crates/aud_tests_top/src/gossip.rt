@@ -26,12 +26,12 @@ fn log_of(fact: &Fact) -> u32 {
 
 /// A node with the pass of its one seat.
 #[derive(Drop)]
-pub struct Site<J: Fleet, S: Wait + Drop> {
-    pub node: Running<J, S>,
-    pub pass: Pass<J>,
+struct Site<J: Fleet, S: Wait + Drop> {
+    node: Running<J, S>,
+    pass: Pass<J>,
 }
 
-pub fn started<J: Fleet, R: Wait>(
+fn started<J: Fleet, R: Wait>(
     rt: &R,
     alloc: Global,
     opened: Opened,
@@ -61,7 +61,7 @@ fn posted<R: Wait>(rt: &R, alloc: Global, packets: &[Packet]) -> Option<Receiver
 
 impl<J: Fleet, S: Wait + Drop> Site<J, S> {
     /// Offers the facts of the log.
-    pub fn offer_log<R: Wait>(&mut self, rt: &R, alloc: Global, facts: &[Fact], log: u32) {
+    fn offer_log<R: Wait>(&mut self, rt: &R, alloc: Global, facts: &[Fact], log: u32) {
         for fact in facts {
             if log_of(fact) == log {
                 let _taken = offer_facts(rt, alloc, &self.node, &mut self.pass, &[*fact]);
@@ -69,13 +69,7 @@ impl<J: Fleet, S: Wait + Drop> Site<J, S> {
         }
     }
 
-    /// Offers what was found.
-    pub fn offer_found<R: Wait>(&mut self, rt: &R, alloc: Global, finding: Finding) {
-        let item = Item::Finding(finding);
-        let _offered = self.node.offer(rt, alloc, &mut self.pass, item);
-    }
-
-    pub fn verdict(&mut self) -> Result<Judgement, ReadFault> {
+    fn verdict(&mut self) -> Result<Judgement, ReadFault> {
         verdict_at(&self.node, &mut self.pass)
     }
 
@@ -86,7 +80,7 @@ impl<J: Fleet, S: Wait + Drop> Site<J, S> {
         posted(rt, alloc, &[packet, Packet { known }])
     }
 
-    pub fn receive<R: Wait>(
+    fn receive<R: Wait>(
         &mut self,
         rt: &R,
         alloc: Global,

@@ -6,8 +6,6 @@ mod beyond;
 #[cfg(test)]
 mod certified;
 #[cfg(test)]
-mod deltas;
-#[cfg(test)]
 mod devices;
 #[cfg(test)]
 mod fixtures;
