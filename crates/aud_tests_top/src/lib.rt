@@ -2,8 +2,6 @@
 #![tactic(auto)]
 
 #[cfg(test)]
-mod beyond;
-#[cfg(test)]
 mod certified;
 #[cfg(test)]
 mod devices;
