@@ -10,7 +10,7 @@ use Rattle.aud_witness.specs.declared.decision.Decision.{Decision}
 use Rattle.aud_witness.specs.DecisionOrder.{decision_cmp}
 use Rattle.aud_witness.specs.Prefixes.{BeginsWith}
 use Rattle.aud_witness.specs.Orders.{IsGood}
-use Rattle.aud_cover.specs.Closings.{IsCovered, IsInside}
+use Rattle.aud_cover.specs.Closings.{IsCovered, IsInside, IsClosed}
 
 -- p is good, a proper beginning of a member, and the cover has no beginning of it
 pub record IsInner (objects : List Declared) (h : History) (cover : List (List Decision)) (p : List Decision) : Type 0 where
@@ -37,6 +37,10 @@ pub record AreOpen (objects : List Declared) (h : History) (cover : List (List D
 -- no member has more decisions than the history has transactions
 abbrev pub AreShortEnough : History → List (List Decision) → Type 0
 AreShortEnough h cover = (p : List Decision) → Contains cover p → length p ≤ length (transactions h)
+
+-- where the cover's members are short enough, the list is empty exactly where the cover closes the empty list
+abbrev pub IsEmptyWhereClosed : List Declared → History → List (List Decision) → List (List Decision) → Type 0
+IsEmptyWhereClosed objects h cover list = AreShortEnough h cover → (list ≡ []) ↔ IsClosed objects h cover []
 
 -- to a list are added exactly the open lists that begin with p, each once, the least first
 pub record AreAdded (objects : List Declared) (h : History) (cover : List (List Decision)) (p : List Decision) (old new : List (List Decision)) : Type 0 where

@@ -1,9 +1,8 @@
 //! What a cover leaves open.
 
-ghost use Rattle.std.specs.Prelude.{◌≡◌, ◌↔◌, [], ◌∷◌, ◌++◌, IfOk, OnOk};
+ghost use Rattle.std.specs.Prelude.{◌≡◌, IfOk, OnOk};
 ghost use Rattle.aud_order.specs.Shapes.{objects_of, history_of};
-ghost use Rattle.aud_cover.specs.Closings.{IsClosed};
-ghost use Rattle.aud_cover.specs.Openings.{AreOpen, AreShortEnough};
+ghost use Rattle.aud_cover.specs.Openings.{AreOpen, IsEmptyWhereClosed};
 ghost use Rattle.aud_cover.specs.Leading.{AddsOpen};
 
 use aud_event::OutOfMemory;
@@ -54,7 +53,7 @@ pub fn open_list<A: Allocator + Copy>(
     shape: &Shape<A>,
 ) -> Result<Vec<Prefix<A>, A>, OutOfMemory>
     ensures open { IfOk result (λ list. AreOpen (objects_of shape.now) (history_of shape.now) cover.now list.items) }
-    ensures empty { IfOk result (λ list. AreShortEnough (history_of shape.now) cover.now → (list.items ≡ []) ↔ IsClosed (objects_of shape.now) (history_of shape.now) cover.now []) }
+    ensures empty { IfOk result (λ list. IsEmptyWhereClosed (objects_of shape.now) (history_of shape.now) cover.now list.items) }
 {
     let mut list = Vec::new(alloc);
     let mut cursor = Cursor::root(alloc, shape)?;

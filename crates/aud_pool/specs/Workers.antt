@@ -1,5 +1,5 @@
 -- What a worker of a pool begins and ends with.
-use Rattle.std.specs.Prelude.{◌≡◌, ℕ, ◌++◌, ◌<◌, ◌≤◌, Bool, false, not, List, [], ◌∷◌, ◌⊎◌, All, MatchBool}
+use Rattle.std.specs.Prelude.{◌≡◌, ℕ, ◌++◌, ◌<◌, ◌≤◌, Bool, false, not, List, [], ◌∷◌, ◌⊎◌, All, MatchBool, length, slice_index_or}
 use Rattle.std.specs.declared.alloc.Global.{Global}
 use Rattle.atomic_blocks.specs.Lent.{RowsId}
 use Rattle.crossbeam_deque.specs.Handles.{view, IsPassOf}
@@ -45,6 +45,10 @@ module _ {T S : Type 0} where
   -- a worker that took a mark, or failed, and whose tasks were worked
   abbrev pub IsDone : RowsId × Global → (S → T → Type 0) → Member T S → Type 0
   IsDone queue done m = IsHolding queue m × AreWorked (done m.seat) m.failed m.drawn.items
+
+  -- the seat of each worker has grown
+  abbrev pub SeatsHaveGrown : (S → S → Type 0) → List (Member T S) → List (Member T S) → Type 0
+  SeatsHaveGrown grows old new = (i : ℕ) (m : Member T S) → i < length old → grows (slice_index_or old i m).seat (slice_index_or new i m).seat
 
   -- the tasks that workers drew
   abbrev pub all_drawn : List (WorkerEnd T S) → List T

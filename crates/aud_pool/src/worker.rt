@@ -1,10 +1,9 @@
 //! One worker, and all of them at once.
 
-ghost use Rattle.std.specs.Prelude.{ℕ, ◌≡◌, ◌<◌, ◌∷◌, [], false, not, length, All, slice_index_or, vec_len};
+ghost use Rattle.std.specs.Prelude.{◌≡◌, ◌<◌, ◌∷◌, [], false, not, length, All, vec_len};
 ghost use Rattle.crossbeam_deque.specs.Handles.{view, IsPassOf, stealer_deque};
 ghost use Rattle.aud_pool.specs.Rule.{tally, after_take};
-ghost use Rattle.aud_pool.specs.Workers.{AreWorked, IsReady, IsDone, IsStarting};
-ghost use Rattle.aud_pool.specs.declared.worker.Member.{Member};
+ghost use Rattle.aud_pool.specs.Workers.{AreWorked, IsReady, IsDone, IsStarting, SeatsHaveGrown};
 
 use crate::rule::{Taker, Takes, Token};
 use crate::work::{Gate, Work};
@@ -97,7 +96,7 @@ fn work_all<
     requires some { 0 < length members.old }
     requires starting { All (IsStarting (stealer_deque taker.now) (W.may_work work.now)) members.old }
     ensures done { All (IsDone (stealer_deque taker.now) (W.done work.now)) members.new }
-    ensures grows { (i : ℕ) (d : Member T S) → i < length members.old → W.grows work.now (slice_index_or members.old i d).seat (slice_index_or members.new i d).seat }
+    ensures grows { SeatsHaveGrown (W.grows work.now) members.old members.new }
 {
     let count = members.len();
     let each = |i: usize, member: &mut Member<T, S>|
@@ -120,7 +119,7 @@ pub(crate) fn work_crew<
     requires starting { All (IsStarting (stealer_deque taker.now) (W.may_work work.now)) members.old.items }
     ensures done { All (IsDone (stealer_deque taker.now) (W.done work.now)) members.new.items }
     ensures len { vec_len members.new ≡ vec_len members.old }
-    ensures grows { (i : ℕ) (d : Member T S) → i < vec_len members.old → W.grows work.now (slice_index_or members.old.items i d).seat (slice_index_or members.new.items i d).seat }
+    ensures grows { SeatsHaveGrown (W.grows work.now) members.old.items members.new.items }
 {
     work_all(rt, taker, work, gate, members.as_mut_slice());
 }
