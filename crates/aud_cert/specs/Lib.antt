@@ -2,3 +2,4 @@ pub mod Recorded
 pub mod LineText
 pub mod CertText
 pub mod Written
+pub mod Certified

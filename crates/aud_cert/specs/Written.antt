@@ -1,8 +1,10 @@
 -- The text that is written of a certificate.
-use Rattle.std.specs.Prelude.{ℕ, ◌<◌, ◌≤◌, List, [], ◌∷◌, ◌++◌, All, flat_map, length, codes, decimal}
+use Rattle.std.specs.Prelude.{ℕ, ◌≡◌, ◌<◌, ◌≤◌, ◌^◌, Ok, List, [], ◌∷◌, ◌++◌, All, flat_map, length, codes, decimal}
 use Rattle.aud_witness.specs.declared.decision.Decision.{Decision}
 use Rattle.aud_event.specs.Limits.{transactions}
 use Rattle.aud_text.specs.Orders.{order_text, decision_text}
+use Rattle.aud_cert.specs.LineText.{Line}
+use Rattle.aud_cert.specs.CertText.{cert_read}
 use Rattle.aud_accept.specs.declared.cert.CertLine.{CertLine}
 use Rattle.aud_accept.specs.declared.cert.CertLine.TheVariants.{Kids, Silent, Same}
 
@@ -47,3 +49,7 @@ HasShort (Same p q) = IsShort p × IsShort q
 pub record IsWithin {X : Type 0} (line : CertLine X) : Type 0 where
   pub orders : HasShort line
   pub text : length (line_text line) ≤ 65536
+
+-- a text reads as the lines, where each of them is within the limits
+abbrev pub ReadsBack : List Line → List ℕ → Type 0
+ReadsBack lines text = All IsWithin lines → length lines < 2 ^ 63 → cert_read text ≡ Ok lines

@@ -1,9 +1,7 @@
 //! What an accepted certificate finds.
 
-ghost use Rattle.std.specs.Prelude.{◌≡◌, [], IfOk, MatchOption};
-ghost use Rattle.aud_order.specs.Shapes.{objects_of, history_of};
-ghost use Rattle.aud_know.specs.Norms.{refuted};
-ghost use Rattle.aud_accept.specs.Acceptance.{IsAccepted};
+ghost use Rattle.std.specs.Prelude.{IfOk};
+ghost use Rattle.aud_cert.specs.Certified.{IsFoundBy};
 
 use aud_accept::{Cert, check_cert};
 use aud_event::OutOfMemory;
@@ -19,7 +17,7 @@ pub fn finding_of<A: Allocator + Copy>(
     shape: Arc<Shape<A>, A>,
     cert: &Cert<A>,
 ) -> Result<Option<Finding<A>>, OutOfMemory>
-    ensures { IfOk result (λ found. MatchOption found (IsAccepted (objects_of shape.value) (history_of shape.value) cert.now.lines.items → ⊥) (λ finding. IsAccepted (objects_of shape.value) (history_of shape.value) cert.now.lines.items × (finding ≡ record { facts = shape.value.sealed.facts; claim = refuted [] }))) }
+    ensures { IfOk result (IsFoundBy shape.value cert.now.lines.items) }
 {
     if !check_cert(alloc, &shape, cert)? {
         return Ok(None);

@@ -1,9 +1,7 @@
 //! A certificate of a history that no order shows.
 
-ghost use Rattle.std.specs.Prelude.{IfOk, MatchOption};
-ghost use Rattle.aud_witness.specs.Orders.{Opaque};
-ghost use Rattle.aud_order.specs.Shapes.{objects_of, history_of};
-ghost use Rattle.aud_accept.specs.Acceptance.{IsAccepted};
+ghost use Rattle.std.specs.Prelude.{IfOk};
+ghost use Rattle.aud_cert.specs.Certified.{IsCertified};
 
 use crate::lines::Lines;
 use aud_accept::Cert;
@@ -19,7 +17,7 @@ pub fn make_cert<A: Allocator + Copy>(
     alloc: A,
     shape: &Shape<A>,
 ) -> Result<Option<Cert<A>>, OutOfMemory>
-    ensures { IfOk result (λ made. MatchOption made (Opaque (objects_of shape.now) (history_of shape.now)) (λ cert. IsAccepted (objects_of shape.now) (history_of shape.now) cert.lines.items × (Opaque (objects_of shape.now) (history_of shape.now) → ⊥))) }
+    ensures { IfOk result (IsCertified shape.now) }
 {
     match search_with(alloc, shape, Lines::none(alloc, shape))? {
         Searched::Opaque(_) => Ok(None),

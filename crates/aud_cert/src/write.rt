@@ -1,9 +1,8 @@
 //! Writing the text of a certificate.
 
-ghost use Rattle.std.specs.Prelude.{◌≡◌, ◌<◌, ◌^◌, ◌++◌, ◌∷◌, [], Ok, All, IfOk, OnOk, length};
+ghost use Rattle.std.specs.Prelude.{◌≡◌, ◌++◌, ◌∷◌, [], IfOk, OnOk};
 ghost use Rattle.aud_text.specs.Orders.{order_text, decision_text, fate_letter};
-ghost use Rattle.aud_cert.specs.CertText.{cert_read};
-ghost use Rattle.aud_cert.specs.Written.{kids_text, silent_text, same_text, line_text, header_text, ended, cert_text, IsWithin};
+ghost use Rattle.aud_cert.specs.Written.{kids_text, silent_text, same_text, line_text, header_text, ended, cert_text, ReadsBack};
 
 use aud_accept::{Cert, CertLine};
 use aud_event::OutOfMemory;
@@ -149,7 +148,7 @@ fn text_of<A: Allocator + Copy, B: Allocator>(
 /// most 65,536 bytes a line.
 pub fn write_cert<A: Allocator + Copy>(alloc: A, cert: &Cert) -> Result<Vec<u8, A>, OutOfMemory>
     ensures spelled { IfOk result (λ text. text.items ≡ cert_text cert.now.lines.items) }
-    ensures reads_back { IfOk result (λ text. All IsWithin cert.now.lines.items → length cert.now.lines.items < 2 ^ 63 → cert_read text.items ≡ Ok cert.now.lines.items) }
+    ensures reads_back { IfOk result (λ text. ReadsBack cert.now.lines.items text.items) }
 {
     let text = text_of(alloc, cert)?;
     Ok(text)

@@ -1,5 +1,5 @@
 -- Where a certificate begins in an input.
-use Rattle.std.specs.Prelude.{ℕ, List, [], ◌∷◌, ◌++◌, ◌&&◌, Bool, false, Option, Result, Ok, Err, length, take, drop, codes, is_some, flat_map}
+use Rattle.std.specs.Prelude.{◌≡◌, ℕ, List, [], ◌∷◌, ◌++◌, ◌&&◌, Bool, false, Option, Some, Result, Ok, Err, length, take, drop, codes, is_some, flat_map}
 use Rattle.std.specs.List.{position_from}
 use Rattle.serde_json.specs.Data.{Data}
 use Rattle.serde_json.specs.Find.{as_object}
@@ -27,3 +27,7 @@ text_before text n = flat_map (λ l. l ++ 10 ∷ []) (take n (lines_of text))
 -- the text from the next line on
 abbrev pub text_from : List ℕ → ℕ → List ℕ
 text_from text n = drop (length (text_before text n)) text
+
+-- so many lines stand before the first that begins a certificate; this is the text before it, and this the text from it on
+abbrev pub IsCutAt : List ℕ → ℕ → List ℕ → List ℕ → Type 0
+IsCutAt text lines before certificate = (certificate_place text ≡ Some lines) × ((before ≡ text_before text lines) × (certificate ≡ text_from text lines))

@@ -1,7 +1,7 @@
 //! Where a certificate begins in an input.
 
-ghost use Rattle.std.specs.Prelude.{◌≡◌, ◌+◌, ◌≤◌, Some, None, length, IfOk, IfSome, MatchOption};
-ghost use Rattle.aud_cli.specs.Certificates.{begins_certificate, certificate_place, text_before, text_from};
+ghost use Rattle.std.specs.Prelude.{◌≡◌, ◌+◌, ◌≤◌, None, length, IfOk, IfSome, MatchOption};
+ghost use Rattle.aud_cli.specs.Certificates.{begins_certificate, certificate_place, IsCutAt};
 
 use aud_event::OutOfMemory;
 use aud_text::{LINE_MAX, TextFault, first_line, has_required, json_in};
@@ -33,8 +33,9 @@ pub(crate) fn split_input<'a>(
     alloc: Global,
     text: &'a [u8],
 ) -> Result<Option<CertifiedText<'a>>, OutOfMemory>
-    ensures parts { IfOk result (λ parts. MatchOption parts (certificate_place text.entry.now ≡ None)
-        (λ p. (certificate_place text.entry.now ≡ Some p.lines) × ((p.before.now ≡ text_before text.entry.now p.lines) × (p.certificate.now ≡ text_from text.entry.now p.lines)))) }
+    ensures parts { IfOk result (λ parts. MatchOption parts
+        (certificate_place text.entry.now ≡ None)
+        (λ p. IsCutAt text.entry.now p.lines p.before.now p.certificate.now)) }
     ensures room { IfOk result (λ parts. IfSome parts (λ p. p.lines + length p.certificate.now ≤ length text.entry.now)) }
 {
     let mut rest = text;
