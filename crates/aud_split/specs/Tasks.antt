@@ -8,6 +8,8 @@ use Rattle.aud_history.specs.Histories.{History}
 use Rattle.aud_witness.specs.declared.decision.Decision.{Decision}
 use Rattle.aud_witness.specs.DecisionOrder.{decision_cmp}
 use Rattle.aud_witness.specs.Orders.{IsFull, IsGood}
+use Rattle.aud_order.specs.Shapes.{objects_of, history_of}
+use Rattle.aud_order.specs.Cursors.{CursorOf}
 
 -- no extension of p by one decision is good
 abbrev pub HasNoKids : List Declared → History → List Decision → Type 0
@@ -30,3 +32,7 @@ pub record AreAdded (objects : List Declared) (h : History) (p : List Decision) 
   pub more : List (List Decision)
   pub grown : new ≡ old ++ more
   pub tasks : AreTasks objects h p depth more
+
+-- to a list are added exactly the tasks below the cursor's list, each once, the least first
+abbrev pub AddsTasks : CursorOf → ℕ → List (List Decision) → List (List Decision) → Type 0
+AddsTasks cursor depth old new = AreAdded (objects_of cursor.shape) (history_of cursor.shape) cursor.path depth old new

@@ -1,9 +1,9 @@
 //! The search below a list of decisions, split into tasks.
 
-ghost use Rattle.std.specs.Prelude.{◌≡◌, [], ◌∷◌, ◌++◌, IfOk, OnOk};
+ghost use Rattle.std.specs.Prelude.{◌≡◌, [], IfOk, OnOk};
 ghost use Rattle.aud_witness.specs.Orders.{IsGood};
 ghost use Rattle.aud_order.specs.Shapes.{objects_of, history_of};
-ghost use Rattle.aud_split.specs.Tasks.{AreAdded, AreTasks};
+ghost use Rattle.aud_split.specs.Tasks.{AddsTasks, AreTasks};
 
 use aud_event::OutOfMemory;
 use aud_order::{Cursor, Shape};
@@ -17,7 +17,7 @@ fn split_here<A: Allocator + Copy>(
     depth: u32,
     list: &mut Vec<Prefix<A>, A>,
 ) -> Result<(), OutOfMemory>
-    ensures added { OnOk result (AreAdded (objects_of cursor.old.shape) (history_of cursor.old.shape) cursor.old.path depth list.old.items list.new.items) }
+    ensures added { OnOk result (AddsTasks cursor.old depth list.old.items list.new.items) }
     ensures back { OnOk result (cursor.new ≡ cursor.old) }
 {
     let path = cursor.prefix();
