@@ -74,3 +74,8 @@ IsTakeFault IsOfPlan NoNode = ⊥
 IsTakeFault IsOfPlan NoPacket = ⊥
 IsTakeFault IsOfPlan PlanMismatch = IsOfPlan → ⊥
 IsTakeFault IsOfPlan OutOfMemory = IsOfPlan
+
+-- one node takes exactly what is of its plan, or is refused memory for it
+abbrev pub TellsWhetherTaken : {U : Type 0} → Type 0 → Result U MoveFault → Type 0
+TellsWhetherTaken IsOfPlan (Ok _) = IsOfPlan
+TellsWhetherTaken IsOfPlan (Err fault) = IsTakeFault IsOfPlan fault
