@@ -125,4 +125,5 @@ def main():
     print(f"  read and sealed, no order: {least(program, 'none', text, 'order refused 6', runs)}")
 
 
-main()
+if __name__ == "__main__":
+    main()

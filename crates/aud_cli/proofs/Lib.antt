@@ -5,3 +5,4 @@ pub mod Splitting
 pub mod HistoryLemmas
 pub mod WorkedLines
 pub mod Ends
+pub mod Ranges

@@ -24,9 +24,16 @@ decide_app = with_rule (with_rule (new_app (codes "decide")) (value_rule (codes 
 abbrev pub verify_app : App
 verify_app = new_app (codes "verify")
 
+abbrev pub audit_app : App
+audit_app = with_rule (with_rule (with_rule (new_app (codes "audit")) (needed_rule (codes "nodes"))) (needed_rule (codes "workers"))) (value_rule (codes "budget"))
+
 -- a word must follow the program's name; `--version` may
 abbrev pub bare_app : App
 bare_app = record (new_app (codes "opaq")) { top = record (new_app (codes "opaq")).top { has_version = true; arg_required_else_help = true; subcommand_required = true } }
 
+-- the commands that are runs over the lines of an input
+abbrev pub lines_app : App
+lines_app = with_subcommand (with_subcommand (with_subcommand bare_app check_app.top) decide_app.top) verify_app.top
+
 abbrev pub opaq_app : App
-opaq_app = with_subcommand (with_subcommand (with_subcommand bare_app check_app.top) decide_app.top) verify_app.top
+opaq_app = with_subcommand lines_app audit_app.top

@@ -1,12 +1,13 @@
 -- What the words ask for.
-use Rattle.std.specs.Prelude.{◌≡◌, ◌≤◌, ℕ, List, [], Option, Some, None, Bool, false, bytes_eq, codes, ⊤, string_bytes}
+use Rattle.std.specs.Prelude.{◌≡◌, ◌≤◌, ℕ, List, [], Option, Some, None, Bool, false, bytes_eq, codes, ⊤, IfSome, string_bytes}
 use Rattle.std.specs.Str.Parse.{IsNumeral, digits_value, without_leading_plus}
 use Rattle.clap.specs.Words.{Row, Text, first_of, subcommand_of, fault_of}
 use Rattle.aud_cli.specs.CommandLine.{opaq_app}
 use Rattle.aud_cli.specs.declared.job.Job.{Job}
 use Rattle.aud_cli.specs.declared.job.Job.TheVariants.{Check, Decide, Verify}
+use Rattle.aud_cli.specs.declared.job.AuditJob.{AuditJob}
 use Rattle.aud_cli.specs.declared.job.Command.{Command}
-use Rattle.aud_cli.specs.declared.job.Command.TheVariants.{Lines}
+use Rattle.aud_cli.specs.declared.job.Command.TheVariants.{Lines, Audit}
 use Rattle.aud_cli.specs.declared.job.Usage.{Usage}
 use Rattle.aud_cli.specs.declared.job.Usage.TheVariants.{Told, OutOfMemory}
 
@@ -21,6 +22,11 @@ IsBudget None (Some n) = ⊥
 IsBudget (Some t) None = ⊥
 IsBudget (Some t) (Some n) = IsNumberUpTo 1000000000000 t n
 
+-- an option that stands: how many there are, at least 1 and at most so many
+abbrev pub IsCount : ℕ → Option Text → ℕ → Type 0
+IsCount most None n = ⊥
+IsCount most (Some t) n = IsNumberUpTo most t n × (1 ≤ n)
+
 -- a flag that stands
 abbrev pub is_true : Option Text → Bool
 is_true None = false
@@ -32,8 +38,22 @@ AsksFor name rows (Check order) = (name ≡ codes "check") × (first_of (codes "
 AsksFor name rows (Decide budget cert) = (name ≡ codes "decide") × (IsBudget (first_of (codes "budget") rows) budget × (cert ≡ is_true (first_of (codes "cert") rows)))
 AsksFor name rows Verify = name ≡ codes "verify"
 
+-- a subcommand and its options ask for the audit
+abbrev pub AsksForAudit : Text → List Row → AuditJob → Type 0
+AsksForAudit name rows job = (name ≡ codes "audit") × (IsCount 8 (first_of (codes "nodes") rows) job.nodes × (IsCount 16 (first_of (codes "workers") rows) job.workers × IsBudget (first_of (codes "budget") rows) job.budget))
+
+-- the numbers of an audit are in their ranges
+abbrev pub IsAuditJob : AuditJob → Type 0
+IsAuditJob job = ((1 ≤ job.nodes) × (job.nodes ≤ 8)) × (((1 ≤ job.workers) × (job.workers ≤ 16)) × IfSome job.budget (λ b. b ≤ 1000000000000))
+
+-- of an audit, its numbers are in their ranges
+abbrev pub IsInRange : Command → Type 0
+IsInRange (Lines job) = ⊤
+IsInRange (Audit job) = IsAuditJob job
+
 abbrev pub Commands : Text → List Row → Command → Type 0
 Commands name rows (Lines job) = AsksFor name rows job
+Commands name rows (Audit job) = AsksForAudit name rows job
 
 -- `clap` takes the words, and the subcommand that it reads in them, with its options, asks for the command
 pub record Asked (words : List Text) (command : Command) : Type 0 where

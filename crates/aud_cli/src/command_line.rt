@@ -3,7 +3,7 @@
 ghost use Rattle.std.specs.Prelude.{◌≡◌, IfOk, false};
 ghost use Rattle.clap.specs.Words.{app_of, rule_of};
 ghost use Rattle.clap.specs.declared.builder.command.Command.TheViews.{out-Command as fields_of};
-ghost use Rattle.aud_cli.specs.CommandLine.{bare_app, check_app, decide_app, verify_app, flag_rule, needed_rule, opaq_app, value_rule};
+ghost use Rattle.aud_cli.specs.CommandLine.{audit_app, bare_app, check_app, decide_app, verify_app, flag_rule, lines_app, needed_rule, opaq_app, value_rule};
 
 use clap::{Arg, ArgAction, Command};
 use std::alloc::{AllocError, Global};
@@ -22,7 +22,7 @@ status:
   1  not opaque
   2  unfinished
   3  the input, the history, the order or the certificate is refused; the line says why
-  4  out of memory, or input or output failed; standard error says which
+  4  out of memory, or input or output failed, or no thread was to be had; standard error says which
   64 these words are not understood, or a text as this one was asked for
 
 Example: transaction 1 writes 1 to x and commits, and after it transaction 2 reads x. The file run.jsonl:
@@ -105,6 +105,26 @@ After 1 transaction 2 cannot read 0, and it cannot come first. Without the line 
   $ { cat stale.jsonl; echo '{"cert":1}'; echo '{"by":"kids","p":"none"}'; } | opaq verify
   certificate refused"#;
 
+const AUDIT_ABOUT: &str =
+    "Says whether any order shows the run opaque, by workers that search side by side";
+
+const AUDIT_AFTER: &str =
+    r#"The records are shared out among the nodes, 1 to 8, which tell each other what they have. Then the workers of
+all nodes, 1 to 16 of each, search side by side, each of them one beginning of orders after another, and the nodes
+tell each other what was found. Where the run is opaque the line has an order that shows it. With a budget the search
+of each beginning gives up after so many expanded beginnings, and the line is 'unfinished' where what was found does
+not say; a number up to 1,000,000,000,000. Without one the line is then what 'opaq decide' says.
+
+Example: opaq audit --nodes 2 --workers 2 < run.jsonl, with the file of opaq --help
+
+  $ opaq audit --nodes 2 --workers 2 < run.jsonl
+  opaque 1c 2c
+
+If transaction 2 reads 0, which was overwritten before it began, no order shows the run:
+
+  $ sed 's/"ans":1/"ans":0/' run.jsonl | opaq audit --nodes 2 --workers 2
+  not opaque"#;
+
 fn value_arg<'a>(alloc: Global, name: &'a str, value_name: &'a str, help: &'a str) -> Arg<'a>
     ensures rule { rule_of result ≡ value_rule name.entry.now }
     ensures local { result.global ≡ false }
@@ -175,6 +195,26 @@ fn verify_command<'a>(alloc: Global) -> Command<'a>
         .after_help(VERIFY_AFTER)
 }
 
+fn audit_command<'a>(alloc: Global) -> Result<Command<'a>, AllocError>
+    ensures app { IfOk result (λ c. app_of c ≡ audit_app) }
+    ensures local { IfOk result (λ c. (fields_of c).has_globals ≡ false) }
+{
+    let nodes = needed_arg(alloc, "nodes", "N", "How many nodes there are");
+    let workers = needed_arg(alloc, "workers", "W", "How many workers each node has");
+    let budget = value_arg(
+        alloc,
+        "budget",
+        "B",
+        "How many beginnings of orders each search expands at most",
+    );
+    Command::new(alloc, "audit")
+        .about(AUDIT_ABOUT)
+        .after_help(AUDIT_AFTER)
+        .arg(nodes)?
+        .arg(workers)?
+        .arg(budget)
+}
+
 fn bare_command<'a>(alloc: Global) -> Command<'a>
     ensures { app_of result ≡ bare_app }
 {
@@ -186,9 +226,9 @@ fn bare_command<'a>(alloc: Global) -> Command<'a>
         .arg_required_else_help(true)
 }
 
-/// The program's command line.
-pub(crate) fn opaq_command<'a>(alloc: Global) -> Result<Command<'a>, AllocError>
-    ensures { IfOk result (λ c. app_of c ≡ opaq_app) }
+/// The command line without `audit`.
+fn lines_commands<'a>(alloc: Global) -> Result<Command<'a>, AllocError>
+    ensures { IfOk result (λ c. app_of c ≡ lines_app) }
 {
     let check = check_command(alloc)?;
     let decide = decide_command(alloc)?;
@@ -196,4 +236,12 @@ pub(crate) fn opaq_command<'a>(alloc: Global) -> Result<Command<'a>, AllocError>
         .subcommand(check)?
         .subcommand(decide)?
         .subcommand(verify_command(alloc))
+}
+
+/// The program's command line.
+pub(crate) fn opaq_command<'a>(alloc: Global) -> Result<Command<'a>, AllocError>
+    ensures { IfOk result (λ c. app_of c ≡ opaq_app) }
+{
+    let audit = audit_command(alloc)?;
+    lines_commands(alloc)?.subcommand(audit)
 }

@@ -63,7 +63,7 @@ fn end_of_verdict(verdict: &Verdict) -> Ended
 }
 
 /// How a run ends that says this.
-pub(crate) fn end_of(said: &Said) -> Ended
+pub fn end_of(said: &Said) -> Ended
     ensures { result ≡ ended_by said.now }
 {
     match said {

@@ -15,11 +15,24 @@ pub enum Job {
     Verify,
 }
 
+/// An audit: the records are shared out among nodes, whose workers search side by side.
+#[derive(Clone, Copy, Debug, PartialEq, Eq)]
+pub struct AuditJob {
+    /// How many nodes there are, 1 to 8.
+    pub nodes: u32,
+    /// How many workers each node has, 1 to 16.
+    pub workers: u32,
+    /// How many expansions the search of each task may take, where the words say so.
+    pub budget: Option<u64>,
+}
+
 /// What the words ask for.
 #[derive(Debug, Drop)]
 pub enum Command {
     /// A run over the lines of the input.
     Lines(Job),
+    /// An audit of the lines of the input.
+    Audit(AuditJob),
 }
 
 /// Why the words ask for nothing, or that their help is asked for.

@@ -10,8 +10,9 @@ mod question;
 mod run;
 mod words;
 
-pub use ended::{Cause, Ended};
+pub use ended::{Cause, Ended, end_of};
 pub use input::{Input, InputFault, read_input};
-pub use job::{Command, Job, Usage};
-pub use run::{line_said, run_lines};
+pub use job::{AuditJob, Command, Job, Usage};
+pub use question::Question;
+pub use run::{judge_facts, line_said, run_lines};
 pub use words::job_of;

@@ -20,7 +20,9 @@ use aud_text::{TextFault, count_lines, read_order};
 use std::alloc::Global;
 use std::sync::Arc;
 
-fn judge_facts(alloc: Global, question: Question, facts: &Facts) -> Result<Said, OutOfMemory>
+/// What is said of a set of facts where this is asked of their history: their status if they are not sealed, and its first fault
+/// if it is not well-formed.
+pub fn judge_facts(alloc: Global, question: Question, facts: &Facts) -> Result<Said, OutOfMemory>
     ensures { IfOk result (SetSays (QuestionSays question) facts.now.plan facts.now.facts) }
 {
     match well_formed_history(facts)? {

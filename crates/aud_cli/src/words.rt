@@ -2,11 +2,11 @@
 
 ghost use Rattle.std.specs.Prelude.{◌≡◌, ◌⊎◌, ℕ, List, Option, Some, IfOk, MatchOption, MatchResult, codes, map, option_map, string_bytes};
 ghost use Rattle.clap.specs.Words.{Text, Row, first_of, found_of, rows_of, kind_of, subcommand_of, subcommand_rows_of};
-ghost use Rattle.aud_cli.specs.Words.{AsksFor, Commands, Asked, IsBudget, IsNumberUpTo, is_true};
+ghost use Rattle.aud_cli.specs.Words.{AsksFor, AsksForAudit, Commands, Asked, IsBudget, IsCount, IsInRange, IsNumberUpTo, is_true};
 ghost use Rattle.aud_cli.specs.declared.job.Command.{Command as CommandOf};
 
 use crate::command_line::opaq_command;
-use crate::job::{Command, Job, Usage};
+use crate::job::{AuditJob, Command, Job, Usage};
 use clap::error::ErrorKind;
 use clap::{ArgMatches, Error};
 use std::alloc::{AllocError, Global};
@@ -88,6 +88,40 @@ fn decide_job(matches: &ArgMatches<'_>) -> Option<Command>
     }
 }
 
+/// The greatest number of nodes.
+const NODES_MAX: u32 = 8;
+
+/// The greatest number of workers of a node.
+const WORKERS_MAX: u32 = 16;
+
+/// How many the option says, if it says a number that is at least 1 and at most so great.
+fn count_of(matches: &ArgMatches<'_>, id: &str, most: u32) -> Option<u32>
+    ensures { MatchOption result
+        ((n : ℕ) → IsCount most (first_of id.now (rows_of (found_of matches.now))) n → ⊥)
+        (IsCount most (first_of id.now (rows_of (found_of matches.now)))) }
+{
+    let text = text_at(matches, id)?;
+    match number_up_to(u64::from(most), text) {
+        Some(0) | None => None,
+        Some(number) => Some(number as u32),
+    }
+}
+
+fn audit_job(matches: &ArgMatches<'_>) -> Option<Command>
+    ensures { MatchOption result
+        ((command : CommandOf) → Commands (codes "audit") (rows_of (found_of matches.now)) command → ⊥)
+        (Commands (codes "audit") (rows_of (found_of matches.now))) }
+{
+    let nodes = count_of(matches, "nodes", NODES_MAX)?;
+    let workers = count_of(matches, "workers", WORKERS_MAX)?;
+    let budget = budget_of(matches)?;
+    Some(Command::Audit(AuditJob {
+        nodes,
+        workers,
+        budget,
+    }))
+}
+
 /// What a subcommand with its options asks for.
 fn command_of(
     alloc: Global,
@@ -102,6 +136,8 @@ fn command_of(
         check_job(alloc, matches)
     } else if name == "decide" {
         Ok(decide_job(matches))
+    } else if name == "audit" {
+        Ok(audit_job(matches))
     } else if name == "verify" {
         Ok(Some(Command::Lines(Job::Verify)))
     } else {
@@ -129,12 +165,24 @@ fn usage_of(alloc: Global, error: &Error) -> Usage
     }
 }
 
+/// The text for the user where a number of a subcommand's options is none that it takes.
+fn wrong_number(name: &str, matches: &ArgMatches<'_>) -> &'static str {
+    if name == "audit" && count_of(matches, "nodes", NODES_MAX).is_none() {
+        "error: the number of nodes is no number from 1 to 8\n"
+    } else if name == "audit" && count_of(matches, "workers", WORKERS_MAX).is_none() {
+        "error: the number of workers is no number from 1 to 16\n"
+    } else {
+        "error: the budget is no number up to 1000000000000\n"
+    }
+}
+
 /// What the words, the program's name first, ask for.
 ///
 /// Where they ask for nothing that the program does, or for its help, the answer is the text for the user.
 pub fn job_of(alloc: Global, words: &[String]) -> Result<Command, Usage>
-    ensures { MatchResult result (Asked (map string_bytes words.now))
+    ensures asked { MatchResult result (Asked (map string_bytes words.now))
         (λ usage. (usage ≡ Usage.OutOfMemory) ⊎ ((command : CommandOf) → Asked (map string_bytes words.now) command → ⊥)) }
+    ensures range { IfOk result IsInRange }
 {
     let Ok(command_line) = opaq_command(alloc) else {
         return Err(Usage::OutOfMemory);
@@ -148,10 +196,7 @@ pub fn job_of(alloc: Global, words: &[String]) -> Result<Command, Usage>
     };
     match command_of(alloc, name, inner) {
         Ok(Some(command)) => Ok(command),
-        Ok(None) => Err(told(
-            alloc,
-            "error: the budget is no number up to 1000000000000\n",
-        )),
+        Ok(None) => Err(told(alloc, wrong_number(name, inner))),
         Err(_) => Err(Usage::OutOfMemory),
     }
 }

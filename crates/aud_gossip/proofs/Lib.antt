@@ -1,2 +1,2 @@
-mod Offering
+pub mod Offering
 mod Joining

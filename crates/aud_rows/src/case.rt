@@ -39,12 +39,13 @@ impl Case {
         Ok(())
     }
 
-    /// A line: the exit status, with the line that opaq prints where its words are understood.
+    /// A line: the exit status, with the line that opaq prints where its words are understood; of an audit, which is not run
+    /// here, it is that of words that are not.
     pub fn answer(&self, alloc: Global, command: &str) -> Result<String, AllocError> {
         let words = words_of(alloc, command)?;
         match job_of(alloc, words.as_slice()) {
             Ok(Command::Lines(job)) => self.run(alloc, &job),
-            Err(_) => format!(in alloc; "{USAGE}\n"),
+            Ok(Command::Audit(_)) | Err(_) => format!(in alloc; "{USAGE}\n"),
         }
     }
 

@@ -1,10 +1,14 @@
-//! Tests of what a node knows, of worlds of nodes, of running nodes, and of the program's words and runs.
+//! Tests of what a node knows, of worlds of nodes, of running nodes, and of the program's words, runs and audits.
 #![tactic(auto)]
 
+#[cfg(test)]
+mod audits;
 #[cfg(test)]
 mod certified;
 #[cfg(test)]
 mod devices;
+#[cfg(test)]
+mod drawn;
 #[cfg(test)]
 mod fixtures;
 #[cfg(test)]

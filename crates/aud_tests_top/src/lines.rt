@@ -94,7 +94,7 @@ fn put_with_lines(
 }
 
 /// The text with more lines put in after so many of its lines.
-fn with_lines(
+pub(crate) fn with_lines(
     alloc: Global,
     text: &str,
     behind: usize,

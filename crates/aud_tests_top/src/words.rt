@@ -1,6 +1,6 @@
 //! Words of the command line.
 
-use aud_cli::{Command, Job, Usage, job_of};
+use aud_cli::{AuditJob, Command, Job, Usage, job_of};
 use std::alloc::{AllocError, Global};
 use std::test::Fail;
 
@@ -72,6 +72,61 @@ fn certificates_are_asked_for(rt: HostRuntime) -> Result<(), Fail> {
     ];
     for (line, wanted) in &cases {
         assert_eq!(rt; search_asked(rt.alloc(), *line)?, *wanted, "{line}");
+    }
+    Ok(())
+}
+
+/// What the line asks of an audit, if it asks for one.
+fn audit_of(alloc: Global, line: &str) -> Result<Option<AuditJob>, AllocError> {
+    match asked(alloc, line)? {
+        Ok(Command::Audit(job)) => Ok(Some(job)),
+        _ => Ok(None),
+    }
+}
+
+#[test]
+fn audits(rt: HostRuntime) -> Result<(), Fail> {
+    let cases = [
+        ("opaq audit --nodes 1 --workers 1", (1, 1, None)),
+        ("opaq audit --workers 16 --nodes 8", (8, 16, None)),
+        (
+            "opaq audit --nodes=2 --workers=2 --budget=0",
+            (2, 2, Some(0)),
+        ),
+        (
+            "opaq audit --budget 1000000000000 --nodes 2 --workers 3",
+            (2, 3, Some(1_000_000_000_000)),
+        ),
+    ];
+    for (line, (nodes, workers, budget)) in &cases {
+        let wanted = AuditJob {
+            nodes: *nodes,
+            workers: *workers,
+            budget: *budget,
+        };
+        assert_eq!(rt; audit_of(rt.alloc(), *line)?, Some(wanted), "{line}");
+    }
+    Ok(())
+}
+
+#[test]
+fn audits_that_are_refused(rt: HostRuntime) -> Result<(), Fail> {
+    let lines = [
+        "opaq audit",
+        "opaq audit --nodes 2",
+        "opaq audit --workers 2",
+        "opaq audit --nodes 0 --workers 2",
+        "opaq audit --nodes 9 --workers 2",
+        "opaq audit --nodes 2 --workers 0",
+        "opaq audit --nodes 2 --workers 17",
+        "opaq audit --nodes two --workers 2",
+        "opaq audit --nodes 2 --workers 2 --budget 1000000000001",
+        "opaq audit --nodes 2 --nodes 2 --workers 2",
+        "opaq audit --nodes 2 --workers 2 --cert",
+        "opaq decide --nodes 2 --workers 2",
+    ];
+    for line in &lines {
+        assert!(rt; asked(rt.alloc(), *line)?.is_err(), "{line}");
     }
     Ok(())
 }

@@ -8,7 +8,7 @@ use std::alloc::Global;
 use std::io::{ErrorKind, Read, Write};
 
 /// What a read failed for.
-fn cause_of(kind: ErrorKind) -> Cause
+pub fn cause_of(kind: ErrorKind) -> Cause
     ensures { IsOfReading result }
 {
     if kind == ErrorKind::OutOfMemory {

@@ -1,28 +1,36 @@
 // Does what the words ask for with standard input, and prints one line.
 #![tactic(auto)]
 
+mod audit;
 mod job;
 mod message;
 
 use aud_cli::{Command, Ended, Usage, job_of};
+use audit::run_audit_job;
 use job::{exit_status, run_job};
 use message::message_of;
 use std::alloc::Global;
 use std::io::{self, ErrorKind};
 use std::process::ExitCode;
+use std::sync::Wait;
+use std::thread::Threads;
 
 /// What the user reads where a word is no text.
 const NO_TEXT: &str = "error: a word is not UTF-8\n";
+
+fn told(alloc: Global, text: &str) -> Usage {
+    match String::from_str(alloc, text) {
+        Ok(text) => Usage::Told(text),
+        Err(_) => Usage::OutOfMemory,
+    }
+}
 
 /// Why the words were not read.
 fn unread(alloc: Global, kind: ErrorKind) -> Usage {
     if kind == ErrorKind::OutOfMemory {
         return Usage::OutOfMemory;
     }
-    match String::from_str(alloc, NO_TEXT) {
-        Ok(text) => Usage::Told(text),
-        Err(_) => Usage::OutOfMemory,
-    }
+    told(alloc, NO_TEXT)
 }
 
 /// The words, the program's name first.
@@ -37,16 +45,27 @@ fn words_of(rt: &HostRuntime, alloc: Global) -> Result<Vec<String>, Usage> {
     }
 }
 
-/// Does what the words ask for.
-fn answer(rt: &HostRuntime, alloc: Global) -> Result<Ended, Usage> {
+/// Does what the words ask for. Whoever has `threads` may start them, and wait.
+fn answer<T: Threads + Wait + Sync>(
+    rt: &HostRuntime,
+    threads: &T,
+    alloc: Global,
+) -> Result<Ended, Usage> {
     let words = words_of(rt, alloc)?;
     match job_of(alloc, words.as_slice())? {
         Command::Lines(job) => Ok(run_job(alloc, &job, &mut rt.reader(), &mut io::writer(rt))),
+        Command::Audit(job) => Ok(run_audit_job(
+            threads,
+            alloc,
+            &job,
+            &mut rt.reader(),
+            &mut io::writer(rt),
+        )),
     }
 }
 
 fn main(rt: HostRuntime) -> ExitCode {
-    let answer = answer(&rt, rt.alloc());
+    let answer = answer(&rt, &rt, rt.alloc());
     match &answer {
         Err(usage) => {
             let _ = eprint!(rt; "{}", usage.text());

@@ -4,6 +4,7 @@ use Rattle.clap.specs.Kinds.{Kinds, IsAmong}
 use Rattle.clap.specs.declared.error.kind.ErrorKind.{ErrorKind}
 use Rattle.clap.proofs.OnLiterals.{clap_on_literals}
 use Rattle.aud_cli.specs.CommandLine.{opaq_app}
+use Rattle.aud_cli.proofs.Ranges.{in-range}
 use Rattle.aud_cli.proofs.words.job_of.Goals as goal
 
 simple : is_simple opaq_app ≡ true
@@ -18,8 +19,8 @@ free = refl
 not_among : (k : ErrorKind) (ks : Kinds) → ks ≡ [] → IsAmong k ks → ⊥
 not_among k ks e h = let P : Kinds → Type 0 = λ xs. IsAmong k xs in subst P e h
 
-pub returns-in-Err : goal.returns-in-Err
-returns-in-Err c =
+pub returns-in-Err-clause-asked : goal.returns-in-Err-clause-asked
+returns-in-Err-clause-asked c =
     let words : List Text = map string_bytes c.args.words.now in
     let is = c.in-Ok.ensures in
     let same = ap (λ (a : App). fault_of a words) is in
@@ -28,8 +29,8 @@ returns-in-Err c =
       | inr among ↦ inr (λ command asked. not_among _ _ (same ∙ asked.taken) among)
     ]
 
-pub returns-in-Ok-Some : goal.returns-in-Ok-Some
-returns-in-Ok-Some c =
+pub returns-in-Ok-Some-clause-asked : goal.returns-in-Ok-Some-clause-asked
+returns-in-Ok-Some-clause-asked c =
     let words : List Text = map string_bytes c.args.words.now in
     let is = c.in-Ok.ensures in
     let matches = c.in-Ok-try_get_matches_from.ensures.matches (ap is_simple is ∙ simple) in
@@ -41,3 +42,8 @@ returns-in-Ok-Some c =
       read = sym (c.in-Some.ensures ∙ (matches.1 ∙ ap (λ (a : App). subcommand_of a words) is));
       asks = asks;
     }
+
+pub returns-in-Ok-Some-clause-range : goal.returns-in-Ok-Some-clause-range
+returns-in-Ok-Some-clause-range c =
+    let asks = rw c.in-Ok-Some.field-0-is at c.in-Ok-Some.ensures in
+    in-range c.in-Some.name.now (rows_of (found_of c.in-Some.inner.now)) _ asks

@@ -1,0 +1,160 @@
+-- The ends of tasks: of a share, later, at a closed node, and in what nodes know together.
+use Rattle.std.proofs.Common.{◌≡◌, ◌<◌, ◌%◌, ◌++◌, ◌⊎◌, [], ℕ, List, length, map, get_or, All, Contains, Option, Some, None, IfSome, ◌==◌, ◌∷◌, Bool, sym, ap, subst, refl, ◌∙◌, arith, inl, inr, true, false, not, ◌+◌}
+use Rattle.std.proofs.lemmas.List.Elements.{All-contains, Contains-append_left, Contains-append_right, Contains-get_or, Contains-push_cases}
+use Rattle.std.specs.List.Sorted.{IsPermutation}
+use mathlib.Core.List.{IsPrefix}
+use Rattle.aud_event.proofs.Bools.{nat_eq-is}
+use Rattle.aud_event.specs.Meanings.{PlanOf}
+use Rattle.aud_facts.specs.Sets.{FactsOf}
+use Rattle.aud_witness.specs.declared.decision.Decision.{Decision}
+use Rattle.aud_order.specs.Shapes.{ShapeOf, objects_of, history_of}
+use Rattle.aud_cover.specs.Closings.{IsCovered}
+use Rattle.aud_know.specs.Norms.{atoms_of, refuted, shown}
+use Rattle.aud_know.specs.Known.{Held, KnownAtom, KnowledgeOf, Takes, norm_of}
+use Rattle.aud_know.specs.Laws.{KnowledgeIsNorm}
+use Rattle.aud_know.specs.Truth.{IsKnowledge}
+use Rattle.aud_node.specs.Logs.{Entry, atoms_in, state_of}
+use Rattle.aud_node.specs.Meanings.{Agrees, PassOf}
+use Rattle.aud_node.proofs.Own.{atoms-append}
+use Rattle.aud_node.proofs.Growing.{below_more}
+use Rattle.aud_gossip.specs.Receiving.{GoesFurther}
+use Rattle.aud_split.specs.Ends.{faulted}
+use Rattle.aud_split.specs.Laws.{KnownIsKept, PoolEndsAll}
+use Rattle.aud_split.specs.Pools.{AreSettled}
+use Rattle.aud_split.specs.Searched.{HasWitness, IsEndedBy}
+use Rattle.aud_split.specs.declared.fault.PoolFault.{PoolFault}
+use Rattle.aud_audit.specs.Seats.{AreLater, CrewOf}
+use Rattle.aud_audit.specs.Searches.{HasEnded, HaveEnded, HaveEndedShare, IsSearchOf, IsShare, KnowsEnd, WasSearched, task_budget}
+use Rattle.aud_audit.specs.declared.searching.Search.{Search}
+
+-- # More atoms
+
+ended_in : (s : ShapeOf) (budget : ℕ) (t : List Decision) (xs ys : List KnownAtom) → ((a : KnownAtom) → Contains xs a → Contains ys a) →
+    IsEndedBy xs (objects_of s) (history_of s) budget t → IsEndedBy ys (objects_of s) (history_of s) budget t
+ended_in s budget t xs ys more (inl (q, (rest, (there, is)))) = inl (q, (rest, (more (refuted q) there, is)))
+ended_in s budget t xs ys more (inr (inl (q, there))) = inr (inl (q, more (shown q) there))
+ended_in s budget t xs ys more (inr (inr spent)) = inr (inr spent)
+
+ended_further : (s : ShapeOf) (budget : ℕ) (t : List Decision) (v w : List Entry) → IsPrefix v w →
+    IsEndedBy (atoms_in v) (objects_of s) (history_of s) budget t → IsEndedBy (atoms_in w) (objects_of s) (history_of s) budget t
+ended_further s budget t v w p =
+    ended_in s budget t (atoms_in v) (atoms_in w)
+    (λ a there. subst (λ (l : List KnownAtom). Contains l a) (sym (atoms-append v p.0) ∙ ap atoms_in p.1) (Contains-append_left (atoms_in v) (atoms_in p.0) a there))
+
+-- # Passes
+
+pub ended_later : (s : ShapeOf) (budget : ℕ) (old new : List PassOf) (t : List Decision) → AreLater old new → HasEnded s budget old t → HasEnded s budget new t
+ended_later s budget old new t later (p, ((k, lt, is), ended)) =
+    let count = later.count in
+    let q = get_or new k p in
+    let further : GoesFurther p q = subst (λ (x : PassOf). GoesFurther x q) is (later.each k p p lt) in
+    (q, (Contains-get_or new k p (omega (arith, lt, count)), ended_further s budget t p.view q.view further.0 ended))
+
+pub share_later : (s : ShapeOf) (budget : ℕ) (tasks : List (List Decision)) (nodes number : ℕ) (old new : List PassOf) → AreLater old new →
+    HaveEndedShare s budget tasks nodes number old → HaveEndedShare s budget tasks nodes number new
+share_later s budget tasks nodes number old new later ended k d lt is = ended_later s budget old new (get_or tasks k d) later (ended k d lt is)
+
+-- where a pool met no fault, each task of the share ended
+pub share_ended : PoolEndsAll → (s : ShapeOf) (budget : ℕ) (tasks share left : List (List Decision)) (nodes number n : ℕ) (passes : List PassOf) (drawn : List (ℕ × List Decision)) (faults : List (ℕ × PoolFault)) →
+    IsShare tasks nodes number share → n ≡ length passes → 0 < n → IsPermutation share (map (λ d. d.1) drawn ++ left) →
+    (left ≡ []) ⊎ ((w : ℕ) → w < n → faulted w faults ≡ true) → All (λ d. d.0 < n) drawn →
+    AreSettled s budget passes faults drawn → faults ≡ [] → HaveEndedShare s budget tasks nodes number passes
+share_ended law s budget tasks share left nodes number n passes drawn faults shared count some all empty below settled none k d lt is =
+    law s budget share left passes drawn (subst (λ (m : ℕ). 0 < m) count some) all
+    (subst (λ (m : ℕ). (left ≡ []) ⊎ ((w : ℕ) → w < m → faulted w [] ≡ true)) count
+    (subst (λ (f : List (ℕ × PoolFault)). (left ≡ []) ⊎ ((w : ℕ) → w < n → faulted w f ≡ true)) none empty))
+    (subst (λ (m : ℕ). All (λ (e : ℕ × List Decision). e.0 < m) drawn) count below)
+    (subst (λ (f : List (ℕ × PoolFault)). AreSettled s budget passes f drawn) none settled)
+    (get_or tasks k d)
+    (shared k d lt is)
+
+-- # What is known
+
+module _ (kept : KnownIsKept) (s : ShapeOf) (budget : ℕ) (t : List Decision) where
+  -- an end by atoms is known by their normal form
+  knows_norm : (k : KnowledgeOf) (xs : List KnownAtom) → k.held ≡ norm_of xs → IsEndedBy xs (objects_of s) (history_of s) budget t → KnowsEnd s budget k t
+  knows_norm k xs took (inl there) = inl (subst (λ (h : Held). IsCovered h.cover t) (sym took) (((kept xs).refuted t).0 there))
+  knows_norm k xs took (inr (inl some)) = inr (inl (subst HasWitness (sym took) ((kept xs).shown.0 some)))
+  knows_norm k xs took (inr (inr spent)) = inr (inr spent)
+
+  -- and the other way
+  pub norm_knows : (k : KnowledgeOf) (xs : List KnownAtom) → k.held ≡ norm_of xs → KnowsEnd s budget k t → IsEndedBy xs (objects_of s) (history_of s) budget t
+  norm_knows k xs took (inl there) = inl (((kept xs).refuted t).1 (subst (λ (h : Held). IsCovered h.cover t) took there))
+  norm_knows k xs took (inr (inl some)) = inr (inl ((kept xs).shown.1 (subst HasWitness took some)))
+  norm_knows k xs took (inr (inr spent)) = inr (inr spent)
+
+  -- what a pass has seen that a closed node agrees with is known by the node
+  pub closed_knows : (passes all rest : List PassOf) (plan : PlanOf) (log : List Entry) (k : KnowledgeOf) → all ≡ passes ++ rest → All (Agrees log) all → k ≡ state_of plan log →
+      HasEnded s budget passes t → KnowsEnd s budget k t
+  closed_knows passes all rest plan log k is agrees known (p, (there, ended)) =
+      let among : Contains all p = subst (λ (l : List PassOf). Contains l p) (sym is) (Contains-append_left passes rest p there) in
+      let view : IsPrefix p.view log = (All-contains (Agrees log) all p agrees among).0 in
+      knows_norm k (atoms_in log) (ap (λ (j : KnowledgeOf). j.held) known) (ended_further s budget t p.view log view ended)
+
+  module _ (norm : KnowledgeIsNorm) (one other new : KnowledgeOf) (truth : IsKnowledge one.plan one.held) (also_true : IsKnowledge other.plan other.held) (takes : Takes one.held new.held (atoms_of other.held)) where
+    both : new.held ≡ norm_of (atoms_of one.held ++ atoms_of other.held)
+    both = takes (atoms_of one.held) (ap (λ (j : KnowledgeOf). j.held) (norm one truth))
+
+    pub knows_one : KnowsEnd s budget one t → KnowsEnd s budget new t
+    knows_one knows =
+        knows_norm new (atoms_of one.held ++ atoms_of other.held) both
+        (ended_in s budget t (atoms_of one.held) (atoms_of one.held ++ atoms_of other.held) (Contains-append_left (atoms_of one.held) (atoms_of other.held))
+        (norm_knows one (atoms_of one.held) (ap (λ (j : KnowledgeOf). j.held) (norm one truth)) knows))
+
+    pub knows_other : KnowsEnd s budget other t → KnowsEnd s budget new t
+    knows_other knows =
+        knows_norm new (atoms_of one.held ++ atoms_of other.held) both
+        (ended_in s budget t (atoms_of other.held) (atoms_of one.held ++ atoms_of other.held) (Contains-append_right (atoms_of one.held) (atoms_of other.held))
+        (norm_knows other (atoms_of other.held) (ap (λ (j : KnowledgeOf). j.held) (norm other also_true)) knows))
+
+-- # Lists
+
+pub none_of : {T : Type 0} (b : Bool) (n : ℕ) (xs : List T) → b ≡ (n == 0) → n ≡ length xs → b ≡ true → xs ≡ []
+none_of b n [] told long is = refl
+none_of b n (x ∷ xs) told long is = let none : n ≡ 0 = nat_eq-is n 0 (sym told ∙ is) in absurd (omega (arith, none, long))
+
+-- # One crew more
+
+pub ended_cases : (s : ShapeOf) (budget : ℕ) (t : List Decision) (all crews : List CrewOf) (c : CrewOf) → all ≡ crews ++ c ∷ [] → HaveEnded s budget all t → HaveEnded s budget crews t ⊎ HasEnded s budget c.passes t
+ended_cases s budget t all crews c is (d, (there, ended)) =
+    elim (Contains-push_cases crews c d (subst (λ (l : List CrewOf). Contains l d) is there)) [
+      | inl before ↦ inl (d, (before, ended))
+      | inr same ↦ inr (subst (λ (e : CrewOf). HasEnded s budget e.passes t) (sym same) ended)
+    ]
+
+pub none_ended : (s : ShapeOf) (budget : ℕ) (t : List Decision) (crews : List CrewOf) → crews ≡ [] → HaveEnded s budget crews t → ⊥
+none_ended s budget t crews is (d, (there, ended)) = let (k, lt, at) = subst (λ (l : List CrewOf). Contains l d) is there in absurd (omega arith)
+
+-- # Shares
+
+-- one task more was looked at: it is in the share
+pub share_more : (tasks : List (List Decision)) (nodes number place : ℕ) (share new : List (List Decision)) (x : List Decision) → new ≡ share ++ x ∷ [] → ((d : List Decision) → x ≡ get_or tasks place d) →
+    ((k : ℕ) → k < place → (d : List Decision) → k % nodes ≡ number → Contains share (get_or tasks k d)) →
+    (k : ℕ) → k < place + 1 → (d : List Decision) → k % nodes ≡ number → Contains new (get_or tasks k d)
+share_more tasks nodes number place share new x is copy before =
+    below_more (λ (k : ℕ). (d : List Decision) → k % nodes ≡ number → Contains new (get_or tasks k d)) place
+    (λ k lt d e. subst (λ (l : List (List Decision)). Contains l (get_or tasks k d)) (sym is) (Contains-append_left share (x ∷ []) (get_or tasks k d) (before k lt d e)))
+    (λ d e. subst (λ (l : List (List Decision)). Contains l (get_or tasks place d)) (sym is) (subst (λ (y : List Decision). Contains (share ++ x ∷ []) y) (copy d) (Contains-append_right share (x ∷ []) x (0, omega arith, refl))))
+
+-- and it is not, since it is another node's
+pub share_same : (tasks : List (List Decision)) (nodes number place : ℕ) (share new : List (List Decision)) → new ≡ share → (place % nodes ≡ number → ⊥) →
+    ((k : ℕ) → k < place → (d : List Decision) → k % nodes ≡ number → Contains share (get_or tasks k d)) →
+    (k : ℕ) → k < place + 1 → (d : List Decision) → k % nodes ≡ number → Contains new (get_or tasks k d)
+share_same tasks nodes number place share new is other before =
+    below_more (λ (k : ℕ). (d : List Decision) → k % nodes ≡ number → Contains new (get_or tasks k d)) place
+    (λ k lt d e. subst (λ (l : List (List Decision)). Contains l (get_or tasks k d)) (sym is) (before k lt d e))
+    (λ d e. absurd (other e))
+
+pub unnegated : (b : Bool) → not b ≡ false → b ≡ true
+unnegated true e = refl
+unnegated false e = sym e
+
+-- # What was searched
+
+-- where the end of each task of a search is known, it was searched
+pub was_searched : (facts : FactsOf) (budget : Option ℕ) (known : KnowledgeOf) (found : Option Search) (crews : List CrewOf) →
+    IfSome found (λ s. (s.budget ≡ task_budget budget) × IsSearchOf facts s.shape.value s.tasks.items) →
+    IfSome found (λ s. (t : List Decision) → Contains s.tasks.items t → HaveEnded s.shape.value s.budget crews t) →
+    ((s : ShapeOf) (b : ℕ) (t : List Decision) → HaveEnded s b crews t → KnowsEnd s b known t) → WasSearched facts budget known found
+was_searched facts budget known None crews is ended knows = tt
+was_searched facts budget known (Some s) crews (of_budget, of_facts) ended knows = (of_budget, (of_facts, λ t there. knows s.shape.value s.budget t (ended t there)))

@@ -1,0 +1,4 @@
+pub mod Seats
+pub mod Meshes
+pub mod Searches
+pub mod Lines

@@ -1,0 +1,48 @@
+-- What an audit may say of an input, and what its run leaves.
+use Rattle.std.specs.Prelude.{◌≡◌, ℕ, List, [], Option, Some, None, false, ⊤}
+use Rattle.aud_event.specs.Meanings.{PlanOf}
+use Rattle.aud_history.specs.Histories.{History}
+use Rattle.aud_witness.specs.declared.decision.Decision.{Decision}
+use Rattle.aud_know.specs.declared.verdict.Verdict.TheVariants as verdict
+use Rattle.aud_split.specs.Searched.{AreUnfinished}
+use Rattle.aud_split.specs.Tasks.{AreTasks}
+use Rattle.aud_report.specs.Lines.{line_of}
+use Rattle.aud_report.specs.declared.said.Said.{Said}
+use Rattle.aud_report.specs.declared.said.Said.TheVariants as said
+use Rattle.aud_cli.specs.Inputs.{input_read}
+use Rattle.aud_cli.specs.Line.{Answers, DecideSays, InputSays}
+use Rattle.aud_cli.specs.Outcomes.{Nothing, RunOutcome, Seen, ended_by}
+use Rattle.aud_cli.specs.declared.ended.Cause.{Cause}
+use Rattle.aud_cli.specs.declared.ended.Cause.TheVariants.{Input, Memory, Output, Thread}
+use Rattle.aud_cli.specs.declared.ended.Ended.{Ended}
+use Rattle.aud_cli.specs.declared.ended.Ended.TheVariants as ended
+
+-- of the tasks below the empty list, at a depth of two, each is refuted or its budget can be spent, and of one it can
+abbrev pub AreLeftOpen : ℕ → PlanOf → History → Type 0
+AreLeftOpen budget plan h = (tasks : List (List Decision)) × (AreTasks plan.objects h [] 2 tasks × AreUnfinished plan.objects h budget tasks)
+
+-- an audit: what decide says without a budget; where there is one, or `unfinished` if it leaves tasks open
+abbrev pub AuditSays : Option ℕ → Answers
+AuditSays (Some budget) plan h (said.Verdict verdict.Unfinished) = AreLeftOpen budget plan h
+AuditSays budget plan h s = DecideSays None false plan h s
+
+-- what an audit may say of an input: the first of these that applies
+abbrev pub AuditLine : Option ℕ → List ℕ → Said → Type 0
+AuditLine budget input s = InputSays (AuditSays budget) (input_read input) s
+
+-- the bytes are a line that an audit may say of the input, and a run ends so that says it
+abbrev pub IsAuditLine : Option ℕ → List ℕ → List ℕ → Ended → Type 0
+IsAuditLine budget input line e = (s : Said) × (AuditLine budget input s × ((line ≡ line_of s) × (ended_by s ≡ e)))
+
+-- what an audit fails for before it writes
+abbrev pub IsOfAudit : Cause → Type 0
+IsOfAudit Memory = ⊤
+IsOfAudit Input = ⊥
+IsOfAudit Output = ⊥
+IsOfAudit Thread = ⊤
+
+-- what a run leaves that ends so, as one of `check`, `decide` or `verify` does; where a thread was not to be had, nothing
+-- went out
+abbrev pub AuditOutcome : (Said → Type 0) → Seen → Seen → Ended → Type 0
+AuditOutcome May before after (ended.Failed Thread) = Nothing 0 before after
+AuditOutcome May before after e = RunOutcome May before after e

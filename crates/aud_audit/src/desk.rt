@@ -1,0 +1,132 @@
+//! What a node's first seat does: it offers facts, and takes in what other nodes post.
+
+ghost use Rattle.std.specs.Prelude.{◌≡◌, None};
+ghost use Rattle.aud_event.specs.Facts.{first_fact_fault};
+ghost use Rattle.aud_node.specs.Meanings.{IsAt};
+ghost use Rattle.aud_audit.specs.Seats.{IsSameSeat};
+
+use crate::judging::has_all;
+use aud_event::{Fact, OutOfMemory};
+use aud_facts::Facts;
+use aud_gossip::receive_all;
+use aud_know::Item;
+use aud_node::{Fleet, OfferFault, Packet, Pass, ReadFault, Running};
+use crossbeam_channel::Receiver;
+use std::alloc::Global;
+use std::marker::Model;
+use std::sync::Wait;
+
+/// The first seat of a node, and whether memory was refused to it.
+#[derive(Drop)]
+pub(crate) struct Desk<J: Fleet> {
+    pub pass: Pass<J>,
+    pub failed: bool,
+}
+
+impl<J: Fleet> Model for Desk<J> {
+    ghost use Rattle.aud_audit.specs.Seats.{DeskOf};
+
+    ghost Value = { DeskOf };
+
+    ghost view = { λ d. record { pass = d.pass; failed = d.failed } };
+}
+
+/// The log of a fact.
+fn log_of(fact: &Fact) -> u32 {
+    match fact {
+        Fact::Rec(record) => record.log,
+        Fact::End(mark) => mark.log,
+    }
+}
+
+/// Offers a fact that the node's plan does not refuse.
+fn offer_fact<J: Fleet, S: Wait + Drop, R: Wait>(
+    rt: &R,
+    alloc: Global,
+    node: &Running<J, S>,
+    pass: &mut Pass<J>,
+    fact: Fact,
+) -> Result<(), OutOfMemory>
+    requires at { IsAt node.now pass.old }
+    requires fits { first_fact_fault node.now.plan fact ≡ None }
+    ensures { IsSameSeat pass.old pass.new }
+{
+    match node.offer(rt, alloc, pass, Item::Fact(fact)) {
+        Ok(()) => Ok(()),
+        Err((_, OfferFault::OutOfMemory)) => Err(OutOfMemory),
+        Err(_) => unreachable!(),
+    }
+}
+
+/// Offers those of the facts whose log's number, divided by the number of nodes, leaves the node's.
+fn offer_share<J: Fleet, S: Wait + Drop, R: Wait>(
+    rt: &R,
+    alloc: Global,
+    node: &Running<J, S>,
+    pass: &mut Pass<J>,
+    facts: &Facts,
+    nodes: usize,
+) -> Result<(), OutOfMemory>
+    requires at { IsAt node.now pass.old }
+    requires plan { facts.now.plan ≡ node.now.plan }
+    ensures { IsSameSeat pass.old pass.new }
+{
+    for fact in facts.set().iter() {
+        if (log_of(fact) as usize).checked_rem(nodes) == Some(node.number() as usize) {
+            offer_fact(rt, alloc, node, pass, *fact)?;
+        }
+    }
+    Ok(())
+}
+
+impl<J: Fleet> Desk<J> {
+    /// Offers the node's share of the facts, of so many nodes.
+    pub(crate) fn offer<S: Wait + Drop, R: Wait>(
+        &mut self,
+        rt: &R,
+        alloc: Global,
+        node: &Running<J, S>,
+        facts: &Facts,
+        nodes: usize,
+    )
+        requires at { IsAt node.now self.old.pass }
+        requires plan { facts.now.plan ≡ node.now.plan }
+        ensures { IsSameSeat self.old.pass self.new.pass }
+    {
+        if offer_share(rt, alloc, node, &mut self.pass, facts, nodes).is_err() {
+            self.failed = true;
+        }
+    }
+
+    /// Takes in all that comes, until the senders are gone.
+    pub(crate) fn receive<S: Wait + Drop, R: Wait>(
+        &mut self,
+        rt: &R,
+        alloc: Global,
+        node: &Running<J, S>,
+        inbox: &Receiver<Packet>,
+    )
+        requires at { IsAt node.now self.old.pass }
+        ensures { IsSameSeat self.old.pass self.new.pass }
+    {
+        if receive_all(rt, alloc, inbox, node, &mut self.pass).is_err() {
+            self.failed = true;
+        }
+    }
+
+    /// Whether these facts, and no others, are known to the node, as the desk sees it.
+    pub(crate) fn has_all<S: Wait + Drop>(
+        &mut self,
+        node: &Running<J, S>,
+        facts: &Facts,
+    ) -> Result<bool, OutOfMemory>
+        requires at { IsAt node.now self.old.pass }
+        ensures { IsSameSeat self.old.pass self.new.pass }
+    {
+        match node.snapshot(&mut self.pass) {
+            Ok(packet) => Ok(has_all(&packet.known, facts)),
+            Err(ReadFault::OutOfMemory) => Err(OutOfMemory),
+            Err(ReadFault::WrongNode) => unreachable!(),
+        }
+    }
+}

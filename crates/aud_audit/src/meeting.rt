@@ -1,0 +1,292 @@
+//! What all nodes do at once: they offer what they were given, tell each other, and search.
+
+ghost use Rattle.std.specs.Prelude.{◌≡◌, ◌≤◌, ◌<◌, ℕ, List, All, false, true, IfOk, OnOk, IsTrue, length, vec_len, slice_index_or};
+ghost use Rattle.std.specs.List.{Contains, HoldsAt};
+ghost use Rattle.aud_witness.specs.declared.decision.Decision.{Decision};
+ghost use Rattle.aud_order.specs.Shapes.{plan_of};
+ghost use Rattle.aud_audit.specs.Seats.{AreOf, AreCrews, AreDesks, IsCrewAt, IsDeskAt};
+ghost use Rattle.aud_audit.specs.Searches.{HaveEnded, HaveEndedShare, SharesHaveEnded};
+ghost use Rattle.aud_audit.specs.Meshes.{IsMesh};
+
+use crate::crew::Crew;
+use crate::desk::Desk;
+use crate::mesh::Mesh;
+use crate::searching::Search;
+use aud_event::OutOfMemory;
+use aud_facts::Facts;
+use aud_node::{Fleet, Packet, Running};
+use aud_pool::Gate;
+use aud_witness::Prefix;
+use crossbeam_channel::{Receiver, Sender};
+use std::alloc::Global;
+use std::sync::Wait;
+use std::thread;
+use std::thread::Threads;
+
+/// The greatest number of nodes.
+const NODES_MAX: usize = 8;
+
+/// A channel for each of so many nodes.
+fn channels(
+    alloc: Global,
+    count: usize,
+) -> Result<(Vec<Sender<Packet>>, Vec<Receiver<Packet>>), OutOfMemory>
+    ensures senders { IfOk result (λ ends. length ends.0.items ≡ count) }
+    ensures inboxes { IfOk result (λ ends. length ends.1.items ≡ count) }
+{
+    let mut senders = Vec::new(alloc);
+    let mut inboxes = Vec::new(alloc);
+    for _place in 0..count {
+        let (sender, inbox) = crossbeam_channel::unbounded(alloc)?;
+        senders.push(sender)?;
+        inboxes.push(inbox)?;
+    }
+    Ok((senders, inboxes))
+}
+
+/// Senders to all nodes but the one at the place.
+fn senders_but(
+    alloc: Global,
+    senders: &[Sender<Packet>],
+    but: usize,
+) -> Result<Vec<Sender<Packet>>, OutOfMemory>
+    ensures { IfOk result (λ others. vec_len others ≤ length senders.now) }
+{
+    let mut others = Vec::new(alloc);
+    for place in 0..senders.len() {
+        if place != but {
+            others.push(senders[place].clone()?)?;
+        }
+    }
+    Ok(others)
+}
+
+/// Gives each crew senders to all other nodes, and answers where what they send comes out, by place.
+fn connect<J: Fleet>(
+    alloc: Global,
+    crews: &mut [Crew<J>],
+) -> Result<Vec<Receiver<Packet>>, OutOfMemory>
+    requires few { length crews.old ≤ 8 }
+    ensures crews { crews.new ≡ crews.old }
+    ensures inboxes { IfOk result (λ inboxes. length inboxes.items ≡ length crews.old) }
+{
+    let (senders, inboxes) = channels(alloc, crews.len())?;
+    for place in 0..crews.len() {
+        let others = senders_but(alloc, &senders, place)?;
+        crews[place].reopen(others);
+    }
+    Ok(inboxes)
+}
+
+/// Each node's desk offers the node's share of the facts.
+fn offer_all<J: Fleet + Send + Sync, S: Wait + Drop + Send, R: Threads + Wait + Sync>(
+    rt: &R,
+    alloc: Global,
+    nodes: &[Running<J, S>],
+    desks: &mut [Desk<J>],
+    facts: &Facts,
+)
+    requires desks { AreDesks nodes.now desks.old }
+    requires planned { AreOf facts.now.plan nodes.now }
+    ensures { AreDesks nodes.now desks.new }
+{
+    let each = |place: usize, desk: &mut Desk<J>|
+        requires { (place < length nodes.now) × (AreOf facts.now.plan nodes.now × HoldsAt (λ n. IsDeskAt n desk.now) nodes.now place) }
+        ensures { HoldsAt (λ n. IsDeskAt n desk.exit.now) nodes.entry.now place }
+    { desk.offer(rt, alloc, &nodes[place], facts, nodes.len()) };
+    thread::for_each_mut(rt, desks, NODES_MAX, &each);
+}
+
+/// Each node's crew posts what the node knows.
+fn post_all<J: Fleet + Send + Sync, S: Wait + Drop + Send, R: Threads + Wait + Sync>(
+    rt: &R,
+    alloc: Global,
+    nodes: &[Running<J, S>],
+    crews: &mut [Crew<J>],
+)
+    requires { AreCrews nodes.now crews.old }
+    ensures { AreCrews nodes.now crews.new }
+{
+    let each = |place: usize, crew: &mut Crew<J>|
+        requires { (place < length nodes.now) × HoldsAt (λ n. IsCrewAt n crew.now) nodes.now place }
+        ensures { HoldsAt (λ n. IsCrewAt n crew.exit.now) nodes.entry.now place }
+    { crew.post_news(rt, alloc, &nodes[place]) };
+    thread::for_each_mut(rt, crews, NODES_MAX, &each);
+}
+
+/// Each node's desk takes in what comes to the node, until nobody can send any more.
+fn receive_each<J: Fleet + Send + Sync, S: Wait + Drop + Send, R: Threads + Wait + Sync>(
+    rt: &R,
+    alloc: Global,
+    nodes: &[Running<J, S>],
+    desks: &mut [Desk<J>],
+    inboxes: &[Receiver<Packet>],
+)
+    requires desks { AreDesks nodes.now desks.old }
+    requires inboxes { length inboxes.now ≡ length nodes.now }
+    ensures { AreDesks nodes.now desks.new }
+{
+    let each = |place: usize, desk: &mut Desk<J>|
+        requires { ((place < length nodes.now) × (place < length inboxes.now)) × HoldsAt (λ n. IsDeskAt n desk.now) nodes.now place }
+        ensures { HoldsAt (λ n. IsDeskAt n desk.exit.now) nodes.entry.now place }
+    { desk.receive(rt, alloc, &nodes[place], &inboxes[place]) };
+    thread::for_each_mut(rt, desks, NODES_MAX, &each);
+}
+
+/// Each node's crew searches the node's share of the tasks, and posts what the node knows then.
+fn search_each<
+    J: Fleet + Send + Sync,
+    S: Wait + Drop + Send,
+    G: Gate<Prefix> + Sync,
+    R: Threads + Wait + Sync,
+>(rt: &R, alloc: Global, nodes: &[Running<J, S>], crews: &mut [Crew<J>], search: &Search, gate: &G)
+    requires crews { AreCrews nodes.now crews.old }
+    requires planned { AreOf (plan_of search.now.shape.value) nodes.now }
+    ensures crews { AreCrews nodes.now crews.new }
+    ensures ended { SharesHaveEnded search.now.shape.value search.now.budget search.now.tasks.items nodes.now crews.new }
+{
+    let each = |place: usize, crew: &mut Crew<J>|
+        requires { (place < length nodes.now) × AreOf (plan_of search.now.shape.value) nodes.now × HoldsAt (λ n. IsCrewAt n crew.now) nodes.now place }
+        ensures { HoldsAt (λ n. IsCrewAt n crew.exit.now × (crew.exit.now.failed ≡ false →
+            HaveEndedShare search.entry.now.shape.value search.entry.now.budget search.entry.now.tasks.items (length nodes.entry.now) n.number crew.exit.now.passes)) nodes.entry.now place }
+    { crew.search(rt, alloc, &nodes[place], search, gate, nodes.len()) };
+    thread::for_each_mut(rt, crews, NODES_MAX, &each);
+}
+
+/// Whether memory was refused to nobody.
+fn has_all_done<J: Fleet>(desks: &[Desk<J>], crews: &[Crew<J>]) -> bool
+    ensures { IsTrue result → All (λ c. c.failed ≡ false) crews.now }
+{
+    desks.iter().all(|desk| !desk.failed) && crews.iter().all(|crew| !crew.failed)
+}
+
+/// What is done, where memory was refused to nobody.
+fn checked<J: Fleet>(desks: &[Desk<J>], crews: &[Crew<J>]) -> Result<(), OutOfMemory>
+    ensures { OnOk result (All (λ c. c.failed ≡ false) crews.now) }
+{
+    if has_all_done(desks, crews) {
+        Ok(())
+    } else {
+        Err(OutOfMemory)
+    }
+}
+
+impl<J: Fleet + Send + Sync, S: Wait + Drop + Send> Mesh<J, S> {
+    /// Each node's desk offers the node's share of the facts.
+    fn offer<R: Threads + Wait + Sync>(&mut self, rt: &R, alloc: Global, facts: &Facts)
+        requires desks { AreDesks self.old.nodes.items self.old.desks.items }
+        requires planned { AreOf facts.now.plan self.old.nodes.items }
+        ensures desks { AreDesks self.new.nodes.items self.new.desks.items }
+        ensures others { (self.new.nodes ≡ self.old.nodes) × (self.new.crews ≡ self.old.crews) }
+    {
+        offer_all(rt, alloc, &self.nodes, self.desks.as_mut_slice(), facts);
+    }
+
+    /// Gives each crew senders to all other nodes, and answers where what they send comes out, by place.
+    fn connect(&mut self, alloc: Global) -> Result<Vec<Receiver<Packet>>, OutOfMemory>
+        requires { length self.old.crews.items ≤ 8 }
+        ensures crews { self.new.crews.items ≡ self.old.crews.items }
+        ensures others { (self.new.nodes ≡ self.old.nodes) × (self.new.desks ≡ self.old.desks) }
+        ensures inboxes { IfOk result (λ inboxes. length inboxes.items ≡ length self.old.crews.items) }
+    {
+        connect(alloc, self.crews.as_mut_slice())
+    }
+
+    /// Each node's crew posts what the node knows.
+    fn post<R: Threads + Wait + Sync>(&mut self, rt: &R, alloc: Global)
+        requires { AreCrews self.old.nodes.items self.old.crews.items }
+        ensures crews { AreCrews self.new.nodes.items self.new.crews.items }
+        ensures others { (self.new.nodes ≡ self.old.nodes) × (self.new.desks ≡ self.old.desks) }
+    {
+        post_all(rt, alloc, &self.nodes, self.crews.as_mut_slice());
+    }
+
+    /// Each node's desk takes in what comes to the node.
+    fn receive<R: Threads + Wait + Sync>(
+        &mut self,
+        rt: &R,
+        alloc: Global,
+        inboxes: &[Receiver<Packet>],
+    )
+        requires desks { AreDesks self.old.nodes.items self.old.desks.items }
+        requires inboxes { length inboxes.now ≡ length self.old.nodes.items }
+        ensures desks { AreDesks self.new.nodes.items self.new.desks.items }
+        ensures others { (self.new.nodes ≡ self.old.nodes) × (self.new.crews ≡ self.old.crews) }
+    {
+        receive_each(rt, alloc, &self.nodes, self.desks.as_mut_slice(), inboxes);
+    }
+
+    /// Each node's crew searches the node's share of the tasks, and posts what the node knows then.
+    fn work<G: Gate<Prefix> + Sync, R: Threads + Wait + Sync>(
+        &mut self,
+        rt: &R,
+        alloc: Global,
+        search: &Search,
+        gate: &G,
+    )
+        requires crews { AreCrews self.old.nodes.items self.old.crews.items }
+        requires planned { AreOf (plan_of search.now.shape.value) self.old.nodes.items }
+        ensures crews { AreCrews self.new.nodes.items self.new.crews.items }
+        ensures others { (self.new.nodes ≡ self.old.nodes) × (self.new.desks ≡ self.old.desks) }
+        ensures ended { SharesHaveEnded search.now.shape.value search.now.budget search.now.tasks.items self.new.nodes.items self.new.crews.items }
+    {
+        search_each(
+            rt,
+            alloc,
+            &self.nodes,
+            self.crews.as_mut_slice(),
+            search,
+            gate,
+        );
+    }
+
+    /// Each node takes its share of the facts, and tells all others what it has.
+    pub(crate) fn share<R: Threads + Wait + Sync>(
+        &mut self,
+        rt: &R,
+        alloc: Global,
+        facts: &Facts,
+    ) -> Result<(), OutOfMemory>
+        requires mesh { IsMesh facts.now.plan self.old.nodes.items self.old.desks.items self.old.crews.items }
+        requires few { length self.old.nodes.items ≤ 8 }
+        ensures nodes { self.new.nodes ≡ self.old.nodes }
+        ensures mesh { OnOk result (IsMesh facts.now.plan self.new.nodes.items self.new.desks.items self.new.crews.items) }
+    {
+        self.offer(rt, alloc, facts);
+        let inboxes = self.connect(alloc)?;
+        self.post(rt, alloc);
+        self.receive(rt, alloc, &inboxes);
+        checked(&self.desks, &self.crews)
+    }
+
+    /// Whether the first node, as its desk sees it, has these facts, and no others.
+    pub(crate) fn first_has_all(&mut self, facts: &Facts) -> Result<bool, OutOfMemory>
+        requires mesh { IsMesh facts.now.plan self.old.nodes.items self.old.desks.items self.old.crews.items }
+        requires some { 0 < length self.old.nodes.items }
+        ensures nodes { self.new.nodes ≡ self.old.nodes }
+        ensures mesh { IsMesh facts.now.plan self.new.nodes.items self.new.desks.items self.new.crews.items }
+    {
+        self.desks[0].has_all(&self.nodes[0], facts)
+    }
+
+    /// All crews search the tasks, each its node's share. Then the desks take in what was found at other nodes.
+    pub(crate) fn search<G: Gate<Prefix> + Sync, R: Threads + Wait + Sync>(
+        &mut self,
+        rt: &R,
+        alloc: Global,
+        search: &Search,
+        gate: &G,
+    ) -> Result<(), OutOfMemory>
+        requires mesh { IsMesh (plan_of search.now.shape.value) self.old.nodes.items self.old.desks.items self.old.crews.items }
+        requires few { length self.old.nodes.items ≤ 8 }
+        requires some { 0 < length self.old.nodes.items }
+        ensures nodes { self.new.nodes ≡ self.old.nodes }
+        ensures mesh { OnOk result (IsMesh (plan_of search.now.shape.value) self.new.nodes.items self.new.desks.items self.new.crews.items) }
+        ensures ended { OnOk result ((t : List Decision) → Contains search.now.tasks.items t → HaveEnded search.now.shape.value search.now.budget self.new.crews.items t) }
+    {
+        let inboxes = self.connect(alloc)?;
+        self.work(rt, alloc, search, gate);
+        self.receive(rt, alloc, &inboxes);
+        checked(&self.desks, &self.crews)
+    }
+}

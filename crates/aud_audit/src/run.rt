@@ -1,0 +1,208 @@
+//! The run of an audit over the lines of an input.
+
+ghost use Rattle.std.specs.Prelude.{◌≡◌, ◌<◌, ◌≤◌, ℕ, List, IfErr, IfOk, IfSome, OnOk, length};
+ghost use Rattle.std.specs.List.{Contains};
+ghost use Rattle.aud_witness.specs.declared.decision.Decision.{Decision};
+ghost use Rattle.aud_cli.specs.Line.{FactsSay, SetSays};
+ghost use Rattle.aud_cli.specs.Words.{IsAuditJob};
+ghost use Rattle.aud_audit.specs.Lines.{AuditLine, AuditOutcome, AuditSays, IsAuditLine, IsOfAudit};
+ghost use Rattle.aud_audit.specs.Searches.{HaveEnded, IsSearchOf, WasSearched, task_budget};
+ghost use Rattle.aud_audit.specs.Seats.{AreOpened};
+ghost use Rattle.aud_audit.specs.Meshes.{IsMesh};
+
+use crate::closing::known_by_all;
+use crate::fault::AuditFault;
+use crate::judging::{Findings, conclude, has_all};
+use crate::mesh::{Mesh, open_all, start_all};
+use crate::searching::{Search, search_of};
+use aud_cli::{AuditJob, Cause, Ended, Input, InputFault, end_of, read_input};
+use aud_event::OutOfMemory;
+use aud_facts::Facts;
+use aud_node::{Fleet, Opened};
+use aud_pool::Gate;
+use aud_report::{ReadFault, Said, Sink, Source, read_all, write_all, write_line};
+use aud_witness::Prefix;
+use std::alloc::Global;
+use std::marker::Brand;
+use std::sync::{Arc, Wait};
+use std::thread::Threads;
+
+/// The search of the facts' history, where the first node has all facts, they are sealed and it is well-formed.
+fn search_for(
+    alloc: Global,
+    has_all: bool,
+    facts: &Facts,
+    budget: Option<u64>,
+) -> Result<Option<Search>, OutOfMemory>
+    ensures { IfOk result (λ found. IfSome found (λ s. (s.budget ≡ task_budget budget) × IsSearchOf facts.now s.shape.value s.tasks.items)) }
+{
+    if has_all {
+        search_of(alloc, facts, budget)
+    } else {
+        Ok(None)
+    }
+}
+
+/// Has the tasks searched, if there are any to search.
+fn search_tasks<
+    J: Fleet + Send + Sync,
+    S: Wait + Drop + Send,
+    G: Gate<Prefix> + Sync,
+    R: Threads + Wait + Sync,
+>(
+    rt: &R,
+    alloc: Global,
+    mesh: &mut Mesh<J, S>,
+    facts: &Facts,
+    search: &Option<Search>,
+    gate: &G,
+) -> Result<(), OutOfMemory>
+    requires mesh { IsMesh facts.now.plan mesh.old.nodes.items mesh.old.desks.items mesh.old.crews.items }
+    requires few { length mesh.old.nodes.items ≤ 8 }
+    requires some { 0 < length mesh.old.nodes.items }
+    requires search { IfSome search.now (λ s. IsSearchOf facts.now s.shape.value s.tasks.items) }
+    ensures nodes { mesh.new.nodes ≡ mesh.old.nodes }
+    ensures mesh { OnOk result (IsMesh facts.now.plan mesh.new.nodes.items mesh.new.desks.items mesh.new.crews.items) }
+    ensures ended { OnOk result (IfSome search.now (λ s. (t : List Decision) → Contains s.tasks.items t → HaveEnded s.shape.value s.budget mesh.new.crews.items t)) }
+{
+    match search {
+        Some(search) => mesh.search(rt, alloc, search, gate),
+        None => Ok(()),
+    }
+}
+
+/// What the nodes of new histories find together, each of which has taken its share of the facts.
+fn findings_of<J: Fleet + Send + Sync, G: Gate<Prefix> + Sync, R: Threads + Wait + Sync>(
+    rt: &R,
+    alloc: Global,
+    opened: Vec<Opened>,
+    job: &AuditJob,
+    gate: &G,
+    facts: &Facts,
+) -> Result<Findings, AuditFault>
+    requires opened { AreOpened J.book opened.items }
+    requires planned { (i : ℕ) → J.plan i ≡ facts.now.plan }
+    requires job { IsAuditJob job.now }
+    requires count { length opened.items ≡ job.now.nodes }
+    ensures { IfOk result (λ f. WasSearched facts.now job.now.budget f.known f.search) }
+{
+    let mut mesh = start_all::<J, R>(rt, alloc, opened, facts.plan(), job.workers)?;
+    mesh.share(rt, alloc, facts)?;
+    let has_all = mesh.first_has_all(facts)?;
+    let search = search_for(alloc, has_all, facts, job.budget)?;
+    search_tasks(rt, alloc, &mut mesh, facts, &search, gate)?;
+    match known_by_all(rt, facts, mesh)? {
+        Some(known) => Ok(Findings { known, search }),
+        None => unreachable!(),
+    }
+}
+
+/// What an audit says of the facts that were read.
+fn audit_facts<G: Gate<Prefix> + Sync, R: Threads + Wait + Sync>(
+    rt: &R,
+    alloc: Global,
+    job: &AuditJob,
+    gate: &G,
+    facts: &Facts,
+) -> Result<Said, AuditFault>
+    requires { IsAuditJob job.now }
+    ensures { IfOk result (SetSays (AuditSays job.now.budget) facts.now.plan facts.now.facts) }
+{
+    let opened = open_all(alloc, job.nodes)?;
+    let findings = findings_of::<Brand, _, _>(rt, alloc, opened, job, gate, facts)?;
+    Ok(conclude(alloc, job.budget, facts, &findings)?)
+}
+
+fn audit_input<G: Gate<Prefix> + Sync, R: Threads + Wait + Sync>(
+    rt: &R,
+    alloc: Global,
+    job: &AuditJob,
+    gate: &G,
+    input: Input,
+) -> Result<Said, AuditFault>
+    requires { IsAuditJob job.now }
+    ensures { IfOk result (FactsSay (AuditSays job.now.budget) input) }
+{
+    let (plan, list) = input.into_parts();
+    let plan = Arc::new(alloc, plan).map_err(|_| OutOfMemory)?;
+    let facts = Facts::from_vec(alloc, plan, list)?;
+    audit_facts(rt, alloc, job, gate, &facts)
+}
+
+/// What an audit says of a text.
+fn audit_text<G: Gate<Prefix> + Sync, R: Threads + Wait + Sync>(
+    rt: &R,
+    alloc: Global,
+    job: &AuditJob,
+    gate: &G,
+    text: &[u8],
+) -> Result<Said, AuditFault>
+    requires { IsAuditJob job.now }
+    ensures { IfOk result (AuditLine job.now.budget text.now) }
+{
+    match read_input(alloc, text) {
+        Ok(input) => audit_input(rt, alloc, job, gate, input),
+        Err(InputFault::Plan(refused)) => Ok(Said::PlanRefused(refused)),
+        Err(InputFault::Record(line, fault)) => Ok(Said::RecordRefused(line, fault)),
+        Err(InputFault::OutOfMemory) => Err(AuditFault::OutOfMemory),
+    }
+}
+
+/// The line that an audit says of a text, with its line feed, and how the run ends that says it; else what it failed for. All
+/// pools share the gate. It takes memory by the size of the text, for each node. It waits until every worker has ended.
+pub fn audit_said<G: Gate<Prefix> + Sync, R: Threads + Wait + Sync>(
+    rt: &R,
+    alloc: Global,
+    job: &AuditJob,
+    gate: &G,
+    text: &[u8],
+) -> Result<(Vec<u8>, Ended), Cause>
+    requires { IsAuditJob job.now }
+    ensures line { IfOk result (λ answer. IsAuditLine job.now.budget text.now answer.0.items answer.1) }
+    ensures cause { IfErr result IsOfAudit }
+{
+    let said = match audit_text(rt, alloc, job, gate, text) {
+        Ok(said) => said,
+        Err(fault) => return Err(fault.cause()),
+    };
+    match write_line(alloc, &said) {
+        Ok(line) => Ok((line, end_of(&said))),
+        Err(_) => Err(Cause::Memory),
+    }
+}
+
+/// Reads all that the source has left, audits it with so many nodes and workers, and writes the one line that the audit says of
+/// it. All pools share the gate.
+///
+/// Where it fails a beginning of that line went out, and what was read stays read. It takes memory by the size of the input, for
+/// each node.
+pub fn run_audit<G: Gate<Prefix> + Sync, R: Threads + Wait + Sync, I: Source, O: Sink>(
+    rt: &R,
+    alloc: Global,
+    job: &AuditJob,
+    gate: &G,
+    source: &mut I,
+    sink: &mut O,
+) -> Ended
+    requires job { IsAuditJob job.now }
+    requires source { I.ready source.old }
+    requires sink { O.ready sink.old }
+    ensures { AuditOutcome (AuditLine job.now.budget (I.left source.old))
+        (record { source_failures = I.failures source.old; sink_failures = O.failures sink.old; held = O.held sink.old })
+        (record { source_failures = I.failures source.new; sink_failures = O.failures sink.new; held = O.held sink.new })
+        result }
+{
+    let text = match read_all(alloc, source) {
+        Ok(text) => text,
+        Err(ReadFault::Failed) => return Ended::Failed(Cause::Input),
+        Err(ReadFault::OutOfMemory) => return Ended::Failed(Cause::Memory),
+    };
+    let (line, end) = match audit_said(rt, alloc, job, gate, text.as_slice()) {
+        Ok(answer) => answer,
+        Err(cause) => return Ended::Failed(cause),
+    };
+    match write_all(sink, line.as_slice()) {
+        Ok(()) => end,
+        Err(_) => Ended::Failed(Cause::Output),
+    }
+}
