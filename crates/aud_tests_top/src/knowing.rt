@@ -202,7 +202,8 @@ pub fn judged<A: Allocator + Copy>(known: &Knowledge<A>) -> Result<Judgement, Ou
     Ok(judgement_of(&known.verdict()?))
 }
 
-fn lists(known: &Knowledge) -> Result<usize, OutOfMemory> {
+/// How many refuted lists are known.
+pub fn lists(known: &Knowledge) -> Result<usize, OutOfMemory> {
     Ok(known.cover().lists()?.len())
 }
 

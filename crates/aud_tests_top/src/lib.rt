@@ -20,6 +20,8 @@ mod knowing_growth;
 #[cfg(test)]
 mod lines;
 #[cfg(test)]
+mod news;
+#[cfg(test)]
 mod nodes;
 #[cfg(test)]
 mod open;
