@@ -290,3 +290,27 @@ pub(crate) fn is_refuted_by_lines<A: Allocator + Copy>(
         Some(cert) => Ok(check_cert(alloc, &shape, &cert)?),
     }
 }
+
+/// Whether the certificate that is made of the facts is a finding.
+pub(crate) fn is_found_by_lines<A: Allocator + Copy>(
+    alloc: A,
+    facts: &Facts<A>,
+) -> Result<bool, Unread> {
+    let shape = Arc::new(alloc, shape_from(alloc, facts)?)?;
+    match make_cert(alloc, &shape)? {
+        None => Ok(false),
+        Some(cert) => Ok(finding_of(alloc, shape, &cert)?.is_some()),
+    }
+}
+
+/// Whether a certificate that was read outside is written as it was.
+pub(crate) fn is_cert_written<A: Allocator + Copy>(
+    alloc: A,
+    outside: Global,
+) -> Result<bool, Unread> {
+    let Ok(cert) = read_cert(outside, COUNTED.as_bytes()) else {
+        return Ok(false);
+    };
+    let text = write_cert(alloc, &cert)?;
+    Ok(text.as_slice() == COUNTED.as_bytes())
+}

@@ -1,5 +1,6 @@
 //! Each growth refused in turn, of what is asked of texts, of facts and of their history.
 
+use crate::certs::{is_cert_written, is_found_by_lines, is_refuted_by_lines};
 use crate::cover::{closes, leaves_open};
 use crate::fixtures::{order, shape_from};
 use crate::oracle::{fault_of, is_only_witness};
@@ -30,6 +31,8 @@ enum Question {
     VerdictIsReported,
     /// Whether a source is read to its end.
     SourceIsRead,
+    /// Whether a certificate is written.
+    CertIsWritten,
     /// What is asked of facts.
     OfFacts(Asked),
 }
@@ -49,6 +52,10 @@ enum Asked {
     IsDecided,
     /// Whether the search refutes five counters on the plan.
     IsRefuted,
+    /// Whether a certificate is made of them, and accepted.
+    IsCertified,
+    /// Whether a certificate is made of them, and is a finding.
+    IsFound,
     /// Whether brute force finds `2a 1c` alone.
     IsOnlyWitness,
     /// Nothing yet of the order.
@@ -103,6 +110,8 @@ fn answer_of<A: Allocator + Copy>(
         }
         Asked::IsDecided => is_decided(alloc, &shape_from(alloc, facts)?, "1c 2c"),
         Asked::IsRefuted => refutes_five_counters(alloc, facts),
+        Asked::IsCertified => is_refuted_by_lines(alloc, facts),
+        Asked::IsFound => is_found_by_lines(alloc, facts),
         _ => {
             let sealed = sealed_from(facts)?;
             answer_of_sealed(alloc, &sealed, asked)
@@ -123,6 +132,7 @@ fn answer<A: Allocator + Copy>(
         Question::LineIsWritten => is_long_line(alloc, outside),
         Question::VerdictIsReported => is_reported(alloc, outside),
         Question::SourceIsRead => is_read(alloc, outside),
+        Question::CertIsWritten => is_cert_written(alloc, outside),
         Question::OfFacts(asked) => answer_of(alloc, &facts_on(alloc, facts)?, asked),
     }
 }
@@ -235,6 +245,25 @@ fn what_is_forgotten_changes_no_answer(rt: HostRuntime) -> Result<(), Fail> {
     let found = outcomes(rt.alloc(), COUNT_IS_LOST, question, 200)?;
     let (_told, passed) = found.ok_or("right answers")?;
     assert!(rt; passed > 10, "{passed} passed");
+    Ok(())
+}
+
+/// The search goes on without a memo that is out of memory, so not each refusal is an error; none is a wrong answer.
+#[test]
+fn certificates_meet_each_refusal(rt: HostRuntime) -> Result<(), Fail> {
+    let cases: [(Question, u64); 3] = [
+        (Question::CertIsWritten, 0),
+        (Question::OfFacts(Asked::IsCertified), 20),
+        (Question::OfFacts(Asked::IsFound), 20),
+    ];
+    for (question, over) in &cases {
+        let found = outcomes(rt.alloc(), TORN_READ_THEN_ABORT, *question, 2000)?;
+        let (told, passed) = found.ok_or("right answers")?;
+        assert!(rt;
+            *over < told && told.wrapping_add(passed) < 2000,
+            "{told} told, {passed} passed"
+        );
+    }
     Ok(())
 }
 
