@@ -6,10 +6,10 @@ ghost use Rattle.aud_cli.specs.Words.{IsAuditJob};
 use crate::drawn::drawn;
 use crate::fixtures::{SEEN_REQUEST, TORN_READ, UNSEEN_REQUEST};
 use crate::lines::{said, with_lines};
-use aud_audit::{Gate, NoGate, audit_said, run_audit};
+use crate::searching::Meeting;
+use aud_audit::{NoGate, audit_said, run_audit};
 use aud_cli::{AuditJob, Cause, Ended, Job};
 use aud_report::{ChokingSink, DrippingSource, MemorySink, MemorySource};
-use aud_witness::Prefix;
 use aud_worked::{
     ABORT_WHILE_IDLE, ANSWER_UNASKED, COUNT_IS_LOST, FALLING_STAMPS, GREAT_TRANSACTION,
     IDLE_WRITE_STANDS_LATER, ITEM_IS_PASSED_ON, LATE, LATE_RECORD, MISSING_STAMP, NOTHING_HAPPENED,
@@ -19,7 +19,6 @@ use std::alloc::{AllocError, Global};
 use std::sync::Wait;
 use std::sync::atomic::{AtomicU64, Ordering};
 use std::test::Fail;
-use std::thread;
 use std::thread::Threads;
 
 /// An audit by so many nodes with so many workers, if their numbers are in range.
@@ -231,28 +230,6 @@ fn drawn_inputs_are_of_both_kinds(rt: HostRuntime) -> Result<(), Fail> {
         assert!(rt; count >= 10, "{count} end with {status}");
     }
     Ok(())
-}
-
-/// Lets a task begin once two are at the gate, of any pool, or after a long time.
-#[derive(Drop)]
-struct Meeting {
-    here: AtomicU64,
-    alone: AtomicU64,
-}
-
-impl Gate<Prefix> for Meeting {
-    fn before(&self, _worker: u32, _task: &Prefix) {
-        self.here.fetch_add(1, Ordering::SeqCst);
-        for _ in 0..50_000_000u32 {
-            if self.here.load(Ordering::SeqCst) >= 2 {
-                return;
-            }
-            thread::yield_now();
-        }
-        self.alone.fetch_add(1, Ordering::SeqCst);
-    }
-
-    fn after(&self, _worker: u32, _task: &Prefix) {}
 }
 
 /// How an audit by two nodes of one worker each ends, how many tasks went through the gate, and how many of them met no other.

@@ -29,11 +29,11 @@ impl Gate<Prefix> for Open {
     fn after(&self, _worker: u32, _task: &Prefix) {}
 }
 
-/// Lets a worker go on once two are here, or after a long time.
+/// Lets a task begin once two are at the gate, of any pool, or after a long time.
 #[derive(Drop)]
-struct Meeting {
-    here: AtomicU64,
-    alone: AtomicU64,
+pub(crate) struct Meeting {
+    pub here: AtomicU64,
+    pub alone: AtomicU64,
 }
 
 impl Gate<Prefix> for Meeting {
