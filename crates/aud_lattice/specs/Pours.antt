@@ -1,11 +1,11 @@
 -- The items of one list put into another.
-use Rattle.std.proofs.Common.{◌≡◌, Bool, true, false, ◌||◌, List, [], ◌∷◌, drop, refl, sym, ap, ◌∙◌, ◌↔◌}
+use Rattle.std.proofs.Common.{◌≡◌, Bool, true, false, ◌||◌, List, [], ◌∷◌, ◌++◌, drop, refl, sym, ap, ◌∙◌, ◌↔◌}
 use Rattle.std.specs.declared.cmp.Ordering.{Ordering}
 use Rattle.std.specs.Ordering.{eq_by_cmp}
 use Rattle.std.specs.Cmp.{IsTotalOrder}
 use Rattle.std.specs.List.Sorted.{IsStrictlySortedBy}
 use Rattle.aud_event.specs.Exact.{IsExact}
-use Rattle.aud_lattice.specs.Sets.{has, with_item, union, inserted}
+use Rattle.aud_lattice.specs.Sets.{has, with_item, union, inserted, or_comm, or_same}
 use Rattle.aud_lattice.specs.Sorted.{has-with_item, sorted_with_item, has-union, sorted_union, same_sorted}
 
 or_swap : (a b c : Bool) → (a || (b || c)) ≡ (b || (a || c))
@@ -16,12 +16,6 @@ or_swap false b c = refl
 or_assoc : (a b c : Bool) → (a || (b || c)) ≡ ((a || b) || c)
 or_assoc true b c = refl
 or_assoc false b c = refl
-
-or_comm : (a b : Bool) → (a || b) ≡ (b || a)
-or_comm true true = refl
-or_comm true false = refl
-or_comm false true = refl
-or_comm false false = refl
 
 module _ {T : Type 0} {R : T → T → Ordering} (o : IsTotalOrder R) (ex : IsExact R) where
   pub has-inserted : (xs acc : List T) (q : T) → has R (inserted R xs acc) q ≡ (has R xs q || has R acc q)
@@ -45,6 +39,12 @@ module _ {T : Type 0} {R : T → T → Ordering} (o : IsTotalOrder R) (ex : IsEx
       same_sorted o ex _ _ (sorted_union o ys xs s) (sorted_union o xs ys t)
       (λ q. has-union o ys xs q ∙ or_comm (has R ys q) (has R xs q) ∙ sym (has-union o xs ys q))
 
+  union_same : (xs : List T) → IsStrictlySortedBy R xs → union R xs xs ≡ xs
+  union_same xs s = same_sorted o ex _ _ (sorted_union o xs xs s) s (λ q. has-union o xs xs q ∙ or_same (has R xs q))
+
+  pub union_itself : (xs ys : List T) → IsStrictlySortedBy R ys → xs ≡ ys → ys ≡ union R xs ys
+  union_itself xs ys s e = sym (ap (λ l. union R l ys) e ∙ union_same ys s)
+
   pub same_has : (xs ys : List T) → IsStrictlySortedBy R xs → IsStrictlySortedBy R ys → has R xs ≡ has R ys → xs ≡ ys
   same_has xs ys s t e = same_sorted o ex xs ys s t (λ q i. e i q)
 
@@ -53,3 +53,6 @@ tails_same x y xs ys e p = (λ h. ap (drop 1) (p.0 h), λ t. p.1 (λ i. e i ∷ 
 
 pub heads_same : {T : Type 0} (x y : T) (xs ys : List T) → x ∷ xs ≡ y ∷ ys → x ≡ y
 heads_same x y xs ys e = cc
+
+pub parts_same : {T : Type 0} (x y : T) (ls ms rs ss : List T) → ls ≡ ms → x ≡ y → rs ≡ ss → ls ++ x ∷ rs ≡ ms ++ y ∷ ss
+parts_same x y ls ms rs ss l e r = λ i. l i ++ e i ∷ r i

@@ -39,7 +39,7 @@ inserted cmp (x ∷ xs) set = inserted cmp xs (with_item cmp x set)
 abbrev pub either : {T : Type 0} → (T → Bool) → (T → Bool) → T → Bool
 either p q x = p x || q x
 
-or_comm : (a b : Bool) → (a || b) ≡ (b || a)
+pub or_comm : (a b : Bool) → (a || b) ≡ (b || a)
 or_comm true true = refl
 or_comm true false = refl
 or_comm false true = refl
@@ -49,7 +49,7 @@ or_assoc : (a b c : Bool) → ((a || b) || c) ≡ (a || (b || c))
 or_assoc true b c = refl
 or_assoc false b c = refl
 
-or_same : (a : Bool) → (a || a) ≡ a
+pub or_same : (a : Bool) → (a || a) ≡ a
 or_same true = refl
 or_same false = refl
 

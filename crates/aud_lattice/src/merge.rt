@@ -8,7 +8,7 @@ ghost use Rattle.aud_lattice.specs.Trees.{items_of};
 use crate::bulk::tree_of;
 use crate::copies::push_copy;
 use crate::iter::all_of;
-use crate::tree::{Link, contains, count, shared, with};
+use crate::tree::{Link, Tree, contains, count, shared, with};
 use aud_event::{Dup, Key, OutOfMemory};
 use std::alloc::Allocator;
 use std::cmp::Ordering;
@@ -49,8 +49,36 @@ fn poured<T: Key + Dup, A: Allocator + Clone>(
     Ok(all)
 }
 
-/// The items of both: those of the smaller tree are put into the larger one.
-#[tactic(auto, using(crate::specs::Pours::union_swap))]
+// Whether both are built alike of the same items. Trees of one source are, as far as neither grew; others may differ though
+// their items are the same.
+#[tactic(auto, using(crate::specs::Pours::parts_same))]
+fn built_alike<T: Key + Dup, A: Allocator>(xs: &Link<T, A>, ys: &Link<T, A>) -> bool
+    ensures { IsTrue result → items_of xs.now ≡ items_of ys.now }
+{
+    let (Some(x), Some(y)) = (xs, ys) else {
+        return xs.is_none() && ys.is_none();
+    };
+    let Tree {
+        left,
+        item,
+        count,
+        right,
+    } = &**x;
+    let Tree {
+        left: before,
+        item: other,
+        count: size,
+        right: after,
+    } = &**y;
+    if count != size || !alike(item, other) || !built_alike(left, before) {
+        return false;
+    }
+    built_alike(right, after)
+}
+
+/// The items of both: those of the smaller tree are put into the larger one. Of two trees with the same items the answer is the
+/// second, so that who joins it once more finds it built alike, which takes no look-ups.
+#[tactic(auto, using(crate::specs::Pours::union_swap, crate::specs::Pours::union_itself))]
 pub fn joined<T: Key + Dup, A: Allocator + Clone>(
     alloc: &A,
     xs: &Link<T, A>,
@@ -60,7 +88,9 @@ pub fn joined<T: Key + Dup, A: Allocator + Clone>(
     requires ys_sorted { IsStrictlySortedBy T.Ord.cmp (items_of ys.now) }
     ensures { IfOk result (λ all. items_of all ≡ union T.Ord.cmp (items_of xs.now) (items_of ys.now)) }
 {
-    if count(xs) < count(ys) {
+    if built_alike(xs, ys) {
+        shared(ys)
+    } else if count(xs) <= count(ys) {
         poured(alloc, xs, ys)
     } else {
         poured(alloc, ys, xs)
@@ -111,6 +141,9 @@ pub fn same<T: Key + Dup, A: Allocator>(xs: &Link<T, A>, ys: &Link<T, A>) -> boo
 {
     if count(xs) != count(ys) {
         return false;
+    }
+    if built_alike(xs, ys) {
+        return true;
     }
     let mut first = all_of(xs);
     let mut second = all_of(ys);
