@@ -141,7 +141,8 @@ fn gather<T: Drop, S: Drop>(
 pub fn run<
     T: Drop + Send,
     S: Drop + Send,
-    W: Work<T, S> + Sync,
+    Own: Drop + Send,
+    W: Work<T, S, Own> + Sync,
     G: Gate<T> + Sync,
     R: Threads + Wait + Sync,
 >(

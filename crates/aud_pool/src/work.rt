@@ -14,8 +14,11 @@ pub trait Gate<T> {
     fn after(&self, worker: u32, task: &T);
 }
 
-/// What a worker does with a task from its seat. All workers share it.
-pub trait Work<T, S> {
+/// What a worker does with a task from its seat, over what it has for itself from task to task. All workers share it.
+pub trait Work<T, S, Own> {
+    // What a worker has for itself is of this work.
+    ghost fits: { Self → Own → Type 0 };
+
     // Tasks may be worked from the seat.
     ghost may_work: { Self → S → Type 0 };
 
@@ -25,11 +28,23 @@ pub trait Work<T, S> {
     // The second seat knows what the first one did.
     ghost grows: { Self → S → S → Type 0 };
 
+    /// What a worker has for itself before its first task.
+    fn begin(&self) -> Own
+        ensures { fits self.now result };
+
     /// Works the task. Where memory is refused the task may be undone, and the seat still knows what it did.
-    fn work<R: Wait>(&self, rt: &R, seat: &mut S, task: &T) -> Result<(), OutOfMemory>
-        requires { may_work self.now seat.old }
+    fn work<R: Wait>(
+        &self,
+        rt: &R,
+        seat: &mut S,
+        own: &mut Own,
+        task: &T,
+    ) -> Result<(), OutOfMemory>
+        requires may_work { may_work self.now seat.old }
+        requires fits { fits self.now own.old }
         ensures done { OnOk result (done self.now seat.new task.now) }
-        ensures grows { grows self.now seat.old seat.new };
+        ensures grows { grows self.now seat.old seat.new }
+        ensures fits { fits self.now own.new };
 
     ghost stays: { (w : Self) (s t : S) (x : T) → grows w s t → done w s x → done w t x };
 

@@ -49,7 +49,7 @@ fn draw<T, R: Wait>(rt: &R, taker: &Taker<T>, token: &mut Token<T>) -> Option<T>
 
 // Draws tasks and works them, until the worker takes a mark or memory is refused to it. Room for the task that it draws is
 // there before it draws it, so no drawn task is lost.
-fn work_through<T: Drop, S, W: Work<T, S>, G: Gate<T>, R: Wait>(
+fn work_through<T: Drop, S, Own: Drop, W: Work<T, S, Own>, G: Gate<T>, R: Wait>(
     rt: &R,
     taker: &Taker<T>,
     work: &W,
@@ -62,6 +62,7 @@ fn work_through<T: Drop, S, W: Work<T, S>, G: Gate<T>, R: Wait>(
     ensures done { IsDone (stealer_deque taker.now) (W.done work.now) member.new }
     ensures grows { W.grows work.now member.old.seat member.new.seat }
 {
+    let mut own: Own = work.begin();
     for _ in rt.forever() {
         if member.drawn.reserve(1).is_err() {
             member.failed = true;
@@ -71,7 +72,7 @@ fn work_through<T: Drop, S, W: Work<T, S>, G: Gate<T>, R: Wait>(
             return;
         };
         gate.before(worker, &task);
-        let end = work.work(rt, &mut member.seat, &task);
+        let end = work.work(rt, &mut member.seat, &mut own, &task);
         gate.after(worker, &task);
         let Ok(()) = member.drawn.push(task) else {
             unreachable!()
@@ -88,7 +89,8 @@ fn work_through<T: Drop, S, W: Work<T, S>, G: Gate<T>, R: Wait>(
 fn work_all<
     T: Drop + Send,
     S: Send,
-    W: Work<T, S> + Sync,
+    Own: Drop + Send,
+    W: Work<T, S, Own> + Sync,
     G: Gate<T> + Sync,
     R: Threads + Wait + Sync,
 >(rt: &R, taker: &Taker<T>, work: &W, gate: &G, members: &mut [Member<T, S>])
@@ -110,7 +112,8 @@ fn work_all<
 pub(crate) fn work_crew<
     T: Drop + Send,
     S: Send,
-    W: Work<T, S> + Sync,
+    Own: Drop + Send,
+    W: Work<T, S, Own> + Sync,
     G: Gate<T> + Sync,
     R: Threads + Wait + Sync,
 >(rt: &R, taker: &Taker<T>, work: &W, gate: &G, members: &mut Vec<Member<T, S>>)

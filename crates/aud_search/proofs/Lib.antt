@@ -9,3 +9,4 @@ pub mod Spotting
 pub mod Keeping
 pub mod Passing
 pub mod Recording
+pub mod Crosses

@@ -116,12 +116,12 @@ spends-more (Some whole) None rest used spends less = absurd spends
 spends-more None None (Some rest) used spends less = absurd less
 spends-more (Some whole) (Some left) None used spends less = absurd less
 
-pub spent-from : (R N X : Type 0) (noted : R → N → List Decision → Type 0) (objects : List Declared) (h : History) (p : List Decision) (budget left : Option ℕ) (used : ℕ) → Spends budget used left → left ≡ Some 0 → SpentBy objects h p used →
-    TellsFrom {R = R} {N = N} {X = X} objects h noted p budget ended.Spent
-spent-from R N X noted objects h p None None used spends none spent = absurd (cc)
-spent-from R N X noted objects h p None (Some left) used spends none spent = absurd spends
-spent-from R N X noted objects h p (Some whole) None used spends none spent = absurd (cc)
-spent-from R N X noted objects h p (Some whole) (Some left) used spends none spent =
+pub spent-from : (N X : Type 0) (noted : N → List Decision → Type 0) (objects : List Declared) (h : History) (p : List Decision) (budget left : Option ℕ) (used : ℕ) → Spends budget used left → left ≡ Some 0 → SpentBy objects h p used →
+    TellsFrom {N = N} {X = X} objects h noted p budget ended.Spent
+spent-from N X noted objects h p None None used spends none spent = absurd (cc)
+spent-from N X noted objects h p None (Some left) used spends none spent = absurd spends
+spent-from N X noted objects h p (Some whole) None used spends none spent = absurd (cc)
+spent-from N X noted objects h p (Some whole) (Some left) used spends none spent =
     let before : used + left ≡ whole + 1 = spends in
     let zero_left : left ≡ 0 = cc in
     let all : used ≡ whole + 1 = omega arith in
@@ -131,15 +131,15 @@ pub tells-spent : (X : Type 0) (objects : List Declared) (h : History) (p : List
 tells-spent X objects h p None none spent = absurd (cc)
 tells-spent X objects h p (Some whole) none spent = let zero_left : 0 ≡ whole = cc in subst (λ n. SpentBy objects h p n) zero_left spent
 
-pub tells-from : (R N X : Type 0) (noted : R → N → List Decision → Type 0) (objects : List Declared) (h : History) (p : List Decision) (budget left : Option ℕ) (o : Ended R N X) → IsOneLess budget left → TellsFrom objects h noted p left o →
+pub tells-from : (N X : Type 0) (noted : N → List Decision → Type 0) (objects : List Declared) (h : History) (p : List Decision) (budget left : Option ℕ) (o : Ended N X) → IsOneLess budget left → TellsFrom objects h noted p left o →
     Tells {X = X} objects h p budget (outcome_of o)
-tells-from R N X noted objects h p budget left (ended.Refuted r note) less told = told.0
-tells-from R N X noted objects h p budget left (ended.Witness q) less told = told
-tells-from R N X noted objects h p None None ended.Spent less told = absurd told
-tells-from R N X noted objects h p (Some whole) (Some left) ended.Spent less told =
+tells-from N X noted objects h p budget left (ended.Refuted note) less told = told.0
+tells-from N X noted objects h p budget left (ended.Witness q) less told = told
+tells-from N X noted objects h p None None ended.Spent less told = absurd told
+tells-from N X noted objects h p (Some whole) (Some left) ended.Spent less told =
     let fewer : whole ≡ left + 1 = less in subst (λ n. SpentBy objects h p n) (sym fewer) told
-tells-from R N X noted objects h p None (Some left) ended.Spent less told = absurd less
-tells-from R N X noted objects h p (Some whole) None ended.Spent less told = absurd less
+tells-from N X noted objects h p None (Some left) ended.Spent less told = absurd less
+tells-from N X noted objects h p (Some whole) None ended.Spent less told = absurd less
 
 -- # The loop
 
@@ -359,9 +359,9 @@ whole-spent X shape cur p budget is good unfull none =
     tells-spent X (objects_of shape) (history_of shape) p budget none
     (subst (λ (v : CursorOf). SpentBy (objects_of v.shape) (history_of v.shape) v.path 0) is (search-unspent (objects_of cur.shape) (history_of cur.shape) cur.path good unfull))
 
-pub whole-told : (R N X : Type 0) (noted : R → N → List Decision → Type 0) (shape : ShapeOf) (cur : CursorOf) (p : List Decision) (budget left : Option ℕ) (o : Ended R N X) (w : Outcome X) → cur ≡ cursor_at shape p → IsOneLess budget left →
+pub whole-told : (N X : Type 0) (noted : N → List Decision → Type 0) (shape : ShapeOf) (cur : CursorOf) (p : List Decision) (budget left : Option ℕ) (o : Ended N X) (w : Outcome X) → cur ≡ cursor_at shape p → IsOneLess budget left →
     TellsFrom (objects_of cur.shape) (history_of cur.shape) noted cur.path left o → w ≡ outcome_of o → Tells {X = X} (objects_of shape) (history_of shape) p budget w
-whole-told R N X noted shape cur p budget left o w is less told same =
+whole-told N X noted shape cur p budget left o w is less told same =
     subst (λ (x : Outcome X). Tells {X = X} (objects_of shape) (history_of shape) p budget x) (sym same)
-    (tells-from R N X noted (objects_of shape) (history_of shape) p budget left o less
+    (tells-from N X noted (objects_of shape) (history_of shape) p budget left o less
     (subst (λ (v : CursorOf). TellsFrom (objects_of v.shape) (history_of v.shape) noted v.path left o) is told))

@@ -46,14 +46,14 @@ Spends None used (Some left) = ⊥
 Spends (Some whole) used None = ⊥
 
 -- what is reported of the lists that begin with one that was expanded, where so much of the budget is left
-abbrev pub TellsFrom : {R N X : Type 0} → List Declared → History → (R → N → List Decision → Type 0) → List Decision → Option ℕ → Ended R N X → Type 0
-TellsFrom objects h noted p left (ended.Refuted r note) = Refuted objects h p × noted r note p
+abbrev pub TellsFrom : {N X : Type 0} → List Declared → History → (N → List Decision → Type 0) → List Decision → Option ℕ → Ended N X → Type 0
+TellsFrom objects h noted p left (ended.Refuted note) = Refuted objects h p × noted note p
 TellsFrom objects h noted p left (ended.Witness q) = BeginsWith p q × Shows objects h q
 TellsFrom objects h noted p (Some left) ended.Spent = SpentBy objects h p (left + 1)
 TellsFrom objects h noted p None ended.Spent = ⊥
 
--- the same without what a recorder has
-abbrev pub outcome_of : {R N X : Type 0} → Ended R N X → Outcome X
-outcome_of (ended.Refuted r note) = outcome.Refuted
+-- the same without the note
+abbrev pub outcome_of : {N X : Type 0} → Ended N X → Outcome X
+outcome_of (ended.Refuted note) = outcome.Refuted
 outcome_of (ended.Witness q) = outcome.Witness q
 outcome_of ended.Spent = outcome.Spent

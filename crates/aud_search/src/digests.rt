@@ -58,8 +58,8 @@ impl<A: Allocator + Copy> Digests<A> {
         }
     }
 
-    /// Forgets all shares.
-    fn forget(&mut self) {
+    /// Forgets all shares, so that the next digest is computed anew.
+    pub(crate) fn forget(&mut self) {
         self.shares.clear();
         self.touched.clear();
         self.sum = 0;

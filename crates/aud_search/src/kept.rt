@@ -55,6 +55,11 @@ impl<A: Allocator + Copy> Finder<A> {
         }
     }
 
+    /// Nothing is known of where the search stands.
+    pub(crate) fn move_away(&mut self) {
+        self.digests.forget();
+    }
+
     /// The transaction's block ran where the search stands, or was taken back.
     pub(crate) fn touch(&mut self, shape: &Shape<A>, tx: u32) {
         if let Some(block) = block_of(shape, tx) {

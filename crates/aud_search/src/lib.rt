@@ -15,4 +15,4 @@ mod spots;
 
 pub use outcome::{Decided, Outcome, Searched};
 pub use recorder::Recorder;
-pub use search::{decide, explore, search_with};
+pub use search::{Memory, decide, explore, search_with};

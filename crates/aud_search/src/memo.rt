@@ -206,6 +206,13 @@ impl<'a, N: Copy, R: Recorder<N>, A: Allocator + Copy> Memo<'a, N, R, A> {
         )
     }
 
+    /// The search begins at another list. What is remembered stays.
+    pub(crate) fn move_away(&mut self)
+        ensures { self.new ≡ self.old }
+    {
+        self.finder.move_away();
+    }
+
     /// The search went on by the decision, or took it back.
     pub(crate) fn touch(&mut self, decision: Decision)
         ensures { self.new ≡ self.old }

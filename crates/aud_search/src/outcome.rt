@@ -28,22 +28,22 @@ pub enum Decided<A: Allocator = Global> {
 
 /// How a search over a recorder ended.
 #[derive(Drop)]
-pub(crate) enum Ended<R: Drop, N: Copy, A: Allocator = Global> {
-    /// No list that begins with the one that it began at shows the history, and the recorder has its note.
-    Refuted(R, N),
+pub(crate) enum Ended<N: Copy, A: Allocator = Global> {
+    /// No list that begins with the one that it began at shows the history, and this is its note.
+    Refuted(N),
     /// This one does.
     Witness(Prefix<A>),
     /// The budget is spent, and neither was found.
     Spent,
 }
 
-impl<R: Drop, N: Copy, A: Allocator> Ended<R, N, A> {
-    /// The same without what the recorder has.
+impl<N: Copy, A: Allocator> Ended<N, A> {
+    /// The same without the note.
     pub(crate) fn outcome(self) -> Outcome<A>
         ensures { result ≡ outcome_of self }
     {
         match self {
-            Ended::Refuted(_, _) => Outcome::Refuted,
+            Ended::Refuted(_) => Outcome::Refuted,
             Ended::Witness(witness) => Outcome::Witness(witness),
             Ended::Spent => Outcome::Spent,
         }

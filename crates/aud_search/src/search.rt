@@ -19,11 +19,12 @@ use crate::choice::{Choice, Effect, choices_of};
 use crate::memo::{Memo, Reason};
 use crate::outcome::{Decided, Ended, Outcome, Searched};
 use crate::ready::Ready;
-use crate::recorder::{Recorder, Unrecorded};
+use crate::recorder::{Recorder, Unnoted, Unrecorded};
 use aud_event::OutOfMemory;
 use aud_order::{Cursor, Pushed, Shape};
 use aud_witness::{Decision, Prefix};
-use std::alloc::Allocator;
+use std::alloc::{Allocator, Global};
+use std::marker::Model;
 
 /// One expansion less, if there is one.
 fn spend(left: Option<u64>) -> Option<Option<u64>>
@@ -213,38 +214,38 @@ impl Turn {
     }
 }
 
-/// Searches the lists that begin with the cursor's, which is expanded first.
+/// Searches the lists that begin with the cursor's, which is expanded first. What is refuted is remembered.
 fn search_from<'a, N: Copy, R: Recorder<N>, A: Allocator + Copy>(
     alloc: A,
     shape: &'a Shape<A>,
     cursor: &mut Cursor<'a, A>,
     choices: &[Choice],
     budget: Option<u64>,
-    recorder: R,
-) -> Result<Ended<R, N, A>, OutOfMemory>
-    requires recorder { R.is_for recorder shape.now }
+    memo: &mut Memo<'a, N, R, A>,
+) -> Result<Ended<N, A>, OutOfMemory>
+    requires memo { memo.old.shape ≡ shape.now }
     requires shape { cursor.old.shape ≡ shape.now }
     requires choices { AreChoices (history_of cursor.old.shape) choices.now }
     requires unfull { IsFull (history_of cursor.old.shape) cursor.old.path → ⊥ }
     requires fine { IsWellFormed (history_of cursor.old.shape) }
     requires within { IsWithinLimits (plan_of cursor.old.shape) (history_of cursor.old.shape) }
-    ensures { IfOk result (TellsFrom (objects_of cursor.old.shape) (history_of cursor.old.shape) (IsNotedFor R.is_for R.noted cursor.old.shape) cursor.old.path budget) }
+    ensures told { IfOk result (TellsFrom (objects_of cursor.old.shape) (history_of cursor.old.shape) (R.noted memo.new.recorder) cursor.old.path budget) }
+    ensures shape { OnOk result (memo.new.shape ≡ memo.old.shape) }
 {
     let mut left = budget;
-    let mut memo = Memo::new(alloc, shape, recorder);
     let mut ready = Ready::at(alloc, shape, choices, cursor)?;
     let mut turns = Vec::new(alloc);
     let mut here = Turn::new(None);
     let _ = cursor.prefix();
     'search: loop {
-        let from = pass_known(&mut memo, cursor, choices, &ready, here)?;
+        let from = pass_known(memo, cursor, choices, &ready, here)?;
         let Some(place) = try_from(cursor, choices, &ready, from)? else {
             let note = memo.note(cursor, reason_of(here.silent))?;
             let Some(turn) = turns.pop() else {
-                return Ok(Ended::Refuted(memo.into_recorder(), note));
+                return Ok(Ended::Refuted(note));
             };
             memo.learn(here.states, note, cursor);
-            go_back(cursor, &mut ready, &mut memo);
+            go_back(cursor, &mut ready, memo);
             here = turn;
             continue;
         };
@@ -258,7 +259,7 @@ fn search_from<'a, N: Copy, R: Recorder<N>, A: Allocator + Copy>(
         let states = memo.follow(here.states, &choices[place], cursor);
         if let Some(note) = memo.knows(states, cursor) {
             memo.note(cursor, Reason::Same(note))?;
-            take_back(cursor, &mut memo);
+            take_back(cursor, memo);
             continue;
         }
         let Some(rest) = spend(left) else {
@@ -271,14 +272,17 @@ fn search_from<'a, N: Copy, R: Recorder<N>, A: Allocator + Copy>(
     }
 }
 
-/// Searches the lists that begin with the prefix, with a budget or without.
-fn search<A: Allocator + Copy>(
+/// Searches the lists that begin with the prefix, with a budget or without, over what is remembered of the shape.
+fn search<'a, A: Allocator + Copy>(
     alloc: A,
-    shape: &Shape<A>,
+    shape: &'a Shape<A>,
     prefix: &[Decision],
     budget: Option<u64>,
+    memo: &mut Memo<'a, Unnoted, Unrecorded, A>,
 ) -> Result<Outcome<A>, OutOfMemory>
-    ensures { IfOk result (Tells (objects_of shape.now) (history_of shape.now) prefix.now budget) }
+    requires { memo.old.shape ≡ shape.now }
+    ensures told { IfOk result (Tells (objects_of shape.now) (history_of shape.now) prefix.now budget) }
+    ensures shape { OnOk result (memo.new.shape ≡ memo.old.shape) }
 {
     let Some(mut cursor) = Cursor::behind(alloc, shape, prefix)? else {
         return Ok(Outcome::Refuted);
@@ -292,8 +296,64 @@ fn search<A: Allocator + Copy>(
         return Ok(Outcome::Spent);
     };
     let choices = choices_of(alloc, shape)?;
-    let ended = search_from(alloc, shape, &mut cursor, &choices, left, Unrecorded)?;
+    let ended = search_from(alloc, shape, &mut cursor, &choices, left, memo)?;
     Ok(ended.outcome())
+}
+
+/// What searches of one history have refuted, for the searches that come after them: a list is not expanded where one of the same
+/// transactions and the same states was refuted before. It takes memory as it comes to know more, some gigabyte at most.
+#[derive(Drop)]
+pub struct Memory<'a, A: Allocator + Copy = Global> {
+    alloc: A,
+    shape: &'a Shape<A>,
+    memo: Memo<'a, Unnoted, Unrecorded, A>,
+}
+
+impl<'a, A: Allocator + Copy> Model for Memory<'a, A> {
+    ghost use Rattle.std.specs.Prelude.{◌≡◌};
+    ghost use Rattle.aud_order.specs.Shapes.{ShapeOf};
+
+    ghost Value = { ShapeOf };
+
+    ghost view = { λ m. m.shape.now };
+
+    ghost invariant = { λ m. m.memo.shape ≡ m.shape.now };
+}
+
+impl<'a, A: Allocator + Copy> Memory<'a, A> {
+    /// Of nothing. It does not allocate.
+    pub fn new(alloc: A, shape: &'a Shape<A>) -> Memory<'a, A>
+        ensures { result ≡ shape.entry.now }
+    {
+        Memory {
+            alloc,
+            shape,
+            memo: Memo::new(alloc, shape, Unrecorded),
+        }
+    }
+
+    /// Whether some list that begins with the prefix shows the history, as `explore` says it. What it refutes is remembered, and
+    /// what was remembered costs no expansion. Where memory is refused all is forgotten.
+    pub fn explore(&mut self, prefix: &Prefix<A>, budget: u64) -> Result<Outcome<A>, OutOfMemory>
+        ensures told { IfOk result (Tells (objects_of self.old) (history_of self.old) prefix.now (Some budget)) }
+        ensures shape { self.new ≡ self.old }
+    {
+        self.memo.move_away();
+        let (alloc, shape) = (self.alloc, self.shape);
+        match search(
+            alloc,
+            shape,
+            prefix.decisions(),
+            Some(budget),
+            &mut self.memo,
+        ) {
+            Ok(outcome) => Ok(outcome),
+            Err(error) => {
+                self.memo = Memo::new(alloc, shape, Unrecorded);
+                Err(error)
+            }
+        }
+    }
 }
 
 /// Whether some list that begins with the prefix shows the history, as far as the budget goes: exactly so many prefixes
@@ -307,14 +367,15 @@ pub fn explore<A: Allocator + Copy>(
 ) -> Result<Outcome<A>, OutOfMemory>
     ensures { IfOk result (Tells (objects_of shape.now) (history_of shape.now) prefix.now (Some budget)) }
 {
-    search(alloc, shape, prefix.decisions(), Some(budget))
+    Memory::new(alloc, shape).explore(prefix, budget)
 }
 
 /// Whether the history is opaque, with a list that shows it where it is.
 pub fn decide<A: Allocator + Copy>(alloc: A, shape: &Shape<A>) -> Result<Decided<A>, OutOfMemory>
     ensures { IfOk result (Decides (objects_of shape.now) (history_of shape.now)) }
 {
-    match search(alloc, shape, &[], None)? {
+    let mut memo = Memo::new(alloc, shape, Unrecorded);
+    match search(alloc, shape, &[], None, &mut memo)? {
         Outcome::Witness(witness) => Ok(Decided::Opaque(witness)),
         Outcome::Refuted => Ok(Decided::NotOpaque),
         // Without a budget none is spent.
@@ -339,8 +400,9 @@ pub fn search_with<N: Copy, R: Recorder<N>, A: Allocator + Copy>(
         return Ok(Searched::Opaque(witness));
     }
     let choices = choices_of(alloc, shape)?;
-    match search_from(alloc, shape, &mut cursor, &choices, None, recorder)? {
-        Ended::Refuted(recorder, note) => Ok(Searched::NotOpaque(recorder, note)),
+    let mut memo = Memo::new(alloc, shape, recorder);
+    match search_from(alloc, shape, &mut cursor, &choices, None, &mut memo)? {
+        Ended::Refuted(note) => Ok(Searched::NotOpaque(memo.into_recorder(), note)),
         Ended::Witness(witness) => Ok(Searched::Opaque(witness)),
         // Without a budget none is spent.
         Ended::Spent => unreachable!(),

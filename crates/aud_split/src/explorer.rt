@@ -10,22 +10,24 @@ use aud_know::{Finding, Item};
 use aud_node::{Fleet, OfferFault, Pass, Running};
 use aud_order::Shape;
 use aud_pool::Work;
-use aud_search::{Outcome, explore};
+use aud_search::{Memory, Outcome};
 use aud_witness::Prefix;
 use std::alloc::Global;
 use std::sync::{Arc, Wait};
 
 /// What the search below the task finds of the shape's history: that the task is refuted, or an order that shows the history;
 /// nothing where the budget is spent before either is found.
-fn find(
-    alloc: Global,
+fn find<'a>(
+    memory: &mut Memory<'a>,
     shape: &Arc<Shape>,
     task: &Prefix,
     budget: u64,
 ) -> Result<Option<Finding>, OutOfMemory>
-    ensures { IfOk result (IsFound shape.now.value budget task.now) }
+    requires { memory.old ≡ shape.now.value }
+    ensures found { IfOk result (IsFound shape.now.value budget task.now) }
+    ensures memory { memory.new ≡ memory.old }
 {
-    match explore(alloc, shape, task, budget)? {
+    match memory.explore(task, budget)? {
         Outcome::Refuted => {
             let shared = Arc::try_clone(shape)?;
             let list = task.dup()?;
@@ -44,32 +46,45 @@ fn find(
 pub(crate) struct Explorer<'a, J: Fleet, S: Wait + Drop> {
     pub alloc: Global,
     pub node: &'a Running<J, S>,
-    pub shape: Arc<Shape>,
+    pub shape: &'a Arc<Shape>,
     pub budget: u64,
 }
 
-impl<'a, J: Fleet, S: Wait + Drop> Work<Prefix, Pass<J>> for Explorer<'a, J, S> {
+impl<'a, J: Fleet, S: Wait + Drop> Work<Prefix, Pass<J>, Memory<'a>> for Explorer<'a, J, S> {
     ghost use Rattle.std.specs.Prelude.{◌≡◌};
     ghost use Rattle.aud_order.specs.Shapes.{plan_of};
     ghost use Rattle.aud_node.specs.Meanings.{IsAt};
     ghost use Rattle.aud_split.specs.Pools.{HasSearched, IsSettled};
     ghost use Rattle.aud_split.specs.Settling.{settled_later, still_at, searched_itself, searched_onward};
 
-    ghost may_work = { λ w pass. IsAt w.node.now pass × (plan_of w.shape.value ≡ w.node.now.plan) };
+    ghost fits = { λ w memory. memory ≡ w.shape.now.value };
 
-    ghost done = { λ w pass task. IsSettled w.shape.value w.budget pass.view task };
+    ghost may_work = { λ w pass. IsAt w.node.now pass × (plan_of w.shape.now.value ≡ w.node.now.plan) };
 
-    ghost grows = { λ w old new. HasSearched w.shape.value old new };
+    ghost done = { λ w pass task. IsSettled w.shape.now.value w.budget pass.view task };
+
+    ghost grows = { λ w old new. HasSearched w.shape.now.value old new };
+
+    // A worker remembers what it refuted below its earlier tasks.
+    fn begin(&self) -> Memory<'a> {
+        Memory::new(self.alloc, self.shape)
+    }
 
     // A task that the node knows to be refuted is not searched.
-    fn work<R: Wait>(&self, rt: &R, pass: &mut Pass<J>, task: &Prefix) -> Result<(), OutOfMemory> {
+    fn work<R: Wait>(
+        &self,
+        rt: &R,
+        pass: &mut Pass<J>,
+        memory: &mut Memory<'a>,
+        task: &Prefix,
+    ) -> Result<(), OutOfMemory> {
         let Ok(is_known) = self.node.knows(pass, task) else {
             unreachable!()
         };
         if is_known {
             return Ok(());
         }
-        let Some(finding) = find(self.alloc, &self.shape, task, self.budget)? else {
+        let Some(finding) = find(memory, self.shape, task, self.budget)? else {
             return Ok(());
         };
         match self
@@ -82,11 +97,11 @@ impl<'a, J: Fleet, S: Wait + Drop> Work<Prefix, Pass<J>> for Explorer<'a, J, S> 
         }
     }
 
-    ghost stays = { λ w old new task on settled. settled_later w.shape.value w.budget old.view new.view task on.view settled };
+    ghost stays = { λ w old new task on settled. settled_later w.shape.now.value w.budget old.view new.view task on.view settled };
 
-    ghost still_may_work = { λ w old new on may. (still_at w.shape.value w.node.now old new on may.0, may.1) };
+    ghost still_may_work = { λ w old new on may. (still_at w.shape.now.value w.node.now old new on may.0, may.1) };
 
-    ghost grows_from_itself = { λ w pass. searched_itself w.shape.value pass };
+    ghost grows_from_itself = { λ w pass. searched_itself w.shape.now.value pass };
 
-    ghost grows_onward = { λ w one two three first second. searched_onward w.shape.value one two three first second };
+    ghost grows_onward = { λ w one two three first second. searched_onward w.shape.now.value one two three first second };
 }

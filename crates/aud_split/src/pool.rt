@@ -98,7 +98,7 @@ pub fn run_pool<
     let explorer = Explorer {
         alloc,
         node,
-        shape,
+        shape: &shape,
         budget,
     };
     match run(rt, alloc, passes, tasks, &explorer, gate) {

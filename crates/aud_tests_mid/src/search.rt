@@ -6,7 +6,7 @@ mod small;
 use crate::fixtures::{is_order, order, shape_from, shape_of};
 use aud_facts::Facts;
 use aud_order::Shape;
-use aud_search::{Decided, Outcome, decide, explore};
+use aud_search::{Decided, Memory, Outcome, decide, explore};
 use aud_witness::Prefix;
 use aud_worked::{
     BOTH_FIND_IT_ABSENT, COUNT_IS_LOST, IDLE_WRITE_STANDS_LATER, ITEM_IS_PASSED_ON,
@@ -171,6 +171,29 @@ fn each_spot_is_expanded_once(rt: HostRuntime) -> Result<(), Fail> {
     let counting = nine_counters(rt.alloc())?;
     for (budget, wanted) in &[(256u64, Told::Refuted), (255, Told::Spent)] {
         let told = explored_whole(rt.alloc(), &counting, *budget)?;
+        assert_eq!(rt; told, *wanted, "with {budget}");
+    }
+    Ok(())
+}
+
+/// What is reported of all lists of nine counters, and then, over what was refuted there, of those that begin with one of them.
+fn remembered(alloc: Global, budget: u64) -> Result<(Told, Told), Unread> {
+    let counting = nine_counters(alloc)?;
+    let shape = shape_from(alloc, &counting)?;
+    let mut memory = Memory::new(alloc, &shape);
+    let whole = memory.explore(&order(alloc, "none")?, budget)?;
+    let below = memory.explore(&order(alloc, "1c")?, 1)?;
+    Ok((without_order(whole), without_order(below)))
+}
+
+#[test]
+fn what_was_refuted_is_not_expanded_again(rt: HostRuntime) -> Result<(), Fail> {
+    let cases = [
+        (256u64, (Told::Refuted, Told::Refuted)),
+        (0, (Told::Spent, Told::Spent)),
+    ];
+    for (budget, wanted) in &cases {
+        let told = remembered(rt.alloc(), *budget)?;
         assert_eq!(rt; told, *wanted, "with {budget}");
     }
     Ok(())

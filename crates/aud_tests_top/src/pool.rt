@@ -17,8 +17,10 @@ const REFUSED: u64 = 0;
 /// A seat is the list of the tasks that were worked from it.
 struct Noting;
 
-impl Work<u64, Vec<u64>> for Noting {
+impl Work<u64, Vec<u64>, ()> for Noting {
     ghost use Rattle.std.specs.List.{Contains};
+
+    ghost fits = { λ w own. Unit {0} };
 
     ghost may_work = { λ w seat. Unit {0} };
 
@@ -26,7 +28,15 @@ impl Work<u64, Vec<u64>> for Noting {
 
     ghost grows = { λ w s t. (x : _) → Contains s.items x → Contains t.items x };
 
-    fn work<R: Wait>(&self, _rt: &R, seat: &mut Vec<u64>, task: &u64) -> Result<(), OutOfMemory> {
+    fn begin(&self) {}
+
+    fn work<R: Wait>(
+        &self,
+        _rt: &R,
+        seat: &mut Vec<u64>,
+        _own: &mut (),
+        task: &u64,
+    ) -> Result<(), OutOfMemory> {
         if *task == REFUSED {
             return Err(OutOfMemory);
         }

@@ -11,3 +11,4 @@ invariant-loop g l =
     × All (λ t. g.W.Work.done l.work l.member.seat t) l.member.drawn.items
     × g.W.Work.grows l.work l.initial.member.seat l.member.seat
     × g.W.Work.may_work l.work l.member.seat
+    × g.W.Work.fits l.work l.own

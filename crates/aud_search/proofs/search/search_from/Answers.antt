@@ -9,7 +9,7 @@ use Rattle.aud_search.proofs.Levels.{search-start}
 use Rattle.aud_search.specs.declared.search.Turn.{Turn}
 use Rattle.aud_search.specs.Memos.{MemoOf, states_behind, Names, NameWay, IsGrown, IsStep}
 use Rattle.aud_search.specs.Readiness.{IsReady}
-use Rattle.aud_search.specs.Recorders.{HasNote, IsNotedFor}
+use Rattle.aud_search.specs.Recorders.{HasNote}
 use Rattle.aud_search.proofs.MemoLemmas.{way-grown, way-deeper, way-back}
 use Rattle.aud_search.proofs.Readiness.{ready-on, ready-still}
 use Rattle.aud_search.proofs.Recording.{IsHeard, AreOpen, kept-none, note-on, round, round-follows, round-reason, round-over, round-back, round-known, round-deeper}
@@ -20,13 +20,13 @@ pub search-init : goal.search-init
 search-init g c =
     let start = c.args.cursor.now in
     let cs = c.args.choices.now in
-    let P = HasNote (g.R.Recorder.noted c.new-memo.result.recorder) in record {
+    let P = HasNote (g.R.Recorder.noted c.args.memo.now.recorder) in record {
       same = refl;
       used = 1;
       spends = spends-start c.args.budget;
-      memo = ap (λ (m : MemoOf _). m.shape) c.new-memo.ensures ∙ sym c.requires.shape;
-      way = subst (λ (t : Turn). NameWay start.shape c.new-memo.result.states (t.states ∷ reverse (map states_of c.new-turns.result.items)) start.path) (sym c.new-here.ensures)
-          (tt, subst (λ l. NameWay start.shape c.new-memo.result.states (reverse (map states_of l)) (take (length start.path - 1) start.path)) (sym c.new-turns.ensures.items) tt);
+      memo = c.requires.memo ∙ sym c.requires.shape;
+      way = subst (λ (t : Turn). NameWay start.shape c.args.memo.now.states (t.states ∷ reverse (map states_of c.new-turns.result.items)) start.path) (sym c.new-here.ensures)
+          (tt, subst (λ l. NameWay start.shape c.args.memo.now.states (reverse (map states_of l)) (take (length start.path - 1) start.path)) (sym c.new-turns.ensures.items) tt);
       searching = subst (λ (t : Turn). IsSearching (objects_of start.shape) (history_of start.shape) start.path cs 1 start.path t.next (reverse (map next_of c.new-turns.result.items))) (sym c.new-here.ensures)
           (subst (λ l. IsSearching (objects_of start.shape) (history_of start.shape) start.path cs 1 start.path 0 (reverse (map next_of l))) (sym c.new-turns.ensures.items)
           (search-start (objects_of start.shape) (history_of start.shape) start.path cs c.prefix.ensures.good c.requires.unfull));
@@ -48,8 +48,8 @@ note-requires-clause-reason g c =
     let found = rw c.in_default.is at c.in_ok-place.ensures in
     round-reason r c.try_from.new.cursor c.reason_of.result c.requires.choices found c.reason_of.ensures
 
-pub returns-in_default-pop : goal.returns-in_default-pop
-returns-in_default-pop g c =
+pub returns-in_default-pop-clause-told : goal.returns-in_default-pop-clause-told
+returns-in_default-pop-clause-told g c =
     let at = c.search in
     let start = c.args.cursor.now in
     let cs = c.args.choices.now in
@@ -62,10 +62,7 @@ returns-in_default-pop g c =
     let none : at.turns.items ≡ [] = nil_from_length at.turns.items (omega (arith, empty.0, at.turns.ok.0)) in
     let note = c.in_ok-note.note in (
       loop-over start cur c.try_from.new.cursor cs at.invariant.used from (map next_of at.turns.items) r.same c.requires.choices r.searching found (ap (map next_of) none),
-      (
-        subst (λ (s : ShapeOf). g.R.Recorder.is_for c.into_recorder.result s) (c.in_ok-note.ensures.told.shape ∙ r.memo_same) c.into_recorder.ensures.own,
-        subst (λ v. g.R.Recorder.noted v note start.path) (sym c.into_recorder.ensures.recorder) (round-over r c.try_from.new.cursor c.note.new.self.recorder note found none c.in_ok-note.ensures.noted),
-      ),
+      round-over r c.try_from.new.cursor c.note.new.self.recorder note found none c.in_ok-note.ensures.noted,
     )
 
 pub learn-requires-clause-refuted : goal.learn-requires-clause-refuted
@@ -133,8 +130,8 @@ search-preserved-in_default g c =
       ready = c.go_back.ensures.ready;
     }
 
-pub returns-then-full : goal.returns-then-full
-returns-then-full g c =
+pub returns-then-full-clause-told : goal.returns-then-full-clause-told
+returns-then-full-clause-told g c =
     let at = c.search in
     let start = c.args.cursor.now in
     let cs = c.args.choices.now in
@@ -221,8 +218,8 @@ search-preserved-in-Some-knows g c =
       ready = ready-still start cur new c.take_back.new.cursor cs at.here.next k at.ready f r.same popped (subst (λ (v : CursorOf). IsReady at.ready v) (sym p.stays) at.invariant.ready);
     }
 
-pub returns-in_default-spend : goal.returns-in_default-spend
-returns-in_default-spend g c =
+pub returns-in_default-spend-clause-told : goal.returns-in_default-spend-clause-told
+returns-in_default-spend-clause-told g c =
     let at = c.search in
     let start = c.args.cursor.now in
     let cs = c.args.choices.now in
@@ -235,7 +232,7 @@ returns-in_default-spend g c =
     let found = rw c.in-Some.is at c.in_ok-place.ensures in
     let f = round-follows r new k found in
     let unfull : IsFull (history_of new.shape) new.path → ⊥ = λ full. absurd (let is_so = c.full.ensures.1 full in let is_not = c.if-full.false in cc) in
-    spent-from g.row.R.Denot g.row.N.Denot g.row.A.Denot (IsNotedFor g.R.Recorder.is_for g.R.Recorder.noted start.shape) (objects_of start.shape) (history_of start.shape) start.path c.args.budget at.left at.invariant.used at.invariant.spends (rw c.in_default-spend.is at c.spend.ensures)
+    spent-from g.row.N.Denot g.row.A.Denot (g.R.Recorder.noted c.follow-states.new.self.recorder) (objects_of start.shape) (history_of start.shape) start.path c.args.budget at.left at.invariant.used at.invariant.spends (rw c.in_default-spend.is at c.spend.ensures)
     (loop-spent start cur new cs at.invariant.used at.here.next k (reverse (map next_of at.turns.items)) r.before f unfull)
 
 pub go_on-requires : goal.go_on-requires

@@ -1,11 +1,11 @@
 use Rattle.std.specs.Prelude.{[]}
-use Rattle.std.proofs.Common.{◌∙◌, ap, subst}
+use Rattle.std.proofs.Common.{sym, ◌∙◌, ap, subst}
 use Rattle.aud_history.specs.WellFormed.{IsWellFormed}
 use Rattle.aud_history.specs.FirstFault.{IsWithinLimits}
 use Rattle.aud_witness.specs.Orders.{Refuted}
-use Rattle.aud_order.specs.Shapes.{objects_of, plan_of, history_of}
+use Rattle.aud_order.specs.Shapes.{ShapeOf, objects_of, plan_of, history_of}
 use Rattle.aud_order.specs.Cursors.{CursorOf}
-use Rattle.aud_search.specs.Recorders.{IsNotedFor}
+use Rattle.aud_search.specs.Memos.{MemoOf}
 use Rattle.aud_search.proofs.Steps.{whole-witness}
 use Rattle.aud_search.proofs.search.search_with.Goals as goal
 
@@ -22,6 +22,9 @@ search_from-requires-clause-within g c = subst (λ (v : CursorOf). IsWithinLimit
 
 pub returns-in-Refuted : goal.returns-in-Refuted
 returns-in-Refuted g c =
-    let told = rw c.in-Refuted.is at c.in_ok-recorder.ensures in
+    let told = rw c.in-Refuted.is at c.in_ok-note.ensures.told in
     let refuted = subst (λ (v : CursorOf). Refuted (objects_of v.shape) (history_of v.shape) v.path) c.in_ok-cursor.ensures told.0 in
-    ((λ (q, shows). refuted q shows), subst (λ (v : CursorOf). IsNotedFor g.R.Recorder.is_for g.R.Recorder.noted v.shape c.in-Refuted.recorder c.in-Refuted.note v.path) c.in_ok-cursor.ensures told.1)
+    let recorder = c.into_recorder.result in
+    let noted = subst (λ (v : CursorOf). g.R.Recorder.noted recorder c.in-Refuted.note v.path) c.in_ok-cursor.ensures (subst (λ r. g.R.Recorder.noted r c.in-Refuted.note c.in_ok-cursor.cursor.path) (sym c.into_recorder.ensures.recorder) told.1) in
+    let memo = c.in_ok-note.ensures.shape ∙ ap (λ (m : MemoOf _). m.shape) c.new-memo.ensures in
+    ((λ (q, shows). refuted q shows), (subst (λ (s : ShapeOf). g.R.Recorder.is_for recorder s) memo c.into_recorder.ensures.own, noted))

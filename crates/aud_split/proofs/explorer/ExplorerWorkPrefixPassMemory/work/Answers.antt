@@ -5,20 +5,20 @@ use Rattle.aud_node.specs.Meanings.{PassOf}
 use Rattle.aud_split.specs.Pools.{HasSearched, IsFound, IsSettled}
 use Rattle.aud_split.specs.Settling.{searched_onward}
 use Rattle.aud_split.proofs.Settling.{known_settles, settled_by, searched_read, searched_offered}
-use Rattle.aud_split.proofs.explorer.ExplorerWorkPrefixPass.work.Goals.{in-Ok-offer, in-Err-default-OutOfMemory}
-use Rattle.aud_split.proofs.explorer.ExplorerWorkPrefixPass.work.Goals as goal
+use Rattle.aud_split.proofs.explorer.ExplorerWorkPrefixPassMemory.work.Goals.{in-Ok-offer, in-Err-default-OutOfMemory}
+use Rattle.aud_split.proofs.explorer.ExplorerWorkPrefixPassMemory.work.Goals as goal
 
 pub returns-then-is_known-clause-done : goal.returns-then-is_known-clause-done
 returns-then-is_known-clause-done g c =
-    known_settles c.args.self.now.shape.value c.args.self.now.budget c.args.self.now.node.now.plan c.knows.new.pass.view c.args.task.now (c.in-Ok.ensures.knows.0 c.if-is_known.true)
+    known_settles c.args.self.now.shape.now.value c.args.self.now.budget c.args.self.now.node.now.plan c.knows.new.pass.view c.args.task.now (c.in-Ok.ensures.knows.0 c.if-is_known.true)
 
 pub returns-clause-done : goal.returns-clause-done
 returns-clause-done g c =
-    let s = c.args.self.now.shape.value in
+    let s = c.args.self.now.shape.now.value in
     let budget = c.args.self.now.budget in
     let task = c.args.task.now in
     let P : Result (Unit {0}) OutOfMemory → Type 0 = λ r. OnOk r (IsSettled s budget c.offer.new.pass.view task) in
-    let found = subst (λ (o : Option FindingOf). IsFound s budget task o) c.in-Some.is c.in_ok-finding.ensures in
+    let found = subst (λ (o : Option FindingOf). IsFound s budget task o) c.in-Some.is c.in_ok-finding.ensures.found in
     elim c.match-offer.branch [
       | in-Ok-offer w ↦ subst P (sym w.result-is) (settled_by s budget c.knows.new.pass.view c.offer.new.pass.view c.knows.new.pass.seat c.in-Some.finding task w.in-Ok-offer.ensures.view found.1)
       | in-Err-default-OutOfMemory w ↦ subst P (sym w.result-is) tt
@@ -26,10 +26,10 @@ returns-clause-done g c =
 
 pub returns-clause-grows : goal.returns-clause-grows
 returns-clause-grows g c =
-    let s = c.args.self.now.shape.value in
+    let s = c.args.self.now.shape.now.value in
     let budget = c.args.self.now.budget in
     let read = searched_read s c.args.pass.now c.knows.new.pass c.knows.ensures.view in
-    let found = subst (λ (o : Option FindingOf). IsFound s budget c.args.task.now o) c.in-Some.is c.in_ok-finding.ensures in
+    let found = subst (λ (o : Option FindingOf). IsFound s budget c.args.task.now o) c.in-Some.is c.in_ok-finding.ensures.found in
     elim c.match-offer.branch [
       | in-Ok-offer w ↦
           let said = w.in-Ok-offer.ensures in

@@ -1,0 +1,65 @@
+-- Which memories may cross threads: all, where the allocator may and may be shared.
+use denote.RattleType.{RattleType}
+use denote.Ref.{NamedLft}
+use denote.Param.Send.{IsSend, IsSync, Frees, sendable}
+use Rattle.std.specs.declared.alloc.Allocator as alloc
+use Rattle.std.specs.declared.clone.Clone as clone
+use Rattle.std.proofs.vec.Vec.TheSendSync as vec
+use Rattle.aud_order.proofs.Crosses.{shape_sync}
+use Rattle.aud_object.proofs.store.Store.TheSendSync as store
+use Rattle.aud_search.specs.declared.recorder.Recorder as recorder
+use Rattle.aud_search.specs.contracts.kept.Kept as Kept
+use Rattle.aud_search.specs.contracts.memo.Memo as Memo
+use Rattle.std.specs.contracts.vec.Vec as Vec
+use denote.Struct.Field as Field
+use Rattle.aud_order.specs.contracts.shape.Shape as Shape
+use Rattle.aud_search.specs.contracts.kept.Finder as Finder
+use Rattle.aud_search.specs.contracts.index.Index as Index
+use Rattle.aud_search.specs.contracts.spots.Spots as Spots
+use Rattle.aud_search.specs.contracts.memo.Lead as Lead
+use Rattle.aud_search.specs.contracts.recorder.Unnoted as Unnoted
+use Rattle.aud_search.specs.contracts.recorder.Unrecorded as Unrecorded
+use Rattle.aud_search.specs.contracts.recorder.UnrecordedRecorderUnnoted.TheImpl as unrecording
+use Rattle.aud_search.specs.contracts.search.Memory as Memory
+use Rattle.aud_search.proofs.kept.Finder.TheSendSync as finder
+use Rattle.aud_search.proofs.index.Index.TheSendSync as index
+use Rattle.aud_search.proofs.memo.Lead.TheSendSync as lead
+use Rattle.aud_search.proofs.recorder.Unnoted.TheSendSync as unnoted
+use Rattle.aud_search.proofs.recorder.Unrecorded.TheSendSync as unrecorded
+use Rattle.aud_search.proofs.spots.Spots.TheSendSync as spots
+
+module _ (κ : NamedLft) (A : RattleType) (g : alloc.Ghosts A.Denot) (c : clone.Ghosts A.Denot) where
+  kept_send : IsSend A → IsSync A → Frees g g.dealloc_token → IsSend (Kept.the_row A g)
+  kept_send sa ya f = search (store.the_send, sendable) depth 60 fits 20000
+
+  vec_send : (T : RattleType) → IsSend T → IsSend A → IsSync A → Frees g g.dealloc_token → IsSend (Vec.the_field T A g).row
+  vec_send T st sa ya f = search (vec.the_send, sendable) depth 60 fits 20000
+
+  finder_send : IsSend A → IsSync A → Frees g g.dealloc_token → IsSend (Finder.the_field A g).row
+  finder_send sa ya f = search (finder.the_field_send, sendable) depth 60 fits 20000
+
+  index_send : IsSend A → IsSync A → Frees g g.dealloc_token → IsSend (Index.the_field A g).row
+  index_send sa ya f = search (index.the_field_send, sendable) depth 60 fits 20000
+
+  spots_send : IsSend A → IsSync A → Frees g g.dealloc_token → IsSend (Spots.the_field A g).row
+  spots_send sa ya f = search (spots.the_send, sendable) depth 60 fits 20000
+
+  shape_shared : IsSend A → IsSync A → Frees g g.dealloc_token → IsSend (Field.shr_ref_field κ (Shape.the_row A g c) tt).row
+  shape_shared sa ya f = search (shape_sync, sendable) depth 60 fits 20000
+
+  memo_send : (N R : RattleType) (h : recorder.Ghosts R.Denot N.Denot) → IsSend N → IsSend R → IsSend A → IsSync A → Frees g g.dealloc_token → IsSend (Memo.the_row κ N R A h g c)
+  memo_send N R h sn sr sa ya f =
+      let shape = shape_shared sa ya f in
+      let kept = vec_send (Kept.the_row A g) (kept_send sa ya f) sa ya f in
+      let finder = finder_send sa ya f in
+      let leads = vec_send Lead.the_row lead.the_send sa ya f in
+      let index = index_send sa ya f in
+      let spots = spots_send sa ya f in
+      let notes = vec_send N sn sa ya f in
+      search sendable depth 60 fits 20000
+
+  pub memory_send : IsSend A → IsSync A → Frees g g.dealloc_token → IsSend (Memory.the_row κ A g c)
+  memory_send sa ya f =
+      let shape = shape_shared sa ya f in
+      let memo = memo_send Unnoted.the_row Unrecorded.the_row unrecording.ghosts unnoted.the_send unrecorded.the_send sa ya f in
+      search sendable depth 60 fits 20000
