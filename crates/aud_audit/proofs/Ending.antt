@@ -1,4 +1,4 @@
--- The ends of tasks: of a share, later, at a closed node, and in what nodes know together.
+-- The ends of tasks: of a share, later, and at a closed node.
 use Rattle.std.proofs.Common.{◌≡◌, ◌<◌, ◌%◌, ◌++◌, ◌⊎◌, [], ℕ, List, length, map, get_or, All, Contains, Option, Some, None, IfSome, ◌==◌, ◌∷◌, Bool, sym, ap, subst, refl, ◌∙◌, arith, inl, inr, true, false, not, ◌+◌}
 use Rattle.std.proofs.lemmas.List.Elements.{All-contains, Contains-append_left, Contains-append_right, Contains-get_or, Contains-push_cases}
 use Rattle.std.specs.List.Sorted.{IsPermutation}
@@ -8,11 +8,7 @@ use Rattle.aud_event.specs.Meanings.{PlanOf}
 use Rattle.aud_facts.specs.Sets.{FactsOf}
 use Rattle.aud_witness.specs.declared.decision.Decision.{Decision}
 use Rattle.aud_order.specs.Shapes.{ShapeOf, objects_of, history_of}
-use Rattle.aud_cover.specs.Closings.{IsCovered}
-use Rattle.aud_know.specs.Norms.{atoms_of, refuted, shown}
-use Rattle.aud_know.specs.Known.{Held, KnownAtom, KnowledgeOf, Takes, norm_of}
-use Rattle.aud_know.specs.Laws.{KnowledgeIsNorm}
-use Rattle.aud_know.specs.Truth.{IsKnowledge}
+use Rattle.aud_know.specs.Known.{KnownAtom, KnowledgeOf}
 use Rattle.aud_node.specs.Logs.{Entry, atoms_in, state_of}
 use Rattle.aud_node.specs.Meanings.{Agrees, PassOf}
 use Rattle.aud_node.proofs.Own.{atoms-append}
@@ -21,19 +17,15 @@ use Rattle.aud_gossip.specs.Receiving.{GoesFurther}
 use Rattle.aud_split.specs.Ends.{faulted}
 use Rattle.aud_split.specs.Laws.{KnownIsKept, PoolEndsAll}
 use Rattle.aud_split.specs.Pools.{AreSettled}
-use Rattle.aud_split.specs.Searched.{HasWitness, IsEndedBy}
+use Rattle.aud_split.specs.Searched.{IsEndedBy}
 use Rattle.aud_split.specs.declared.fault.PoolFault.{PoolFault}
+use Rattle.aud_findings.specs.Searches.{IsSearchOf, KnowsEnd, WasSearched, task_budget}
+use Rattle.aud_findings.specs.declared.searching.Search.{Search}
+use Rattle.aud_findings.proofs.Ending.{ended_in, knows_norm}
 use Rattle.aud_audit.specs.Seats.{AreLater, CrewOf}
-use Rattle.aud_audit.specs.Searches.{HasEnded, HaveEnded, HaveEndedShare, IsSearchOf, IsShare, KnowsEnd, WasSearched, task_budget}
-use Rattle.aud_audit.specs.declared.searching.Search.{Search}
+use Rattle.aud_audit.specs.Searches.{HasEnded, HaveEnded, HaveEndedShare, IsShare}
 
--- # More atoms
-
-ended_in : (s : ShapeOf) (budget : ℕ) (t : List Decision) (xs ys : List KnownAtom) → ((a : KnownAtom) → Contains xs a → Contains ys a) →
-    IsEndedBy xs (objects_of s) (history_of s) budget t → IsEndedBy ys (objects_of s) (history_of s) budget t
-ended_in s budget t xs ys more (inl (q, (rest, (there, is)))) = inl (q, (rest, (more (refuted q) there, is)))
-ended_in s budget t xs ys more (inr (inl (q, there))) = inr (inl (q, more (shown q) there))
-ended_in s budget t xs ys more (inr (inr spent)) = inr (inr spent)
+-- # Later
 
 ended_further : (s : ShapeOf) (budget : ℕ) (t : List Decision) (v w : List Entry) → IsPrefix v w →
     IsEndedBy (atoms_in v) (objects_of s) (history_of s) budget t → IsEndedBy (atoms_in w) (objects_of s) (history_of s) budget t
@@ -71,41 +63,13 @@ share_ended law s budget tasks share left nodes number n passes drawn faults sha
 -- # What is known
 
 module _ (kept : KnownIsKept) (s : ShapeOf) (budget : ℕ) (t : List Decision) where
-  -- an end by atoms is known by their normal form
-  knows_norm : (k : KnowledgeOf) (xs : List KnownAtom) → k.held ≡ norm_of xs → IsEndedBy xs (objects_of s) (history_of s) budget t → KnowsEnd s budget k t
-  knows_norm k xs took (inl there) = inl (subst (λ (h : Held). IsCovered h.cover t) (sym took) (((kept xs).refuted t).0 there))
-  knows_norm k xs took (inr (inl some)) = inr (inl (subst HasWitness (sym took) ((kept xs).shown.0 some)))
-  knows_norm k xs took (inr (inr spent)) = inr (inr spent)
-
-  -- and the other way
-  pub norm_knows : (k : KnowledgeOf) (xs : List KnownAtom) → k.held ≡ norm_of xs → KnowsEnd s budget k t → IsEndedBy xs (objects_of s) (history_of s) budget t
-  norm_knows k xs took (inl there) = inl (((kept xs).refuted t).1 (subst (λ (h : Held). IsCovered h.cover t) took there))
-  norm_knows k xs took (inr (inl some)) = inr (inl ((kept xs).shown.1 (subst HasWitness took some)))
-  norm_knows k xs took (inr (inr spent)) = inr (inr spent)
-
   -- what a pass has seen that a closed node agrees with is known by the node
   pub closed_knows : (passes all rest : List PassOf) (plan : PlanOf) (log : List Entry) (k : KnowledgeOf) → all ≡ passes ++ rest → All (Agrees log) all → k ≡ state_of plan log →
       HasEnded s budget passes t → KnowsEnd s budget k t
   closed_knows passes all rest plan log k is agrees known (p, (there, ended)) =
       let among : Contains all p = subst (λ (l : List PassOf). Contains l p) (sym is) (Contains-append_left passes rest p there) in
       let view : IsPrefix p.view log = (All-contains (Agrees log) all p agrees among).0 in
-      knows_norm k (atoms_in log) (ap (λ (j : KnowledgeOf). j.held) known) (ended_further s budget t p.view log view ended)
-
-  module _ (norm : KnowledgeIsNorm) (one other new : KnowledgeOf) (truth : IsKnowledge one.plan one.held) (also_true : IsKnowledge other.plan other.held) (takes : Takes one.held new.held (atoms_of other.held)) where
-    both : new.held ≡ norm_of (atoms_of one.held ++ atoms_of other.held)
-    both = takes (atoms_of one.held) (ap (λ (j : KnowledgeOf). j.held) (norm one truth))
-
-    pub knows_one : KnowsEnd s budget one t → KnowsEnd s budget new t
-    knows_one knows =
-        knows_norm new (atoms_of one.held ++ atoms_of other.held) both
-        (ended_in s budget t (atoms_of one.held) (atoms_of one.held ++ atoms_of other.held) (Contains-append_left (atoms_of one.held) (atoms_of other.held))
-        (norm_knows one (atoms_of one.held) (ap (λ (j : KnowledgeOf). j.held) (norm one truth)) knows))
-
-    pub knows_other : KnowsEnd s budget other t → KnowsEnd s budget new t
-    knows_other knows =
-        knows_norm new (atoms_of one.held ++ atoms_of other.held) both
-        (ended_in s budget t (atoms_of other.held) (atoms_of one.held ++ atoms_of other.held) (Contains-append_right (atoms_of one.held) (atoms_of other.held))
-        (norm_knows other (atoms_of other.held) (ap (λ (j : KnowledgeOf). j.held) (norm other also_true)) knows))
+      knows_norm kept s budget t k (atoms_in log) (ap (λ (j : KnowledgeOf). j.held) known) (ended_further s budget t p.view log view ended)
 
 -- # Lists
 

@@ -1,4 +1,4 @@
--- Nodes, desks and crews, one more and one less.
+-- Nodes, collectors and crews, one more and one less.
 use Rattle.std.proofs.Common.{◌≡◌, ◌≢◌, ◌<◌, ◌+◌, ◌%◌, ◌++◌, ◌∷◌, [], ℕ, suc, List, None, All, Contains, false, length, get_or, sym, ap, subst, refl, ◌∙◌, arith, length-append}
 use Rattle.std.proofs.lemmas.List.{get_or_append_left, get_or_push}
 use mathlib.Core.Logic.{dite}
@@ -10,7 +10,7 @@ use Rattle.aud_event.specs.Meanings.{PlanOf}
 use Rattle.aud_witness.specs.declared.decision.Decision.{Decision}
 use Rattle.aud_order.specs.Shapes.{ShapeOf}
 use Rattle.aud_node.specs.Meanings.{NodeOf, OpenedOf}
-use Rattle.aud_audit.specs.Seats.{AreMatched, AreOpenedFrom, CrewOf, DeskOf, Each, IsCrewAt, IsDeskAt}
+use Rattle.aud_audit.specs.Seats.{AreMatched, AreOpenedFrom, CrewOf, CollectorOf, Each, IsCrewAt, IsCollectorAt}
 use Rattle.aud_audit.specs.Meshes.{IsMesh}
 use Rattle.aud_audit.specs.Searches.{HasEnded, HaveEnded, SharesHaveEnded}
 
@@ -67,40 +67,40 @@ module _ {S T : Type 0} (P : S → T → Type 0) (xs : List S) (ys : List T) (x 
       subst (λ (v : S). P v y) (get_or_push xs x x (length xs) refl)
       (subst (P (get_or (xs ++ x ∷ []) (length xs) x)) (get_or_push ys y y (length xs) (same_count all)) (all.each (length xs) x y (omega (arith, c))))
 
-module _ (plan : PlanOf) (nodes : List NodeOf) (desks : List DeskOf) (crews : List CrewOf) (n : NodeOf) (d : DeskOf) (c : CrewOf) where
-  pub mesh_add : IsMesh plan nodes desks crews → n.number ≡ length nodes → n.plan ≡ plan → IsDeskAt n d → IsCrewAt n c → IsMesh plan (nodes ++ n ∷ []) (desks ++ d ∷ []) (crews ++ c ∷ [])
-  mesh_add mesh number planned desk crew = record {
+module _ (plan : PlanOf) (nodes : List NodeOf) (collectors : List CollectorOf) (crews : List CrewOf) (n : NodeOf) (d : CollectorOf) (c : CrewOf) where
+  pub mesh_add : IsMesh plan nodes collectors crews → n.number ≡ length nodes → n.plan ≡ plan → IsCollectorAt n d → IsCrewAt n c → IsMesh plan (nodes ++ n ∷ []) (collectors ++ d ∷ []) (crews ++ c ∷ [])
+  mesh_add mesh number planned collector crew = record {
     numbered = each_add nodes n (λ k m. m.number ≡ k) mesh.numbered number;
     planned = each_add nodes n (λ k m. m.plan ≡ plan) mesh.planned planned;
-    desks_at = matched_add IsDeskAt nodes desks n d mesh.desks_at desk;
+    collectors_at = matched_add IsCollectorAt nodes collectors n d mesh.collectors_at collector;
     crews_at = matched_add IsCrewAt nodes crews n c mesh.crews_at crew;
   }
 
-  module _ (mesh : IsMesh plan (nodes ++ n ∷ []) (desks ++ d ∷ []) (crews ++ c ∷ [])) where
-    pub mesh_less : IsMesh plan nodes desks crews
+  module _ (mesh : IsMesh plan (nodes ++ n ∷ []) (collectors ++ d ∷ []) (crews ++ c ∷ [])) where
+    pub mesh_less : IsMesh plan nodes collectors crews
     mesh_less = record {
       numbered = each_less nodes n (λ k m. m.number ≡ k) mesh.numbered;
       planned = each_less nodes n (λ k m. m.plan ≡ plan) mesh.planned;
-      desks_at = matched_less IsDeskAt nodes desks n d mesh.desks_at;
+      collectors_at = matched_less IsCollectorAt nodes collectors n d mesh.collectors_at;
       crews_at = matched_less IsCrewAt nodes crews n c mesh.crews_at;
     }
 
     pub last_planned : n.plan ≡ plan
     last_planned = each_last nodes n (λ k m. m.plan ≡ plan) mesh.planned
 
-    pub last_desk : IsDeskAt n d
-    last_desk = matched_last IsDeskAt nodes desks n d mesh.desks_at
+    pub last_collector : IsCollectorAt n d
+    last_collector = matched_last IsCollectorAt nodes collectors n d mesh.collectors_at
 
     pub last_crew : IsCrewAt n c
     last_crew = matched_last IsCrewAt nodes crews n c mesh.crews_at
 
 -- a mesh whose lists have a last
-pub mesh_last : (plan : PlanOf) (nodes ns : List NodeOf) (desks ds : List DeskOf) (crews cs : List CrewOf) (n : NodeOf) (d : DeskOf) (c : CrewOf) →
-    nodes ≡ ns ++ n ∷ [] → desks ≡ ds ++ d ∷ [] → crews ≡ cs ++ c ∷ [] → IsMesh plan nodes desks crews → IsMesh plan (ns ++ n ∷ []) (ds ++ d ∷ []) (cs ++ c ∷ [])
-mesh_last plan nodes ns desks ds crews cs n d c e f h mesh =
+pub mesh_last : (plan : PlanOf) (nodes ns : List NodeOf) (collectors ds : List CollectorOf) (crews cs : List CrewOf) (n : NodeOf) (d : CollectorOf) (c : CrewOf) →
+    nodes ≡ ns ++ n ∷ [] → collectors ≡ ds ++ d ∷ [] → crews ≡ cs ++ c ∷ [] → IsMesh plan nodes collectors crews → IsMesh plan (ns ++ n ∷ []) (ds ++ d ∷ []) (cs ++ c ∷ [])
+mesh_last plan nodes ns collectors ds crews cs n d c e f h mesh =
     subst (λ (l : List NodeOf). IsMesh plan l (ds ++ d ∷ []) (cs ++ c ∷ [])) e
-    (subst (λ (l : List DeskOf). IsMesh plan nodes l (cs ++ c ∷ [])) f
-    (subst (λ (l : List CrewOf). IsMesh plan nodes desks l) h mesh))
+    (subst (λ (l : List CollectorOf). IsMesh plan nodes l (cs ++ c ∷ [])) f
+    (subst (λ (l : List CrewOf). IsMesh plan nodes collectors l) h mesh))
 
 -- # New histories
 
@@ -117,10 +117,10 @@ opened_first n book o os all =
 
 -- # The ends of all tasks
 
-pub all_ended : (s : ShapeOf) (budget : ℕ) (tasks : List (List Decision)) (plan : PlanOf) (nodes : List NodeOf) (desks : List DeskOf) (crews : List CrewOf) →
-    SharesHaveEnded s budget tasks nodes crews → IsMesh plan nodes desks crews → 0 < length nodes → All (λ (c : CrewOf). c.failed ≡ false) crews →
+pub all_ended : (s : ShapeOf) (budget : ℕ) (tasks : List (List Decision)) (plan : PlanOf) (nodes : List NodeOf) (collectors : List CollectorOf) (crews : List CrewOf) →
+    SharesHaveEnded s budget tasks nodes crews → IsMesh plan nodes collectors crews → 0 < length nodes → All (λ (c : CrewOf). c.failed ≡ false) crews →
     (t : List Decision) → Contains tasks t → HaveEnded s budget crews t
-all_ended s budget tasks plan nodes desks crews shares mesh some done t (k, lt, is) =
+all_ended s budget tasks plan nodes collectors crews shares mesh some done t (k, lt, is) =
     let i = k % length nodes in
     let low : i < length nodes = mod_below k (length nodes) some in
     let same = mesh.crews_at.count in

@@ -15,7 +15,7 @@ use Rattle.aud_gossip.proofs.Offering.{further_self}
 use Rattle.aud_order.specs.Shapes.{ShapeOf}
 use Rattle.aud_pool.specs.Workers.{IsCrew}
 use Rattle.aud_split.specs.Pools.{HaveSearched}
-use Rattle.aud_audit.specs.Seats.{AreDesks, AreLater, AreSeats, CrewOf, DeskOf, IsCrewAt, IsDeskAt, IsSameSeat, IsTakenOf}
+use Rattle.aud_audit.specs.Seats.{AreCollectors, AreLater, AreSeats, CrewOf, CollectorOf, IsCrewAt, IsCollectorAt, IsSameSeat, IsTakenOf}
 
 -- # A new node
 
@@ -38,8 +38,8 @@ seat_of number (suc n) k p lt =
     = λ ne. get_or_append_left made (first_pass number n ∷ []) p k (omega (arith, lt, ne, count)) ∙ seat_of number n k p (omega (arith, lt, ne)) in
     ap (λ (l : List PassOf). get_or l k p) (map-append (first_pass number) (upto n) (n ∷ [])) ∙ dite (ℕ_discrete k n) last other
 
-pub seated_desk : (number n : ℕ) (p : PassOf) (ps : List PassOf) → p ∷ ps ≡ map (first_pass number) (upto n) → HasSeat number 0 p
-seated_desk number n p ps e =
+pub seated_collector : (number n : ℕ) (p : PassOf) (ps : List PassOf) → p ∷ ps ≡ map (first_pass number) (upto n) → HasSeat number 0 p
+seated_collector number n p ps e =
     let count : suc (length ps) ≡ n = ap length e ∙ count_of number n in
     let is : p ≡ first_pass number 0 = ap (λ (l : List PassOf). get_or l 0 p) e ∙ seat_of number n 0 p (omega (arith, count)) in
     (ap (λ (q : PassOf). q.number) is, ap (λ (q : PassOf). q.seat) is)
@@ -101,8 +101,8 @@ crew_at n c at k d lt = (at.seats k d lt).0
 
 -- # Closing
 
-pub may_close : (n : NodeOf) (d : DeskOf) (c : CrewOf) (all : List PassOf) → all ≡ c.passes ++ d.pass ∷ [] → IsDeskAt n d → IsCrewAt n c → MayClose n all
-may_close n d c all is desk crew = subst (λ (l : List PassOf). MayClose n l) (sym is) (seats, at)
+pub may_close : (n : NodeOf) (d : CollectorOf) (c : CrewOf) (all : List PassOf) → all ≡ c.passes ++ d.pass ∷ [] → IsCollectorAt n d → IsCrewAt n c → MayClose n all
+may_close n d c all is collector crew = subst (λ (l : List PassOf). MayClose n l) (sym is) (seats, at)
   where
     count : length (c.passes ++ d.pass ∷ []) ≡ length c.passes + 1
     count = length-append c.passes (d.pass ∷ [])
@@ -111,7 +111,7 @@ may_close n d c all is desk crew = subst (λ (l : List PassOf). MayClose n l) (s
     seam x = get_or-append_seam c.passes d.pass [] x
 
     seats : HasSeats n.number n.seats (c.passes ++ d.pass ∷ [])
-    seats zero lt = (length c.passes, d.pass, omega (arith, count), seam d.pass, desk)
+    seats zero lt = (length c.passes, d.pass, omega (arith, count), seam d.pass, collector)
     seats (suc k) lt =
         let inside : k < length c.passes = (let seats = crew.count in omega (arith, lt, seats)) in
         let x = get_or c.passes k d.pass in
@@ -119,37 +119,37 @@ may_close n d c all is desk crew = subst (λ (l : List PassOf). MayClose n l) (s
         (k, x, omega (arith, inside, count), get_or_append_left c.passes (d.pass ∷ []) x k inside ∙ get_or_default c.passes k x d.pass inside, subst (λ (j : ℕ). HasSeat n.number j x) next (crew.seats k d.pass inside))
 
     at : AreAt n.number (c.passes ++ d.pass ∷ [])
-    at = All-append (λ (p : PassOf). p.number ≡ n.number) c.passes (d.pass ∷ []) (crew_at n c crew) (All-cons (λ (p : PassOf). p.number ≡ n.number) d.pass [] desk.0 (All-nil (λ (p : PassOf). p.number ≡ n.number)))
+    at = All-append (λ (p : PassOf). p.number ≡ n.number) c.passes (d.pass ∷ []) (crew_at n c crew) (All-cons (λ (p : PassOf). p.number ≡ n.number) d.pass [] collector.0 (All-nil (λ (p : PassOf). p.number ≡ n.number)))
 
--- a node whose desk and crew are at hand is refused for want of memory alone
-pub close_fault : (n : NodeOf) (d : DeskOf) (c : CrewOf) (all : List PassOf) (e : CloseFault) → all ≡ c.passes ++ d.pass ∷ [] → IsDeskAt n d → IsCrewAt n c → IsCloseFault n all e → e ≡ close.OutOfMemory
-close_fault n d c all close.OutOfMemory is desk crew fault = refl
-close_fault n d c all (close.PassMissing seat) is desk crew (low, before, missing) =
-    let (k, p, inside, there, seated) = (may_close n d c all is desk crew).0 seat low in
+-- a node whose collector and crew are at hand is refused for want of memory alone
+pub close_fault : (n : NodeOf) (d : CollectorOf) (c : CrewOf) (all : List PassOf) (e : CloseFault) → all ≡ c.passes ++ d.pass ∷ [] → IsCollectorAt n d → IsCrewAt n c → IsCloseFault n all e → e ≡ close.OutOfMemory
+close_fault n d c all close.OutOfMemory is collector crew fault = refl
+close_fault n d c all (close.PassMissing seat) is collector crew (low, before, missing) =
+    let (k, p, inside, there, seated) = (may_close n d c all is collector crew).0 seat low in
     absurd (missing k p inside (subst (HasSeat n.number seat) (sym there) seated))
-close_fault n d c all (close.ForeignPass index) is desk crew (seats, (inside, before, foreign)) =
-    absurd (foreign d.pass ((may_close n d c all is desk crew).1 index d.pass inside))
+close_fault n d c all (close.ForeignPass index) is collector crew (seats, (inside, before, foreign)) =
+    absurd (foreign d.pass ((may_close n d c all is collector crew).1 index d.pass inside))
 
 -- # One changed
 
--- a desk may stand in for another at its place
-pub desk_set : (nodes : List NodeOf) (desks : List DeskOf) (k : ℕ) (d : DeskOf) → AreDesks nodes desks → ((old : DeskOf) → k < length nodes → IsSameSeat (get_or desks k old).pass d.pass) → AreDesks nodes (set desks k d)
-desk_set nodes desks k d all same = record {
-  count = length-set desks k d ∙ all.count;
+-- a collector may stand in for another at its place
+pub collector_set : (nodes : List NodeOf) (collectors : List CollectorOf) (k : ℕ) (d : CollectorOf) → AreCollectors nodes collectors → ((old : CollectorOf) → k < length nodes → IsSameSeat (get_or collectors k old).pass d.pass) → AreCollectors nodes (set collectors k d)
+collector_set nodes collectors k d all same = record {
+  count = length-set collectors k d ∙ all.count;
   each = λ j x y lt. dite (ℕ_discrete j k) (here j x y lt) (there j x y lt);
 }
   where
-    here : (j : ℕ) (x : NodeOf) (y : DeskOf) → j < length nodes → j ≡ k → IsDeskAt (get_or nodes j x) (get_or (set desks k d) j y)
+    here : (j : ℕ) (x : NodeOf) (y : CollectorOf) → j < length nodes → j ≡ k → IsCollectorAt (get_or nodes j x) (get_or (set collectors k d) j y)
     here j x y lt e =
         let count = all.count in
-        let inside : k < length desks = omega (arith, lt, e, count) in
-        let is : get_or (set desks k d) j y ≡ d = ap (λ (i : ℕ). get_or (set desks k d) i y) e ∙ get_or-set_same desks k d y inside in
-        let at : IsDeskAt (get_or nodes j x) (get_or desks j y) = all.each j x y lt in
-        let kept : IsSameSeat (get_or desks j y).pass d.pass = subst (λ (i : ℕ). IsSameSeat (get_or desks i y).pass d.pass) (sym e) (same y (omega (arith, lt, e))) in
-        subst (λ (v : DeskOf). IsDeskAt (get_or nodes j x) v) (sym is) (kept.0 ∙ at.0, kept.1 ∙ at.1)
+        let inside : k < length collectors = omega (arith, lt, e, count) in
+        let is : get_or (set collectors k d) j y ≡ d = ap (λ (i : ℕ). get_or (set collectors k d) i y) e ∙ get_or-set_same collectors k d y inside in
+        let at : IsCollectorAt (get_or nodes j x) (get_or collectors j y) = all.each j x y lt in
+        let kept : IsSameSeat (get_or collectors j y).pass d.pass = subst (λ (i : ℕ). IsSameSeat (get_or collectors i y).pass d.pass) (sym e) (same y (omega (arith, lt, e))) in
+        subst (λ (v : CollectorOf). IsCollectorAt (get_or nodes j x) v) (sym is) (kept.0 ∙ at.0, kept.1 ∙ at.1)
 
-    there : (j : ℕ) (x : NodeOf) (y : DeskOf) → j < length nodes → j ≢ k → IsDeskAt (get_or nodes j x) (get_or (set desks k d) j y)
-    there j x y lt ne = subst (λ (v : DeskOf). IsDeskAt (get_or nodes j x) v) (sym (get_or-set_other desks k j d y ne)) (all.each j x y lt)
+    there : (j : ℕ) (x : NodeOf) (y : CollectorOf) → j < length nodes → j ≢ k → IsCollectorAt (get_or nodes j x) (get_or (set collectors k d) j y)
+    there j x y lt ne = subst (λ (v : CollectorOf). IsCollectorAt (get_or nodes j x) v) (sym (get_or-set_other collectors k j d y ne)) (all.each j x y lt)
 
 -- one pass goes further, and the others are as they were
 pub set_later : (old : List PassOf) (k : ℕ) (q : PassOf) → ((d : PassOf) → k < length old → GoesFurther (get_or old k d) q) → AreLater old (set old k q)

@@ -2,11 +2,11 @@
 use Rattle.std.specs.Prelude.{◌≡◌, List}
 use Rattle.aud_event.specs.Meanings.{PlanOf}
 use Rattle.aud_node.specs.Meanings.{NodeOf}
-use Rattle.aud_audit.specs.Seats.{AreCrews, AreDesks, AreOf, CrewOf, DeskOf, Each}
+use Rattle.aud_audit.specs.Seats.{AreCrews, AreCollectors, AreOf, CrewOf, CollectorOf, Each}
 
--- nodes of the plan whose numbers are their places, with their desks and their crews
-pub record IsMesh (plan : PlanOf) (nodes : List NodeOf) (desks : List DeskOf) (crews : List CrewOf) : Type 0 where
+-- nodes of the plan whose numbers are their places, with their collectors and their crews
+pub record IsMesh (plan : PlanOf) (nodes : List NodeOf) (collectors : List CollectorOf) (crews : List CrewOf) : Type 0 where
   pub numbered : Each (λ k n. n.number ≡ k) nodes
   pub planned : AreOf plan nodes
-  pub desks_at : AreDesks nodes desks
+  pub collectors_at : AreCollectors nodes collectors
   pub crews_at : AreCrews nodes crews

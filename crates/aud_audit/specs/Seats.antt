@@ -1,4 +1,4 @@
--- Nodes, their desks and their crews, by place.
+-- Nodes, their collectors and their crews, by place.
 use Rattle.std.specs.Prelude.{◌≡◌, ◌<◌, ◌+◌, ℕ, Bool, List, length, slice_index_or, Option, IfSome}
 use Rattle.logbook.specs.Pages.{Book}
 use Rattle.aud_event.specs.Meanings.{PlanOf}
@@ -10,8 +10,8 @@ use Rattle.aud_pool.specs.Workers.{IsCrew}
 
 -- # What contracts see
 
--- of a desk: its pass, and whether memory was refused to it
-pub record DeskOf : Type 0 where
+-- of a collector: its pass, and whether memory was refused to it
+pub record CollectorOf : Type 0 where
   pub pass : PassOf
   pub failed : Bool
 
@@ -57,9 +57,9 @@ AreLater old new = AreMatched GoesFurther old new
 abbrev pub IsTakenOf : PlanOf → Option KnowledgeOf → Type 0
 IsTakenOf plan taken = IfSome taken (λ k. k.plan ≡ plan)
 
--- the desk has the first seat of the node
-abbrev pub IsDeskAt : NodeOf → DeskOf → Type 0
-IsDeskAt n d = HasSeat n.number 0 d.pass
+-- the collector has the first seat of the node
+abbrev pub IsCollectorAt : NodeOf → CollectorOf → Type 0
+IsCollectorAt n d = HasSeat n.number 0 d.pass
 
 -- the crew has all other seats of the node, 1 to 16
 pub record IsCrewAt (n : NodeOf) (c : CrewOf) : Type 0 where
@@ -74,8 +74,8 @@ pub record IsCrewAt (n : NodeOf) (c : CrewOf) : Type 0 where
 abbrev pub AreOf : PlanOf → List NodeOf → Type 0
 AreOf plan nodes = Each (λ k n. n.plan ≡ plan) nodes
 
-abbrev pub AreDesks : List NodeOf → List DeskOf → Type 0
-AreDesks nodes desks = AreMatched IsDeskAt nodes desks
+abbrev pub AreCollectors : List NodeOf → List CollectorOf → Type 0
+AreCollectors nodes collectors = AreMatched IsCollectorAt nodes collectors
 
 abbrev pub AreCrews : List NodeOf → List CrewOf → Type 0
 AreCrews nodes crews = AreMatched IsCrewAt nodes crews

@@ -5,9 +5,9 @@ ghost use Rattle.aud_event.specs.Facts.{first_fact_fault};
 ghost use Rattle.aud_node.specs.Meanings.{IsAt};
 ghost use Rattle.aud_audit.specs.Seats.{IsSameSeat};
 
-use crate::judging::has_all;
 use aud_event::{Fact, OutOfMemory};
 use aud_facts::Facts;
+use aud_findings::has_all;
 use aud_gossip::receive_all;
 use aud_know::Item;
 use aud_node::{Fleet, OfferFault, Packet, Pass, ReadFault, Running};
@@ -18,15 +18,15 @@ use std::sync::Wait;
 
 /// The first seat of a node, and whether memory was refused to it.
 #[derive(Drop)]
-pub(crate) struct Desk<J: Fleet> {
+pub(crate) struct Collector<J: Fleet> {
     pub pass: Pass<J>,
     pub failed: bool,
 }
 
-impl<J: Fleet> Model for Desk<J> {
-    ghost use Rattle.aud_audit.specs.Seats.{DeskOf};
+impl<J: Fleet> Model for Collector<J> {
+    ghost use Rattle.aud_audit.specs.Seats.{CollectorOf};
 
-    ghost Value = { DeskOf };
+    ghost Value = { CollectorOf };
 
     ghost view = { λ d. record { pass = d.pass; failed = d.failed } };
 }
@@ -79,7 +79,7 @@ fn offer_share<J: Fleet, S: Wait + Drop, R: Wait>(
     Ok(())
 }
 
-impl<J: Fleet> Desk<J> {
+impl<J: Fleet> Collector<J> {
     /// Offers the node's share of the facts, of so many nodes.
     pub(crate) fn offer<S: Wait + Drop, R: Wait>(
         &mut self,
@@ -114,7 +114,19 @@ impl<J: Fleet> Desk<J> {
         }
     }
 
-    /// Whether these facts, and no others, are known to the node, as the desk sees it.
+    /// What the node knows, as the collector sees it.
+    fn seen<S: Wait + Drop>(&mut self, node: &Running<J, S>) -> Result<Packet, OutOfMemory>
+        requires at { IsAt node.now self.old.pass }
+        ensures { IsSameSeat self.old.pass self.new.pass }
+    {
+        match node.snapshot(&mut self.pass) {
+            Ok(packet) => Ok(packet),
+            Err(ReadFault::OutOfMemory) => Err(OutOfMemory),
+            Err(ReadFault::WrongNode) => unreachable!(),
+        }
+    }
+
+    /// Whether these facts, and no others, are known to the node, as the collector sees it.
     pub(crate) fn has_all<S: Wait + Drop>(
         &mut self,
         node: &Running<J, S>,
@@ -123,10 +135,20 @@ impl<J: Fleet> Desk<J> {
         requires at { IsAt node.now self.old.pass }
         ensures { IsSameSeat self.old.pass self.new.pass }
     {
-        match node.snapshot(&mut self.pass) {
-            Ok(packet) => Ok(has_all(&packet.known, facts)),
-            Err(ReadFault::OutOfMemory) => Err(OutOfMemory),
-            Err(ReadFault::WrongNode) => unreachable!(),
-        }
+        let packet = self.seen(node)?;
+        Ok(has_all(&packet.known, facts))
+    }
+
+    /// Whether these facts, no others, and an order that shows them are known to the node, as the collector sees it.
+    pub(crate) fn shows<S: Wait + Drop>(
+        &mut self,
+        node: &Running<J, S>,
+        facts: &Facts,
+    ) -> Result<bool, OutOfMemory>
+        requires at { IsAt node.now self.old.pass }
+        ensures { IsSameSeat self.old.pass self.new.pass }
+    {
+        let packet = self.seen(node)?;
+        Ok(packet.known.witness().is_some() && has_all(&packet.known, facts))
     }
 }

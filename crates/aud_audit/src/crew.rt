@@ -8,8 +8,8 @@ ghost use Rattle.aud_order.specs.Shapes.{plan_of};
 ghost use Rattle.aud_audit.specs.Seats.{AreLater, IsCrewAt, IsTakenOf};
 ghost use Rattle.aud_audit.specs.Searches.{HaveEndedShare, IsShare};
 
-use crate::searching::Search;
 use aud_event::{Dup, OutOfMemory};
+use aud_findings::Search;
 use aud_gossip::{Outbox, SinceFault};
 use aud_node::{Fleet, Packet, Pass, ReadFault, Running};
 use aud_pool::Gate;

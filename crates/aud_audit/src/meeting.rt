@@ -4,16 +4,16 @@ ghost use Rattle.std.specs.Prelude.{◌≡◌, ◌≤◌, ◌<◌, ℕ, List, Al
 ghost use Rattle.std.specs.List.{Contains, HoldsAt};
 ghost use Rattle.aud_witness.specs.declared.decision.Decision.{Decision};
 ghost use Rattle.aud_order.specs.Shapes.{plan_of};
-ghost use Rattle.aud_audit.specs.Seats.{AreOf, AreCrews, AreDesks, IsCrewAt, IsDeskAt};
+ghost use Rattle.aud_audit.specs.Seats.{AreOf, AreCrews, AreCollectors, IsCrewAt, IsCollectorAt};
 ghost use Rattle.aud_audit.specs.Searches.{HaveEnded, HaveEndedShare, SharesHaveEnded};
 ghost use Rattle.aud_audit.specs.Meshes.{IsMesh};
 
+use crate::collector::Collector;
 use crate::crew::Crew;
-use crate::desk::Desk;
 use crate::mesh::Mesh;
-use crate::searching::Search;
 use aud_event::OutOfMemory;
 use aud_facts::Facts;
+use aud_findings::Search;
 use aud_node::{Fleet, Packet, Running};
 use aud_pool::Gate;
 use aud_witness::Prefix;
@@ -78,23 +78,23 @@ fn connect<J: Fleet>(
     Ok(inboxes)
 }
 
-/// Each node's desk offers the node's share of the facts.
+/// Each node's collector offers the node's share of the facts.
 fn offer_all<J: Fleet + Send + Sync, S: Wait + Drop + Send, R: Threads + Wait + Sync>(
     rt: &R,
     alloc: Global,
     nodes: &[Running<J, S>],
-    desks: &mut [Desk<J>],
+    collectors: &mut [Collector<J>],
     facts: &Facts,
 )
-    requires desks { AreDesks nodes.now desks.old }
+    requires collectors { AreCollectors nodes.now collectors.old }
     requires planned { AreOf facts.now.plan nodes.now }
-    ensures { AreDesks nodes.now desks.new }
+    ensures { AreCollectors nodes.now collectors.new }
 {
-    let each = |place: usize, desk: &mut Desk<J>|
-        requires { (place < length nodes.now) × (AreOf facts.now.plan nodes.now × HoldsAt (λ n. IsDeskAt n desk.now) nodes.now place) }
-        ensures { HoldsAt (λ n. IsDeskAt n desk.exit.now) nodes.entry.now place }
-    { desk.offer(rt, alloc, &nodes[place], facts, nodes.len()) };
-    thread::for_each_mut(rt, desks, NODES_MAX, &each);
+    let each = |place: usize, collector: &mut Collector<J>|
+        requires { (place < length nodes.now) × (AreOf facts.now.plan nodes.now × HoldsAt (λ n. IsCollectorAt n collector.now) nodes.now place) }
+        ensures { HoldsAt (λ n. IsCollectorAt n collector.exit.now) nodes.entry.now place }
+    { collector.offer(rt, alloc, &nodes[place], facts, nodes.len()) };
+    thread::for_each_mut(rt, collectors, NODES_MAX, &each);
 }
 
 /// Each node's crew posts what the node knows.
@@ -114,23 +114,23 @@ fn post_all<J: Fleet + Send + Sync, S: Wait + Drop + Send, R: Threads + Wait + S
     thread::for_each_mut(rt, crews, NODES_MAX, &each);
 }
 
-/// Each node's desk takes in what comes to the node, until nobody can send any more.
+/// Each node's collector takes in what comes to the node, until nobody can send any more.
 fn receive_each<J: Fleet + Send + Sync, S: Wait + Drop + Send, R: Threads + Wait + Sync>(
     rt: &R,
     alloc: Global,
     nodes: &[Running<J, S>],
-    desks: &mut [Desk<J>],
+    collectors: &mut [Collector<J>],
     inboxes: &[Receiver<Packet>],
 )
-    requires desks { AreDesks nodes.now desks.old }
+    requires collectors { AreCollectors nodes.now collectors.old }
     requires inboxes { length inboxes.now ≡ length nodes.now }
-    ensures { AreDesks nodes.now desks.new }
+    ensures { AreCollectors nodes.now collectors.new }
 {
-    let each = |place: usize, desk: &mut Desk<J>|
-        requires { ((place < length nodes.now) × (place < length inboxes.now)) × HoldsAt (λ n. IsDeskAt n desk.now) nodes.now place }
-        ensures { HoldsAt (λ n. IsDeskAt n desk.exit.now) nodes.entry.now place }
-    { desk.receive(rt, alloc, &nodes[place], &inboxes[place]) };
-    thread::for_each_mut(rt, desks, NODES_MAX, &each);
+    let each = |place: usize, collector: &mut Collector<J>|
+        requires { ((place < length nodes.now) × (place < length inboxes.now)) × HoldsAt (λ n. IsCollectorAt n collector.now) nodes.now place }
+        ensures { HoldsAt (λ n. IsCollectorAt n collector.exit.now) nodes.entry.now place }
+    { collector.receive(rt, alloc, &nodes[place], &inboxes[place]) };
+    thread::for_each_mut(rt, collectors, NODES_MAX, &each);
 }
 
 /// Each node's crew searches the node's share of the tasks, and posts what the node knows then.
@@ -154,17 +154,17 @@ fn search_each<
 }
 
 /// Whether memory was refused to nobody.
-fn has_all_done<J: Fleet>(desks: &[Desk<J>], crews: &[Crew<J>]) -> bool
+fn has_all_done<J: Fleet>(collectors: &[Collector<J>], crews: &[Crew<J>]) -> bool
     ensures { IsTrue result → All (λ c. c.failed ≡ false) crews.now }
 {
-    desks.iter().all(|desk| !desk.failed) && crews.iter().all(|crew| !crew.failed)
+    collectors.iter().all(|collector| !collector.failed) && crews.iter().all(|crew| !crew.failed)
 }
 
 /// What is done, where memory was refused to nobody.
-fn checked<J: Fleet>(desks: &[Desk<J>], crews: &[Crew<J>]) -> Result<(), OutOfMemory>
+fn checked<J: Fleet>(collectors: &[Collector<J>], crews: &[Crew<J>]) -> Result<(), OutOfMemory>
     ensures { OnOk result (All (λ c. c.failed ≡ false) crews.now) }
 {
-    if has_all_done(desks, crews) {
+    if has_all_done(collectors, crews) {
         Ok(())
     } else {
         Err(OutOfMemory)
@@ -172,21 +172,27 @@ fn checked<J: Fleet>(desks: &[Desk<J>], crews: &[Crew<J>]) -> Result<(), OutOfMe
 }
 
 impl<J: Fleet + Send + Sync, S: Wait + Drop + Send> Mesh<J, S> {
-    /// Each node's desk offers the node's share of the facts.
+    /// Each node's collector offers the node's share of the facts.
     fn offer<R: Threads + Wait + Sync>(&mut self, rt: &R, alloc: Global, facts: &Facts)
-        requires desks { AreDesks self.old.nodes.items self.old.desks.items }
+        requires collectors { AreCollectors self.old.nodes.items self.old.collectors.items }
         requires planned { AreOf facts.now.plan self.old.nodes.items }
-        ensures desks { AreDesks self.new.nodes.items self.new.desks.items }
+        ensures collectors { AreCollectors self.new.nodes.items self.new.collectors.items }
         ensures others { (self.new.nodes ≡ self.old.nodes) × (self.new.crews ≡ self.old.crews) }
     {
-        offer_all(rt, alloc, &self.nodes, self.desks.as_mut_slice(), facts);
+        offer_all(
+            rt,
+            alloc,
+            &self.nodes,
+            self.collectors.as_mut_slice(),
+            facts,
+        );
     }
 
     /// Gives each crew senders to all other nodes, and answers where what they send comes out, by place.
     fn connect(&mut self, alloc: Global) -> Result<Vec<Receiver<Packet>>, OutOfMemory>
         requires { length self.old.crews.items ≤ 8 }
         ensures crews { self.new.crews.items ≡ self.old.crews.items }
-        ensures others { (self.new.nodes ≡ self.old.nodes) × (self.new.desks ≡ self.old.desks) }
+        ensures others { (self.new.nodes ≡ self.old.nodes) × (self.new.collectors ≡ self.old.collectors) }
         ensures inboxes { IfOk result (λ inboxes. length inboxes.items ≡ length self.old.crews.items) }
     {
         connect(alloc, self.crews.as_mut_slice())
@@ -196,24 +202,30 @@ impl<J: Fleet + Send + Sync, S: Wait + Drop + Send> Mesh<J, S> {
     fn post<R: Threads + Wait + Sync>(&mut self, rt: &R, alloc: Global)
         requires { AreCrews self.old.nodes.items self.old.crews.items }
         ensures crews { AreCrews self.new.nodes.items self.new.crews.items }
-        ensures others { (self.new.nodes ≡ self.old.nodes) × (self.new.desks ≡ self.old.desks) }
+        ensures others { (self.new.nodes ≡ self.old.nodes) × (self.new.collectors ≡ self.old.collectors) }
     {
         post_all(rt, alloc, &self.nodes, self.crews.as_mut_slice());
     }
 
-    /// Each node's desk takes in what comes to the node.
+    /// Each node's collector takes in what comes to the node.
     fn receive<R: Threads + Wait + Sync>(
         &mut self,
         rt: &R,
         alloc: Global,
         inboxes: &[Receiver<Packet>],
     )
-        requires desks { AreDesks self.old.nodes.items self.old.desks.items }
+        requires collectors { AreCollectors self.old.nodes.items self.old.collectors.items }
         requires inboxes { length inboxes.now ≡ length self.old.nodes.items }
-        ensures desks { AreDesks self.new.nodes.items self.new.desks.items }
+        ensures collectors { AreCollectors self.new.nodes.items self.new.collectors.items }
         ensures others { (self.new.nodes ≡ self.old.nodes) × (self.new.crews ≡ self.old.crews) }
     {
-        receive_each(rt, alloc, &self.nodes, self.desks.as_mut_slice(), inboxes);
+        receive_each(
+            rt,
+            alloc,
+            &self.nodes,
+            self.collectors.as_mut_slice(),
+            inboxes,
+        );
     }
 
     /// Each node's crew searches the node's share of the tasks, and posts what the node knows then.
@@ -227,7 +239,7 @@ impl<J: Fleet + Send + Sync, S: Wait + Drop + Send> Mesh<J, S> {
         requires crews { AreCrews self.old.nodes.items self.old.crews.items }
         requires planned { AreOf (plan_of search.now.shape.value) self.old.nodes.items }
         ensures crews { AreCrews self.new.nodes.items self.new.crews.items }
-        ensures others { (self.new.nodes ≡ self.old.nodes) × (self.new.desks ≡ self.old.desks) }
+        ensures others { (self.new.nodes ≡ self.old.nodes) × (self.new.collectors ≡ self.old.collectors) }
         ensures ended { SharesHaveEnded search.now.shape.value search.now.budget search.now.tasks.items self.new.nodes.items self.new.crews.items }
     {
         search_each(
@@ -247,29 +259,39 @@ impl<J: Fleet + Send + Sync, S: Wait + Drop + Send> Mesh<J, S> {
         alloc: Global,
         facts: &Facts,
     ) -> Result<(), OutOfMemory>
-        requires mesh { IsMesh facts.now.plan self.old.nodes.items self.old.desks.items self.old.crews.items }
+        requires mesh { IsMesh facts.now.plan self.old.nodes.items self.old.collectors.items self.old.crews.items }
         requires few { length self.old.nodes.items ≤ 8 }
         ensures nodes { self.new.nodes ≡ self.old.nodes }
-        ensures mesh { OnOk result (IsMesh facts.now.plan self.new.nodes.items self.new.desks.items self.new.crews.items) }
+        ensures mesh { OnOk result (IsMesh facts.now.plan self.new.nodes.items self.new.collectors.items self.new.crews.items) }
     {
         self.offer(rt, alloc, facts);
         let inboxes = self.connect(alloc)?;
         self.post(rt, alloc);
         self.receive(rt, alloc, &inboxes);
-        checked(&self.desks, &self.crews)
+        checked(&self.collectors, &self.crews)
     }
 
-    /// Whether the first node, as its desk sees it, has these facts, and no others.
+    /// Whether the first node, as its collector sees it, has these facts, and no others.
     pub(crate) fn first_has_all(&mut self, facts: &Facts) -> Result<bool, OutOfMemory>
-        requires mesh { IsMesh facts.now.plan self.old.nodes.items self.old.desks.items self.old.crews.items }
+        requires mesh { IsMesh facts.now.plan self.old.nodes.items self.old.collectors.items self.old.crews.items }
         requires some { 0 < length self.old.nodes.items }
         ensures nodes { self.new.nodes ≡ self.old.nodes }
-        ensures mesh { IsMesh facts.now.plan self.new.nodes.items self.new.desks.items self.new.crews.items }
+        ensures mesh { IsMesh facts.now.plan self.new.nodes.items self.new.collectors.items self.new.crews.items }
     {
-        self.desks[0].has_all(&self.nodes[0], facts)
+        self.collectors[0].has_all(&self.nodes[0], facts)
     }
 
-    /// All crews search the tasks, each its node's share. Then the desks take in what was found at other nodes.
+    /// Whether the first node, as its collector sees it, has these facts and no others, and an order that shows them.
+    pub(crate) fn first_shows(&mut self, facts: &Facts) -> Result<bool, OutOfMemory>
+        requires mesh { IsMesh facts.now.plan self.old.nodes.items self.old.collectors.items self.old.crews.items }
+        requires some { 0 < length self.old.nodes.items }
+        ensures nodes { self.new.nodes ≡ self.old.nodes }
+        ensures mesh { IsMesh facts.now.plan self.new.nodes.items self.new.collectors.items self.new.crews.items }
+    {
+        self.collectors[0].shows(&self.nodes[0], facts)
+    }
+
+    /// All crews search the tasks, each its node's share. Then the collectors take in what was found at other nodes.
     pub(crate) fn search<G: Gate<Prefix> + Sync, R: Threads + Wait + Sync>(
         &mut self,
         rt: &R,
@@ -277,16 +299,16 @@ impl<J: Fleet + Send + Sync, S: Wait + Drop + Send> Mesh<J, S> {
         search: &Search,
         gate: &G,
     ) -> Result<(), OutOfMemory>
-        requires mesh { IsMesh (plan_of search.now.shape.value) self.old.nodes.items self.old.desks.items self.old.crews.items }
+        requires mesh { IsMesh (plan_of search.now.shape.value) self.old.nodes.items self.old.collectors.items self.old.crews.items }
         requires few { length self.old.nodes.items ≤ 8 }
         requires some { 0 < length self.old.nodes.items }
         ensures nodes { self.new.nodes ≡ self.old.nodes }
-        ensures mesh { OnOk result (IsMesh (plan_of search.now.shape.value) self.new.nodes.items self.new.desks.items self.new.crews.items) }
+        ensures mesh { OnOk result (IsMesh (plan_of search.now.shape.value) self.new.nodes.items self.new.collectors.items self.new.crews.items) }
         ensures ended { OnOk result ((t : List Decision) → Contains search.now.tasks.items t → HaveEnded search.now.shape.value search.now.budget self.new.crews.items t) }
     {
         let inboxes = self.connect(alloc)?;
         self.work(rt, alloc, search, gate);
         self.receive(rt, alloc, &inboxes);
-        checked(&self.desks, &self.crews)
+        checked(&self.collectors, &self.crews)
     }
 }

@@ -1,12 +1,12 @@
-//! All nodes of an audit, with their desks and their crews.
+//! All nodes of an audit, with their collectors and their crews.
 
 ghost use Rattle.std.specs.Prelude.{◌≡◌, ◌≤◌, ◌<◌, ◌+◌, ◌++◌, ◌∷◌, [], ℕ, None, IfOk, OnOk, length};
 ghost use Rattle.aud_node.specs.Meanings.{node_of};
-ghost use Rattle.aud_audit.specs.Seats.{AreOpened, Each, IsCrewAt, IsDeskAt};
+ghost use Rattle.aud_audit.specs.Seats.{AreOpened, Each, IsCrewAt, IsCollectorAt};
 ghost use Rattle.aud_audit.specs.Meshes.{IsMesh};
 
+use crate::collector::Collector;
 use crate::crew::Crew;
-use crate::desk::Desk;
 use crate::fault::AuditFault;
 use aud_event::{Dup, OutOfMemory, Plan};
 use aud_gossip::Outbox;
@@ -14,11 +14,11 @@ use aud_node::{Fleet, Opened, Pass, Running, StartFault};
 use std::alloc::Global;
 use std::sync::Wait;
 
-/// The nodes, whose numbers are their places, and at the same places their desks and their crews.
+/// The nodes, whose numbers are their places, and at the same places their collectors and their crews.
 #[derive(Drop)]
 pub(crate) struct Mesh<J: Fleet, S: Wait + Drop> {
     pub nodes: Vec<Running<J, S>>,
-    pub desks: Vec<Desk<J>>,
+    pub collectors: Vec<Collector<J>>,
     pub crews: Vec<Crew<J>>,
 }
 
@@ -34,19 +34,19 @@ pub(crate) fn open_all(alloc: Global, count: u32) -> Result<Vec<Opened>, OutOfMe
     Ok(all)
 }
 
-/// A node that runs, its desk and its crew.
+/// A node that runs, its collector and its crew.
 #[derive(Drop)]
 struct Started<J: Fleet, S: Wait + Drop> {
     node: Running<J, S>,
-    desk: Desk<J>,
+    collector: Collector<J>,
     crew: Crew<J>,
 }
 
-/// The desk of the first pass, and the crew of the others.
+/// The collector of the first pass, and the crew of the others.
 fn seated<J: Fleet>(
     alloc: Global,
     mut passes: Vec<Pass<J>>,
-) -> Result<(Desk<J>, Crew<J>), OutOfMemory>
+) -> Result<(Collector<J>, Crew<J>), OutOfMemory>
     requires { 0 < length passes.items }
     ensures { IfOk result (λ made. (passes.items ≡ made.0.pass ∷ made.1.passes) × (made.1.taken ≡ None)) }
 {
@@ -54,7 +54,7 @@ fn seated<J: Fleet>(
     let Some(pass) = passes.pop() else {
         unreachable!()
     };
-    let desk = Desk {
+    let collector = Collector {
         pass,
         failed: false,
     };
@@ -63,7 +63,7 @@ fn seated<J: Fleet>(
         outbox: Outbox::new(Vec::new(alloc)),
         failed: false,
     };
-    Ok((desk, crew))
+    Ok((collector, crew))
 }
 
 /// Starts the node of a new history, with so many workers.
@@ -78,7 +78,7 @@ fn start_one<J: Fleet, S: Wait + Drop>(
     requires planned { plan.now ≡ J.plan opened.number }
     requires workers { (1 ≤ workers) × (workers ≤ 16) }
     ensures node { IfOk result (λ made. made.node ≡ node_of opened plan.now (workers + 1)) }
-    ensures desk { IfOk result (λ made. IsDeskAt made.node made.desk) }
+    ensures collector { IfOk result (λ made. IsCollectorAt made.node made.collector) }
     ensures crew { IfOk result (λ made. IsCrewAt made.node made.crew) }
 {
     let (node, passes) = match Running::<J, S>::start(rt, alloc, opened, plan.dup()?, workers + 1) {
@@ -87,20 +87,28 @@ fn start_one<J: Fleet, S: Wait + Drop>(
         Err(StartFault::OutOfMemory) => return Err(AuditFault::OutOfMemory),
         Err(StartFault::SeatRange) => unreachable!(),
     };
-    let (desk, crew) = seated(alloc, passes)?;
-    Ok(Started { node, desk, crew })
+    let (collector, crew) = seated(alloc, passes)?;
+    Ok(Started {
+        node,
+        collector,
+        crew,
+    })
 }
 
 impl<J: Fleet, S: Wait + Drop> Mesh<J, S> {
-    /// Puts a node, its desk and its crew after the others.
+    /// Puts a node, its collector and its crew after the others.
     fn add(&mut self, started: Started<J, S>) -> Result<(), OutOfMemory>
         ensures nodes { OnOk result (self.new.nodes.items ≡ self.old.nodes.items ++ started.node ∷ []) }
-        ensures desks { OnOk result (self.new.desks.items ≡ self.old.desks.items ++ started.desk ∷ []) }
+        ensures collectors { OnOk result (self.new.collectors.items ≡ self.old.collectors.items ++ started.collector ∷ []) }
         ensures crews { OnOk result (self.new.crews.items ≡ self.old.crews.items ++ started.crew ∷ []) }
     {
-        let Started { node, desk, crew } = started;
+        let Started {
+            node,
+            collector,
+            crew,
+        } = started;
         self.nodes.push(node)?;
-        self.desks.push(desk)?;
+        self.collectors.push(collector)?;
         self.crews.push(crew)?;
         Ok(())
     }
@@ -117,12 +125,12 @@ pub(crate) fn start_all<'r, J: Fleet, R: Wait>(
     requires opened { AreOpened J.book opened.items }
     requires planned { (i : ℕ) → J.plan i ≡ plan.now }
     requires workers { (1 ≤ workers) × (workers ≤ 16) }
-    ensures mesh { IfOk result (λ mesh. IsMesh plan.now mesh.nodes.items mesh.desks.items mesh.crews.items) }
+    ensures mesh { IfOk result (λ mesh. IsMesh plan.now mesh.nodes.items mesh.collectors.items mesh.crews.items) }
     ensures len { IfOk result (λ mesh. length mesh.nodes.items ≡ length opened.items) }
 {
     let mut mesh = Mesh {
         nodes: Vec::new(alloc),
-        desks: Vec::new(alloc),
+        collectors: Vec::new(alloc),
         crews: Vec::new(alloc),
     };
     for one in opened {

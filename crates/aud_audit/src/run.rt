@@ -5,19 +5,20 @@ ghost use Rattle.std.specs.List.{Contains};
 ghost use Rattle.aud_witness.specs.declared.decision.Decision.{Decision};
 ghost use Rattle.aud_cli.specs.Line.{FactsSay, SetSays};
 ghost use Rattle.aud_cli.specs.Words.{IsAuditJob};
-ghost use Rattle.aud_audit.specs.Lines.{AuditLine, AuditOutcome, AuditSays, IsAuditLine, IsOfAudit};
-ghost use Rattle.aud_audit.specs.Searches.{HaveEnded, IsSearchOf, WasSearched, task_budget};
+ghost use Rattle.aud_findings.specs.Says.{AuditSays};
+ghost use Rattle.aud_findings.specs.Searches.{IsSearchOf, WasSearched, task_budget};
+ghost use Rattle.aud_audit.specs.Lines.{AuditLine, AuditOutcome, IsAuditLine, IsOfAudit};
+ghost use Rattle.aud_audit.specs.Searches.{HaveEnded};
 ghost use Rattle.aud_audit.specs.Seats.{AreOpened};
 ghost use Rattle.aud_audit.specs.Meshes.{IsMesh};
 
 use crate::closing::known_by_all;
 use crate::fault::AuditFault;
-use crate::judging::{Findings, conclude, has_all};
 use crate::mesh::{Mesh, open_all, start_all};
-use crate::searching::{Search, search_of};
 use aud_cli::{AuditJob, Cause, Ended, Input, InputFault, end_of, read_input};
 use aud_event::OutOfMemory;
 use aud_facts::Facts;
+use aud_findings::{Findings, Search, conclude, search_of};
 use aud_node::{Fleet, Opened};
 use aud_pool::Gate;
 use aud_report::{ReadFault, Said, Sink, Source, read_all, write_all, write_line};
@@ -43,7 +44,43 @@ fn search_for(
     }
 }
 
-/// Has the tasks searched, if there are any to search.
+/// How many workers all nodes have.
+fn workers_of(job: &AuditJob) -> usize {
+    (job.nodes as usize).saturating_mul(job.workers as usize)
+}
+
+/// Has the first tasks searched, one for each worker, where there are more, and says whether the first node knows an order that
+/// shows the facts then. Such an order is less than any that begins with another task.
+fn search_first<
+    J: Fleet + Send + Sync,
+    S: Wait + Drop + Send,
+    G: Gate<Prefix> + Sync,
+    R: Threads + Wait + Sync,
+>(
+    rt: &R,
+    alloc: Global,
+    mesh: &mut Mesh<J, S>,
+    facts: &Facts,
+    search: &Search,
+    job: &AuditJob,
+    gate: &G,
+) -> Result<bool, OutOfMemory>
+    requires mesh { IsMesh facts.now.plan mesh.old.nodes.items mesh.old.collectors.items mesh.old.crews.items }
+    requires few { length mesh.old.nodes.items ≤ 8 }
+    requires some { 0 < length mesh.old.nodes.items }
+    requires search { IsSearchOf facts.now search.now.shape.value search.now.tasks.items }
+    ensures nodes { mesh.new.nodes ≡ mesh.old.nodes }
+    ensures mesh { OnOk result (IsMesh facts.now.plan mesh.new.nodes.items mesh.new.collectors.items mesh.new.crews.items) }
+{
+    let Some(first) = search.first(alloc, workers_of(job))? else {
+        return Ok(false);
+    };
+    mesh.search(rt, alloc, &first, gate)?;
+    mesh.first_shows(facts)
+}
+
+/// Has all tasks searched, if there are any, unless the first ones lead to an order that shows the facts. What is answered is the
+/// search if all its tasks ended.
 fn search_tasks<
     J: Fleet + Send + Sync,
     S: Wait + Drop + Send,
@@ -54,21 +91,27 @@ fn search_tasks<
     alloc: Global,
     mesh: &mut Mesh<J, S>,
     facts: &Facts,
-    search: &Option<Search>,
+    search: Option<Search>,
+    job: &AuditJob,
     gate: &G,
-) -> Result<(), OutOfMemory>
-    requires mesh { IsMesh facts.now.plan mesh.old.nodes.items mesh.old.desks.items mesh.old.crews.items }
+) -> Result<Option<Search>, OutOfMemory>
+    requires mesh { IsMesh facts.now.plan mesh.old.nodes.items mesh.old.collectors.items mesh.old.crews.items }
     requires few { length mesh.old.nodes.items ≤ 8 }
     requires some { 0 < length mesh.old.nodes.items }
-    requires search { IfSome search.now (λ s. IsSearchOf facts.now s.shape.value s.tasks.items) }
+    requires search { IfSome search (λ s. (s.budget ≡ task_budget job.now.budget) × IsSearchOf facts.now s.shape.value s.tasks.items) }
     ensures nodes { mesh.new.nodes ≡ mesh.old.nodes }
-    ensures mesh { OnOk result (IsMesh facts.now.plan mesh.new.nodes.items mesh.new.desks.items mesh.new.crews.items) }
-    ensures ended { OnOk result (IfSome search.now (λ s. (t : List Decision) → Contains s.tasks.items t → HaveEnded s.shape.value s.budget mesh.new.crews.items t)) }
+    ensures mesh { OnOk result (IsMesh facts.now.plan mesh.new.nodes.items mesh.new.collectors.items mesh.new.crews.items) }
+    ensures search { IfOk result (λ found. IfSome found (λ s. (s.budget ≡ task_budget job.now.budget) × IsSearchOf facts.now s.shape.value s.tasks.items)) }
+    ensures ended { IfOk result (λ found. IfSome found (λ s. (t : List Decision) → Contains s.tasks.items t → HaveEnded s.shape.value s.budget mesh.new.crews.items t)) }
 {
-    match search {
-        Some(search) => mesh.search(rt, alloc, search, gate),
-        None => Ok(()),
+    let Some(search) = search else {
+        return Ok(None);
+    };
+    if search_first(rt, alloc, mesh, facts, &search, job, gate)? {
+        return Ok(None);
     }
+    mesh.search(rt, alloc, &search, gate)?;
+    Ok(Some(search))
 }
 
 /// What the nodes of new histories find together, each of which has taken its share of the facts.
@@ -89,8 +132,8 @@ fn findings_of<J: Fleet + Send + Sync, G: Gate<Prefix> + Sync, R: Threads + Wait
     let mut mesh = start_all::<J, R>(rt, alloc, opened, facts.plan(), job.workers)?;
     mesh.share(rt, alloc, facts)?;
     let has_all = mesh.first_has_all(facts)?;
-    let search = search_for(alloc, has_all, facts, job.budget)?;
-    search_tasks(rt, alloc, &mut mesh, facts, &search, gate)?;
+    let wanted = search_for(alloc, has_all, facts, job.budget)?;
+    let search = search_tasks(rt, alloc, &mut mesh, facts, wanted, job, gate)?;
     match known_by_all(rt, facts, mesh)? {
         Some(known) => Ok(Findings { known, search }),
         None => unreachable!(),

@@ -2,8 +2,8 @@
 
 ghost use Rattle.std.specs.Prelude.{◌≡◌, IfOk, IsFalse, IsTrue};
 ghost use Rattle.aud_cli.specs.Line.{SetSays};
-ghost use Rattle.aud_audit.specs.Lines.{AuditSays};
-ghost use Rattle.aud_audit.specs.Searches.{HasAll, WasSearched, WasSearchedWith};
+ghost use Rattle.aud_findings.specs.Says.{AuditSays};
+ghost use Rattle.aud_findings.specs.Searches.{HasAll, WasSearched, WasSearchedWith};
 
 use crate::searching::Search;
 use aud_cli::{Question, judge_facts};
@@ -16,15 +16,15 @@ use aud_report::Said;
 use aud_split::laws::{known_is_kept, search_is_said};
 use std::alloc::Global;
 
-/// What all nodes know together, and what was searched, if it was.
+/// What all nodes know together, and what was searched to its end, if anything was.
 #[derive(Drop)]
-pub(crate) struct Findings {
+pub struct Findings {
     pub known: Knowledge,
     pub search: Option<Search>,
 }
 
 /// Whether these facts, and no others, are known.
-pub(crate) fn has_all(known: &Knowledge, facts: &Facts) -> bool
+pub fn has_all(known: &Knowledge, facts: &Facts) -> bool
     ensures { IsTrue result → HasAll facts.now known.now }
 {
     known.plan().same(facts.plan()) && known.facts().same(facts.set())
@@ -50,7 +50,7 @@ fn is_open(verdict: &Verdict, budget: Option<u64>, search: &Option<Search>) -> b
 
 /// What is said of the facts read by what was found: the verdict on what is known, where no others are known and it says what
 /// an audit may; else what is decided anew.
-pub(crate) fn conclude(
+pub fn conclude(
     alloc: Global,
     budget: Option<u64>,
     facts: &Facts,

@@ -1,9 +1,9 @@
 //! What the workers of all nodes search: the tasks of one history.
 
-ghost use Rattle.std.specs.Prelude.{◌≡◌, IfOk, IfSome};
-ghost use Rattle.aud_audit.specs.Searches.{IsSearchOf, task_budget};
+ghost use Rattle.std.specs.Prelude.{◌≡◌, ◌≤◌, None, IfOk, IfSome, length, take};
+ghost use Rattle.aud_findings.specs.Searches.{IsSearchOf, task_budget};
 
-use aud_event::OutOfMemory;
+use aud_event::{Dup, OutOfMemory};
 use aud_facts::Facts;
 use aud_know::well_formed_history;
 use aud_order::Shape;
@@ -18,9 +18,9 @@ const DEPTH: u32 = 2;
 /// The budget of a task where the words say none.
 const BUDGET: u64 = 65_536;
 
-/// The tasks of a history, and how many expansions the search of each may take.
+/// The tasks of a history, in the order of their decisions, and how many expansions the search of each may take.
 #[derive(Drop)]
-pub(crate) struct Search {
+pub struct Search {
     pub shape: Arc<Shape>,
     pub tasks: Vec<Prefix>,
     pub budget: u64,
@@ -33,8 +33,9 @@ fn budget_of(budget: Option<u64>) -> u64
     budget.unwrap_or(BUDGET)
 }
 
-/// The search of the facts' history, if they are sealed and it is well-formed.
-pub(crate) fn search_of(
+/// The search of the facts' history, if they are sealed and it is well-formed. A task has two decisions, or fewer where no order has
+/// so many, and a budget of 65,536 where none is given. It shares the facts.
+pub fn search_of(
     alloc: Global,
     facts: &Facts,
     budget: Option<u64>,
@@ -53,4 +54,25 @@ pub(crate) fn search_of(
         tasks,
         budget: budget_of(budget),
     }))
+}
+
+impl Search {
+    /// The search of the first tasks alone, so many, where there are more. It shares the history.
+    pub fn first(&self, alloc: Global, count: usize) -> Result<Option<Search>, OutOfMemory>
+        ensures some { IfOk result (λ found. IfSome found (λ s. (s.shape.value ≡ self.now.shape.value) × (s.budget ≡ self.now.budget) × (s.tasks.items ≡ take count self.now.tasks.items))) }
+        ensures none { IfOk result (λ found. found ≡ None → length self.now.tasks.items ≤ count) }
+    {
+        if self.tasks.len() <= count {
+            return Ok(None);
+        }
+        let mut tasks = Vec::with_capacity(alloc, count)?;
+        for place in 0..count {
+            tasks.push(self.tasks[place].dup()?)?;
+        }
+        Ok(Some(Search {
+            shape: Arc::try_clone(&self.shape)?,
+            tasks,
+            budget: self.budget,
+        }))
+    }
 }

@@ -4,7 +4,7 @@ ghost use Rattle.std.specs.Prelude.{IfSome};
 ghost use Rattle.aud_cli.specs.Words.{IsAuditJob};
 
 use crate::drawn::drawn;
-use crate::fixtures::{SEEN_REQUEST, TORN_READ, UNSEEN_REQUEST};
+use crate::fixtures::{FIVE_COUNTED, SEEN_REQUEST, TORN_READ, UNSEEN_REQUEST};
 use crate::lines::{said, with_lines};
 use crate::searching::Meeting;
 use aud_audit::{NoGate, audit_said, run_audit};
@@ -249,9 +249,16 @@ fn met<R: Threads + Wait + Sync>(rt: &R, alloc: Global, input: &str) -> Option<(
 
 #[test]
 fn pools_of_two_nodes_work_at_once(rt: HostRuntime) -> Result<(), Fail> {
-    for _ in 0..100 {
-        let met = met(&rt, rt.alloc(), UNSEEN_REQUEST);
-        assert_eq!(rt; met, Some((Ended::Opaque, 4, 0)));
+    // One task of each node first; and all, where none of these leads to an order.
+    let cases = [
+        (UNSEEN_REQUEST, 100, Some((Ended::Opaque, 2, 0))),
+        (FIVE_COUNTED, 3, Some((Ended::NotOpaque, 8, 0))),
+    ];
+    for (input, times, wanted) in cases {
+        for _ in 0..times {
+            let met = met(&rt, rt.alloc(), input);
+            assert_eq!(rt; met, wanted);
+        }
     }
     Ok(())
 }

@@ -126,3 +126,25 @@ pub fn shown<A: Allocator + Copy>(
         Err(_) => Ok(None),
     }
 }
+
+/// Three increments and a get that counts five, all at once.
+pub const FIVE_COUNTED: &str = r#"{"format":1,"logs":1,"objects":1}
+{"kind":"counter","name":"c","open":0}
+{"at":0,"ev":"inv","log":0,"ob":"c","op":"inc","stamp":0,"tx":1}
+{"at":1,"ev":"inv","log":0,"ob":"c","op":"inc","stamp":1,"tx":2}
+{"at":2,"ev":"inv","log":0,"ob":"c","op":"inc","stamp":2,"tx":3}
+{"at":3,"ev":"inv","log":0,"ob":"c","op":"get","stamp":3,"tx":4}
+{"ans":"done","at":4,"ev":"ret","log":0,"ob":"c","op":"inc","stamp":4,"tx":1}
+{"ans":"done","at":5,"ev":"ret","log":0,"ob":"c","op":"inc","stamp":5,"tx":2}
+{"ans":"done","at":6,"ev":"ret","log":0,"ob":"c","op":"inc","stamp":6,"tx":3}
+{"ans":5,"at":7,"ev":"ret","log":0,"ob":"c","op":"get","stamp":7,"tx":4}
+{"at":8,"ev":"tryc","log":0,"stamp":8,"tx":1}
+{"at":9,"ev":"tryc","log":0,"stamp":9,"tx":2}
+{"at":10,"ev":"tryc","log":0,"stamp":10,"tx":3}
+{"at":11,"ev":"tryc","log":0,"stamp":11,"tx":4}
+{"at":12,"ev":"commit","log":0,"stamp":12,"tx":1}
+{"at":13,"ev":"commit","log":0,"stamp":13,"tx":2}
+{"at":14,"ev":"commit","log":0,"stamp":14,"tx":3}
+{"at":15,"ev":"commit","log":0,"stamp":15,"tx":4}
+{"end":16,"log":0}
+"#;

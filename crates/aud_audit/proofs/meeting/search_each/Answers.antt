@@ -5,7 +5,8 @@ use Rattle.aud_node.proofs.Captures.{captures}
 use Rattle.aud_node.proofs.Crosses.{node_sync}
 use Rattle.aud_audit.specs.Seats.{CrewOf, IsCrewAt}
 use Rattle.aud_audit.specs.Searches.{HaveEndedShare}
-use Rattle.aud_audit.proofs.Crosses.{crew_send, search_sync}
+use Rattle.aud_findings.proofs.Crosses.{search_sync}
+use Rattle.aud_audit.proofs.Crosses.{crew_send}
 use Rattle.aud_audit.proofs.meeting.search_each.Goals as goal
 
 pub for_each_mut-requires-send-T : goal.for_each_mut-requires-send-T

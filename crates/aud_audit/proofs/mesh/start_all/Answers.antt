@@ -1,7 +1,7 @@
 use Rattle.std.proofs.Common.{◌≡◌, ◌∙◌, ◌+◌, ◌++◌, ◌∷◌, [], ℕ, List, length, ap, sym, subst, rules, arith, length-append}
 use Rattle.aud_node.specs.Meanings.{NodeOf, OpenedOf}
 use Rattle.aud_audit.specs.Meshes.{IsMesh}
-use Rattle.aud_audit.specs.Seats.{AreOpenedFrom, CrewOf, DeskOf}
+use Rattle.aud_audit.specs.Seats.{AreOpenedFrom, CrewOf, CollectorOf}
 use Rattle.aud_audit.proofs.Meshing.{mesh_add, opened_first, opened_next}
 use Rattle.aud_audit.proofs.mesh.start_all.Goals as goal
 
@@ -12,14 +12,14 @@ loop-one-preserved g c =
     let first : c.in-Some.one.number ≡ length c.loop-one.yielded = opened_first (length c.loop-one.yielded) g.J.Fleet.book c.in-Some.one c.next.new.self.rest.items opened in
     let number : c.in_ok-started.started.node.number ≡ length c.loop-one.mesh.nodes.items = ap (λ (n : NodeOf). n.number) c.in_ok-started.ensures.node ∙ first ∙ sym c.loop-one.invariant.1 in
     let planned : c.in_ok-started.started.node.plan ≡ c.args.plan.now = ap (λ (n : NodeOf). n.plan) c.in_ok-started.ensures.node in
-    let mesh = mesh_add c.args.plan.now c.loop-one.mesh.nodes.items c.loop-one.mesh.desks.items c.loop-one.mesh.crews.items c.in_ok-started.started.node c.in_ok-started.started.desk c.in_ok-started.started.crew
-    c.loop-one.invariant.0 number planned c.in_ok-started.ensures.desk c.in_ok-started.ensures.crew in
+    let mesh = mesh_add c.args.plan.now c.loop-one.mesh.nodes.items c.loop-one.mesh.collectors.items c.loop-one.mesh.crews.items c.in_ok-started.started.node c.in_ok-started.started.collector c.in_ok-started.started.crew
+    c.loop-one.invariant.0 number planned c.in_ok-started.ensures.collector c.in_ok-started.ensures.crew in
     let grown : length c.add.new.self.nodes.items ≡ length c.loop-one.mesh.nodes.items + 1 = ap length c.in_ok-add.ensures.nodes ∙ length-append c.loop-one.mesh.nodes.items (c.in_ok-started.started.node ∷ []) in
     let seen = length-append c.loop-one.yielded (c.in-Some.one ∷ []) in
     let before = c.loop-one.invariant.1 in (
-      subst (λ (l : List NodeOf). IsMesh c.args.plan.now l c.add.new.self.desks.items c.add.new.self.crews.items) (sym c.in_ok-add.ensures.nodes)
-          (subst (λ (l : List DeskOf). IsMesh c.args.plan.now (c.loop-one.mesh.nodes.items ++ c.in_ok-started.started.node ∷ []) l c.add.new.self.crews.items) (sym c.in_ok-add.ensures.desks)
-          (subst (λ (l : List CrewOf). IsMesh c.args.plan.now (c.loop-one.mesh.nodes.items ++ c.in_ok-started.started.node ∷ []) (c.loop-one.mesh.desks.items ++ c.in_ok-started.started.desk ∷ []) l) (sym c.in_ok-add.ensures.crews) mesh)),
+      subst (λ (l : List NodeOf). IsMesh c.args.plan.now l c.add.new.self.collectors.items c.add.new.self.crews.items) (sym c.in_ok-add.ensures.nodes)
+          (subst (λ (l : List CollectorOf). IsMesh c.args.plan.now (c.loop-one.mesh.nodes.items ++ c.in_ok-started.started.node ∷ []) l c.add.new.self.crews.items) (sym c.in_ok-add.ensures.collectors)
+          (subst (λ (l : List CrewOf). IsMesh c.args.plan.now (c.loop-one.mesh.nodes.items ++ c.in_ok-started.started.node ∷ []) (c.loop-one.mesh.collectors.items ++ c.in_ok-started.started.collector ∷ []) l) (sym c.in_ok-add.ensures.crews) mesh)),
       omega (arith, grown, seen, before),
       subst (λ (m : ℕ). AreOpenedFrom m g.J.Fleet.book c.next.new.self.rest.items) (sym seen) (opened_next (length c.loop-one.yielded) g.J.Fleet.book c.in-Some.one c.next.new.self.rest.items opened),
     )

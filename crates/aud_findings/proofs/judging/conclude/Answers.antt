@@ -1,8 +1,8 @@
 use Rattle.std.proofs.Common.{◌≡◌, rules}
 use Rattle.aud_know.specs.declared.verdict.Verdict.TheVariants as verdict
-use Rattle.aud_audit.specs.Searches.{HasAll, WasSearchedWith}
-use Rattle.aud_audit.proofs.Saying.{said_of}
-use Rattle.aud_audit.proofs.judging.conclude.Goals as goal
+use Rattle.aud_findings.specs.Searches.{HasAll, WasSearchedWith}
+use Rattle.aud_findings.proofs.Saying.{said_of}
+use Rattle.aud_findings.proofs.judging.conclude.Goals as goal
 
 pub returns : goal.returns
 returns c =

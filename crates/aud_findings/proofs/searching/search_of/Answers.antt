@@ -3,7 +3,7 @@ use Rattle.aud_facts.specs.Sets.{IsSealedWith, SealedOf}
 use Rattle.aud_history.specs.WellFormed.{IsWellFormed}
 use Rattle.aud_order.specs.Shapes.{objects_of, history_of}
 use Rattle.aud_split.specs.Tasks.{AreTasks}
-use Rattle.aud_audit.proofs.searching.search_of.Goals as goal
+use Rattle.aud_findings.proofs.searching.search_of.Goals as goal
 
 pub returns : goal.returns
 returns c =

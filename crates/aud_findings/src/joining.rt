@@ -1,0 +1,30 @@
+//! What two nodes know together.
+
+ghost use Rattle.std.specs.Prelude.{◌≡◌, ℕ, List, IfOk};
+ghost use Rattle.aud_witness.specs.declared.decision.Decision.{Decision};
+ghost use Rattle.aud_order.specs.Shapes.{ShapeOf};
+ghost use Rattle.aud_findings.specs.Searches.{KnowsEnd};
+
+use aud_event::OutOfMemory;
+use aud_know::laws::knowledge_is_norm;
+use aud_know::{KnowFault, Knowledge};
+use aud_split::laws::known_is_kept;
+
+/// What both know, which are of one plan: what they say of the end of a task is known then. What either has of the other is shared.
+pub fn joined(one: Knowledge, other: &Knowledge) -> Result<Knowledge, OutOfMemory>
+    requires { one.plan ≡ other.now.plan }
+    ensures plan { IfOk result (λ k. k.plan ≡ one.plan) }
+    ensures one { IfOk result (λ k. (s : ShapeOf) (budget : ℕ) (t : List Decision) → KnowsEnd s budget one t → KnowsEnd s budget k t) }
+    ensures other { IfOk result (λ k. (s : ShapeOf) (budget : ℕ) (t : List Decision) → KnowsEnd s budget other.now t → KnowsEnd s budget k t) }
+{
+    known_is_kept();
+    knowledge_is_norm();
+    let _one = one.facts();
+    let _other = other.facts();
+    let mut all = one;
+    match all.join(other) {
+        Ok(()) => Ok(all),
+        Err(KnowFault::OutOfMemory) => Err(OutOfMemory),
+        Err(KnowFault::PlanMismatch) => unreachable!(),
+    }
+}
