@@ -5,8 +5,8 @@ WORD only the inputs run whose names have it.
 The full size is that of bench/search.py (64 logs, 1,024 transactions of 254 records, 256 objects), four transactions at a time, in
 the order of their ends, as it is and with one read near the end spoiled; beside it the large input of bench/check.py, of 262,144
 records. The hard refutations have all invocations before any other event, and no order shows them: an audit splits them into tasks,
-and each task begins with an empty memo. Each is run three times, and the least time by the clock, the least processor time and the
-most memory are printed."""
+and a worker remembers what it refuted below its earlier tasks. Each is run three times, and the least time by the clock, the least
+processor time and the most memory are printed."""
 
 import os
 import subprocess
@@ -50,7 +50,7 @@ def inputs():
     yield "large, 64 logs, 262,144 records", lambda: made(64, 262144)[0], "opaque"
     yield "full size, 4 at a time, by ends", lambda: full_size(4, "ends", False)[0], "opaque"
     yield "full size, 4 at a time, by ends, one read spoiled", lambda: full_size(4, "ends", True)[0], "not opaque"
-    for count in (12, 16):
+    for count in (12, 16, 20):
         yield f"{count} increments and a bad get", lambda count=count: counted(count), "not opaque"
     for count in (10, 14):
         yield f"{count} writers of one object and a bad read", lambda count=count: written(count), "not opaque"
