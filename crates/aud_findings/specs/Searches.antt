@@ -1,6 +1,7 @@
 -- The search of a history by tasks, and what is known of the ends of its tasks.
 use Rattle.std.specs.Prelude.{◌≡◌, ◌⊎◌, ℕ, List, [], Option, Some, None, ⊤}
 use Rattle.std.specs.List.{Contains}
+use Rattle.std.specs.declared.alloc.Global.{Global}
 use Rattle.aud_facts.specs.Sets.{FactsOf, IsSealedWith}
 use Rattle.aud_history.specs.WellFormed.{IsWellFormed}
 use Rattle.aud_witness.specs.declared.decision.Decision.{Decision}
@@ -8,6 +9,8 @@ use Rattle.aud_order.specs.Shapes.{ShapeOf, objects_of, history_of}
 use Rattle.aud_cover.specs.Closings.{IsCovered}
 use Rattle.aud_search.specs.Searches.{SpentBy}
 use Rattle.aud_know.specs.Known.{KnowledgeOf}
+use Rattle.aud_know.specs.Verdicts.{FactsTellAtOnce}
+use Rattle.aud_know.specs.declared.verdict.Verdict.{Verdict}
 use Rattle.aud_split.specs.Searched.{HasWitness}
 use Rattle.aud_split.specs.Tasks.{AreTasks}
 use Rattle.aud_findings.specs.declared.searching.Search.{Search}
@@ -25,6 +28,10 @@ pub record IsSearchOf (facts : FactsOf) (s : ShapeOf) (tasks : List (List Decisi
   pub sealed : IsSealedWith facts s.sealed.history
   pub well_formed : IsWellFormed s.sealed.history
   pub split : AreTasks (objects_of s) (history_of s) [] 2 tasks
+
+-- a verdict on these facts needs no search: they are not sealed, or their history is not well-formed
+abbrev pub IsToldAtOnce : FactsOf → Type 0
+IsToldAtOnce facts = (told : Verdict Global) × FactsTellAtOnce facts.plan.logs facts.facts told
 
 -- # Their ends
 

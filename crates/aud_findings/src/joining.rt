@@ -3,6 +3,8 @@
 ghost use Rattle.std.specs.Prelude.{◌≡◌, ℕ, List, IfOk};
 ghost use Rattle.aud_witness.specs.declared.decision.Decision.{Decision};
 ghost use Rattle.aud_order.specs.Shapes.{ShapeOf};
+ghost use Rattle.aud_know.specs.Known.{Takes};
+ghost use Rattle.aud_know.specs.Norms.{atoms_of};
 ghost use Rattle.aud_findings.specs.Searches.{KnowsEnd};
 
 use aud_event::OutOfMemory;
@@ -13,6 +15,7 @@ use aud_split::laws::known_is_kept;
 /// What both know, which are of one plan: what they say of the end of a task is known then. What either has of the other is shared.
 pub fn joined(one: Knowledge, other: &Knowledge) -> Result<Knowledge, OutOfMemory>
     requires { one.plan ≡ other.now.plan }
+    ensures taken { IfOk result (λ k. Takes one.held k.held (atoms_of other.now.held)) }
     ensures plan { IfOk result (λ k. k.plan ≡ one.plan) }
     ensures one { IfOk result (λ k. (s : ShapeOf) (budget : ℕ) (t : List Decision) → KnowsEnd s budget one t → KnowsEnd s budget k t) }
     ensures other { IfOk result (λ k. (s : ShapeOf) (budget : ℕ) (t : List Decision) → KnowsEnd s budget other.now t → KnowsEnd s budget k t) }

@@ -1,6 +1,6 @@
 //! What is said at the end of an audit.
 
-ghost use Rattle.std.specs.Prelude.{◌≡◌, IfOk, IsFalse, IsTrue};
+ghost use Rattle.std.specs.Prelude.{◌≡◌, ◌↔◌, IfOk, IsFalse, IsTrue};
 ghost use Rattle.aud_cli.specs.Line.{SetSays};
 ghost use Rattle.aud_findings.specs.Says.{AuditSays};
 ghost use Rattle.aud_findings.specs.Searches.{HasAll, WasSearched, WasSearchedWith};
@@ -25,7 +25,7 @@ pub struct Findings {
 
 /// Whether these facts, and no others, are known.
 pub fn has_all(known: &Knowledge, facts: &Facts) -> bool
-    ensures { IsTrue result → HasAll facts.now known.now }
+    ensures { IsTrue result ↔ HasAll facts.now known.now }
 {
     known.plan().same(facts.plan()) && known.facts().same(facts.set())
 }

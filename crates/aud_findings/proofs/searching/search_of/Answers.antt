@@ -5,8 +5,8 @@ use Rattle.aud_order.specs.Shapes.{objects_of, history_of}
 use Rattle.aud_split.specs.Tasks.{AreTasks}
 use Rattle.aud_findings.proofs.searching.search_of.Goals as goal
 
-pub returns : goal.returns
-returns c =
+pub returns-clause-some : goal.returns-clause-some
+returns-clause-some c =
     let s = c.in_ok-shape.shape.value in
     let facts : s.sealed.facts ≡ c.args.facts.now = search rules in
     let sealed : IsSealedWith c.args.facts.now s.sealed.history = search rules in
