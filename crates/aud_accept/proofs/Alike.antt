@@ -1,8 +1,6 @@
 -- Lists that lead alike.
 use Rattle.std.specs.Prelude.{◌≡◌, ◌↔◌, ℕ, Bool, true, false, IsTrue, nat_eq, List, [], ◌∷◌, map, refl}
 use Rattle.std.specs.List.{list_any}
-use Rattle.std.specs.Cmp.Lexicographic.{pointwise}
-use Rattle.std.proofs.Math.Bool.{beq}
 use Rattle.std.proofs.Common.{sym, ◌∙◌, ap, subst, inl, inr}
 use Rattle.aud_event.specs.Meanings.{Declared}
 use Rattle.aud_event.proofs.Bools.{split, nat_eq-is}
@@ -17,6 +15,8 @@ use Rattle.aud_witness.proofs.Good.{place_of}
 use Rattle.aud_order.specs.Shapes.{ShapeOf, objects_of, history_of}
 use Rattle.aud_order.specs.Cursors.{CursorOf}
 use Rattle.aud_accept.specs.Acceptance.{LeadAlike}
+use Rattle.aud_order.proofs.Moves.{map-named}
+use Rattle.aud_order.proofs.Lengths.{named-good}
 
 -- what two tests say of the numbers of a list
 mapped-same : (f g : ℕ → Bool) (ts : List ℕ) (t : ℕ) → map f ts ≡ map g ts → list_any (nat_eq t) ts ≡ true → f t ≡ g t
@@ -26,16 +26,6 @@ mapped-same f g (u ∷ ts) t same there =
       | inl is ↦ let e : t ≡ u = nat_eq-is t u is in let head : f u ≡ g u = cc in ap f e ∙ head ∙ ap g (sym e)
       | inr off ↦ let tail : map f ts ≡ map g ts = cc in mapped-same f g ts t tail (cc)
     ]
-
-same-mapped : (f g : ℕ → Bool) (ts : List ℕ) → ((t : ℕ) → f t ≡ g t) → map f ts ≡ map g ts
-same-mapped f g [] same = refl
-same-mapped f g (t ∷ ts) same = λ i. same t i ∷ same-mapped f g ts same i
-
--- a good list names no other transactions
-named-in : (objects : List Declared) (h : History) (p : List Decision) (t : ℕ) → IsGood objects h p → is_named p t ≡ true → is_in h t ≡ true
-named-in objects h p t good named =
-    let (before, (d, (rest, (whole, is, new)))) = place_of p t named in
-    subst (λ (u : ℕ). is_in h u ≡ true) is (good before d rest whole).in_history
 
 named-same : (objects : List Declared) (h : History) (p q : List Decision) → IsGood objects h p → IsGood objects h q →
     map (is_named p) (transactions h) ≡ map (is_named q) (transactions h) → (t : ℕ) → is_named p t ≡ is_named q t
@@ -48,7 +38,7 @@ named-same objects h p q good other same t =
     off : (l : List Decision) → IsGood objects h l → is_in h t ≡ false → is_named l t ≡ false
     off l fine absent =
         elim (split (is_named l t)) [
-          | inl named ↦ let clash : is_in h t ≡ true = named-in objects h l t fine named in absurd (cc)
+          | inl named ↦ let clash : is_in h t ≡ true = named-good objects h l t fine named in absurd (cc)
           | inr fails ↦ fails
         ]
 
@@ -67,7 +57,7 @@ pub not-alike : (c e : CursorOf) (xs ys : List Bool) (b : Bool) → e.shape ≡ 
     IsTrue false ↔ AreAlike c e
 not-alike c e xs ys b shape here there test fails = (
   (λ x. absurd (cc)),
-  λ alike. let clash : b ≡ true = test.1 (here ∙ same-mapped (is_named c.path) (is_named e.path) (transactions (history_of c.shape)) alike.placed
+  λ alike. let clash : b ≡ true = test.1 (here ∙ map-named (is_named c.path) (is_named e.path) (transactions (history_of c.shape)) alike.placed
       ∙ ap (λ (s : ShapeOf). map (is_named e.path) (transactions (history_of s))) (sym shape) ∙ sym there) in absurd (cc),
 )
 

@@ -1,8 +1,9 @@
 //! A cursor taken from one prefix to another, over what the two begin with in common.
 
-ghost use Rattle.std.specs.Prelude.{◌≡◌, ◌↔◌, ◌≤◌, length, take, IfOk, OnOk, IsTrue};
+ghost use Rattle.std.specs.Prelude.{◌≡◌, ◌↔◌, ◌≤◌, false, length, take, IfOk, OnOk, IsTrue};
 ghost use Rattle.aud_witness.specs.Orders.{IsGood};
 ghost use Rattle.aud_order.specs.Shapes.{objects_of, history_of};
+ghost use Rattle.aud_accept.specs.Moves.{StaysBefore};
 
 use aud_event::OutOfMemory;
 use aud_order::Cursor;
@@ -41,8 +42,8 @@ fn go_back<A: Allocator + Copy>(cursor: &mut Cursor<A>, depth: usize)
     }
 }
 
-/// Takes the cursor to a list, and says whether the list is good. Where it is not, the cursor stays before a decision of it
-/// that is not good there.
+/// Takes the cursor to a list, and says whether the list is good. Where it is not, the cursor stays before the first decision of
+/// it that is not good there.
 pub fn go_to<A: Allocator + Copy>(
     cursor: &mut Cursor<A>,
     decisions: &[Decision],
@@ -50,11 +51,13 @@ pub fn go_to<A: Allocator + Copy>(
     ensures shape { OnOk result (cursor.new.shape ≡ cursor.old.shape) }
     ensures there { IfOk result (λ good. IsTrue good → cursor.new ≡ record { shape = cursor.old.shape; path = decisions.now }) }
     ensures good { IfOk result (λ good. IsTrue good ↔ IsGood (objects_of cursor.old.shape) (history_of cursor.old.shape) decisions.now) }
+    ensures stays { IfOk result (λ good. good ≡ false → StaysBefore (objects_of cursor.old.shape) (history_of cursor.old.shape) decisions.now cursor.new.path) }
 {
     let depth = in_common(cursor.prefix(), decisions);
     go_back(cursor, depth);
     for place in depth..decisions.len() {
         if !cursor.push(decisions[place])?.is_good() {
+            let _ = cursor.prefix();
             return Ok(false);
         }
     }

@@ -109,10 +109,6 @@ share_same tasks nodes number place share new is other before =
     (λ k lt d e. subst (λ (l : List (List Decision)). Contains l (get_or tasks k d)) (sym is) (before k lt d e))
     (λ d e. absurd (other e))
 
-pub unnegated : (b : Bool) → not b ≡ false → b ≡ true
-unnegated true e = refl
-unnegated false e = sym e
-
 -- # What was searched
 
 -- where the end of each task of a search is known, it was searched

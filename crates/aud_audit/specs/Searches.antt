@@ -7,6 +7,9 @@ use Rattle.aud_node.specs.Logs.{atoms_in}
 use Rattle.aud_node.specs.Meanings.{NodeOf, PassOf}
 use Rattle.aud_split.specs.Searched.{IsEndedBy}
 use Rattle.aud_audit.specs.Seats.{CrewOf}
+use Rattle.aud_know.specs.Known.{KnowledgeOf}
+use Rattle.aud_findings.specs.Searches.{KnowsEnd}
+use Rattle.aud_findings.specs.declared.searching.Search.{Search}
 
 -- # The tasks
 
@@ -31,3 +34,25 @@ pub record SharesHaveEnded (s : ShapeOf) (budget : ℕ) (tasks : List (List Deci
 -- a task ended by what a pass of one of the crews has seen
 abbrev pub HaveEnded : ShapeOf → ℕ → List CrewOf → List Decision → Type 0
 HaveEnded s budget crews t = (c : CrewOf) × (Contains crews c × HasEnded s budget c.passes t)
+
+-- each task of the node's share of the search ended by what one of the passes has seen
+abbrev pub ShareHasEnded : Search → ℕ → ℕ → List PassOf → Type 0
+ShareHasEnded s nodes number passes = HaveEndedShare s.shape.value s.budget s.tasks.items nodes number passes
+
+-- of each crew that did not fail each task of its node's share of the search ended
+abbrev pub CrewsHaveEnded : Search → List NodeOf → List CrewOf → Type 0
+CrewsHaveEnded s nodes crews = SharesHaveEnded s.shape.value s.budget s.tasks.items nodes crews
+
+-- each task of the search ended by what a pass of one of the crews has seen
+abbrev pub SearchHasEnded : Search → List CrewOf → Type 0
+SearchHasEnded s crews = (t : List Decision) → Contains s.tasks.items t → HaveEnded s.shape.value s.budget crews t
+
+-- # What is known of them
+
+-- of each task that ended by what one of the passes has seen the end is known
+abbrev pub KnowsEndsOf : List PassOf → KnowledgeOf → Type 0
+KnowsEndsOf passes k = (s : ShapeOf) (budget : ℕ) (t : List Decision) → HasEnded s budget passes t → KnowsEnd s budget k t
+
+-- of each task that ended by what a pass of one of the crews has seen the end is known
+abbrev pub KnowsAllEnds : List CrewOf → KnowledgeOf → Type 0
+KnowsAllEnds crews k = (s : ShapeOf) (budget : ℕ) (t : List Decision) → HaveEnded s budget crews t → KnowsEnd s budget k t

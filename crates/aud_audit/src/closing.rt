@@ -5,7 +5,7 @@ ghost use Rattle.aud_witness.specs.declared.decision.Decision.{Decision};
 ghost use Rattle.aud_order.specs.Shapes.{ShapeOf};
 ghost use Rattle.aud_audit.specs.Seats.{IsCrewAt, IsCollectorAt};
 ghost use Rattle.aud_findings.specs.Searches.{KnowsEnd};
-ghost use Rattle.aud_audit.specs.Searches.{HasEnded, HaveEnded};
+ghost use Rattle.aud_audit.specs.Searches.{HasEnded, HaveEnded, KnowsEndsOf, KnowsAllEnds};
 ghost use Rattle.aud_audit.specs.Meshes.{IsMesh};
 
 use crate::collector::Collector;
@@ -46,7 +46,7 @@ fn known_by<J: Fleet, S: Wait + Drop, R: Wait>(
     requires collector { IsCollectorAt node collector }
     requires crew { IsCrewAt node crew }
     ensures plan { IfOk result (λ k. k.plan ≡ node.plan) }
-    ensures ends { IfOk result (λ k. (s : ShapeOf) (budget : ℕ) (t : List Decision) → HasEnded s budget crew.passes t → KnowsEnd s budget k t) }
+    ensures ends { IfOk result (KnowsEndsOf crew.passes) }
 {
     known_is_kept();
     let passes = all_passes(collector, crew)?;
@@ -65,7 +65,7 @@ pub(crate) fn known_by_all<J: Fleet, S: Wait + Drop, R: Wait>(
     requires { IsMesh facts.now.plan mesh.nodes.items mesh.collectors.items mesh.crews.items }
     ensures some { IfOk result (λ found. found ≡ None → (mesh.nodes.items ≡ []) × (mesh.crews.items ≡ [])) }
     ensures plan { IfOk result (λ found. IfSome found (λ k. k.plan ≡ facts.now.plan)) }
-    ensures ends { IfOk result (λ found. IfSome found (λ k. (s : ShapeOf) (budget : ℕ) (t : List Decision) → HaveEnded s budget mesh.crews.items t → KnowsEnd s budget k t)) }
+    ensures ends { IfOk result (λ found. IfSome found (KnowsAllEnds mesh.crews.items)) }
 {
     let Mesh {
         mut nodes,

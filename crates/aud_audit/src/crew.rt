@@ -6,7 +6,7 @@ ghost use Rattle.aud_split.specs.Pools.{MayRun};
 ghost use Rattle.aud_gossip.specs.Receiving.{GoesFurther};
 ghost use Rattle.aud_order.specs.Shapes.{plan_of};
 ghost use Rattle.aud_audit.specs.Seats.{AreLater, IsCrewAt, IsTakenOf};
-ghost use Rattle.aud_audit.specs.Searches.{HaveEndedShare, IsShare};
+ghost use Rattle.aud_audit.specs.Searches.{HaveEndedShare, IsShare, ShareHasEnded};
 
 use aud_event::{Dup, OutOfMemory};
 use aud_findings::Search;
@@ -76,7 +76,7 @@ fn search_share<
     requires some { 0 < nodes }
     requires may { MayRun node.now passes.items search.now.shape.value }
     ensures later { AreLater passes.items result.0.items }
-    ensures ended { result.1 ≡ true → HaveEndedShare search.now.shape.value search.now.budget search.now.tasks.items nodes node.now.number result.0.items }
+    ensures ended { result.1 ≡ true → ShareHasEnded search.now nodes node.now.number result.0.items }
 {
     pool_ends_all();
     let Ok(tasks) = share_of(alloc, &search.tasks, nodes, node.number() as usize) else {
@@ -160,7 +160,7 @@ impl<J: Fleet + Send + Sync> Crew<J> {
         requires at { IsCrewAt node.now self.old }
         requires planned { plan_of search.now.shape.value ≡ node.now.plan }
         ensures crew { IsCrewAt node.now self.new }
-        ensures ended { self.new.failed ≡ false → HaveEndedShare search.now.shape.value search.now.budget search.now.tasks.items nodes node.now.number self.new.passes }
+        ensures ended { self.new.failed ≡ false → ShareHasEnded search.now nodes node.now.number self.new.passes }
     {
         let passes = replace(&mut self.passes, Vec::new(alloc));
         let (passes, ended) = search_share(rt, alloc, node, passes, search, gate, nodes);

@@ -5,8 +5,8 @@ ghost use Rattle.std.specs.List.{Contains, HoldsAt};
 ghost use Rattle.aud_witness.specs.declared.decision.Decision.{Decision};
 ghost use Rattle.aud_order.specs.Shapes.{plan_of};
 ghost use Rattle.aud_audit.specs.Seats.{AreOf, AreCrews, AreCollectors, IsCrewAt, IsCollectorAt};
-ghost use Rattle.aud_audit.specs.Searches.{HaveEnded, HaveEndedShare, SharesHaveEnded};
-ghost use Rattle.aud_audit.specs.Meshes.{IsMesh};
+ghost use Rattle.aud_audit.specs.Searches.{HaveEnded, HaveEndedShare, SharesHaveEnded, SearchHasEnded, CrewsHaveEnded, ShareHasEnded};
+ghost use Rattle.aud_audit.specs.Meshes.{IsMesh, IsMeshFor};
 
 use crate::collector::Collector;
 use crate::crew::Crew;
@@ -143,12 +143,12 @@ fn search_each<
     requires crews { AreCrews nodes.now crews.old }
     requires planned { AreOf (plan_of search.now.shape.value) nodes.now }
     ensures crews { AreCrews nodes.now crews.new }
-    ensures ended { SharesHaveEnded search.now.shape.value search.now.budget search.now.tasks.items nodes.now crews.new }
+    ensures ended { CrewsHaveEnded search.now nodes.now crews.new }
 {
     let each = |place: usize, crew: &mut Crew<J>|
         requires { (place < length nodes.now) × AreOf (plan_of search.now.shape.value) nodes.now × HoldsAt (λ n. IsCrewAt n crew.now) nodes.now place }
         ensures { HoldsAt (λ n. IsCrewAt n crew.exit.now × (crew.exit.now.failed ≡ false →
-            HaveEndedShare search.entry.now.shape.value search.entry.now.budget search.entry.now.tasks.items (length nodes.entry.now) n.number crew.exit.now.passes)) nodes.entry.now place }
+            ShareHasEnded search.entry.now (length nodes.entry.now) n.number crew.exit.now.passes)) nodes.entry.now place }
     { crew.search(rt, alloc, &nodes[place], search, gate, nodes.len()) };
     thread::for_each_mut(rt, crews, NODES_MAX, &each);
 }
@@ -240,7 +240,7 @@ impl<J: Fleet + Send + Sync, S: Wait + Drop + Send> Mesh<J, S> {
         requires planned { AreOf (plan_of search.now.shape.value) self.old.nodes.items }
         ensures crews { AreCrews self.new.nodes.items self.new.crews.items }
         ensures others { (self.new.nodes ≡ self.old.nodes) × (self.new.collectors ≡ self.old.collectors) }
-        ensures ended { SharesHaveEnded search.now.shape.value search.now.budget search.now.tasks.items self.new.nodes.items self.new.crews.items }
+        ensures ended { CrewsHaveEnded search.now self.new.nodes.items self.new.crews.items }
     {
         search_each(
             rt,
@@ -299,12 +299,12 @@ impl<J: Fleet + Send + Sync, S: Wait + Drop + Send> Mesh<J, S> {
         search: &Search,
         gate: &G,
     ) -> Result<(), OutOfMemory>
-        requires mesh { IsMesh (plan_of search.now.shape.value) self.old.nodes.items self.old.collectors.items self.old.crews.items }
+        requires mesh { IsMeshFor search.now self.old.nodes.items self.old.collectors.items self.old.crews.items }
         requires few { length self.old.nodes.items ≤ 8 }
         requires some { 0 < length self.old.nodes.items }
         ensures nodes { self.new.nodes ≡ self.old.nodes }
-        ensures mesh { OnOk result (IsMesh (plan_of search.now.shape.value) self.new.nodes.items self.new.collectors.items self.new.crews.items) }
-        ensures ended { OnOk result ((t : List Decision) → Contains search.now.tasks.items t → HaveEnded search.now.shape.value search.now.budget self.new.crews.items t) }
+        ensures mesh { OnOk result (IsMeshFor search.now self.new.nodes.items self.new.collectors.items self.new.crews.items) }
+        ensures ended { OnOk result (SearchHasEnded search.now self.new.crews.items) }
     {
         let inboxes = self.connect(alloc)?;
         self.work(rt, alloc, search, gate);

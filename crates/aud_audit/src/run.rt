@@ -6,9 +6,9 @@ ghost use Rattle.aud_witness.specs.declared.decision.Decision.{Decision};
 ghost use Rattle.aud_cli.specs.Line.{FactsSay, SetSays};
 ghost use Rattle.aud_cli.specs.Words.{IsAuditJob};
 ghost use Rattle.aud_findings.specs.Says.{AuditSays};
-ghost use Rattle.aud_findings.specs.Searches.{IsSearchOf, WasSearched, task_budget};
+ghost use Rattle.aud_findings.specs.Searches.{IsSearchOf, WasSearched, task_budget, IsSearchWith};
 ghost use Rattle.aud_audit.specs.Lines.{AuditLine, AuditOutcome, IsAuditLine, IsOfAudit};
-ghost use Rattle.aud_audit.specs.Searches.{HaveEnded};
+ghost use Rattle.aud_audit.specs.Searches.{HaveEnded, SearchHasEnded};
 ghost use Rattle.aud_audit.specs.Seats.{AreOpened};
 ghost use Rattle.aud_audit.specs.Meshes.{IsMesh};
 
@@ -35,7 +35,7 @@ fn search_for(
     facts: &Facts,
     budget: Option<u64>,
 ) -> Result<Option<Search>, OutOfMemory>
-    ensures { IfOk result (λ found. IfSome found (λ s. (s.budget ≡ task_budget budget) × IsSearchOf facts.now s.shape.value s.tasks.items)) }
+    ensures { IfOk result (λ found. IfSome found (IsSearchWith facts.now budget)) }
 {
     if has_all {
         search_of(alloc, facts, budget)
@@ -98,11 +98,11 @@ fn search_tasks<
     requires mesh { IsMesh facts.now.plan mesh.old.nodes.items mesh.old.collectors.items mesh.old.crews.items }
     requires few { length mesh.old.nodes.items ≤ 8 }
     requires some { 0 < length mesh.old.nodes.items }
-    requires search { IfSome search (λ s. (s.budget ≡ task_budget job.now.budget) × IsSearchOf facts.now s.shape.value s.tasks.items) }
+    requires search { IfSome search (IsSearchWith facts.now job.now.budget) }
     ensures nodes { mesh.new.nodes ≡ mesh.old.nodes }
     ensures mesh { OnOk result (IsMesh facts.now.plan mesh.new.nodes.items mesh.new.collectors.items mesh.new.crews.items) }
-    ensures search { IfOk result (λ found. IfSome found (λ s. (s.budget ≡ task_budget job.now.budget) × IsSearchOf facts.now s.shape.value s.tasks.items)) }
-    ensures ended { IfOk result (λ found. IfSome found (λ s. (t : List Decision) → Contains s.tasks.items t → HaveEnded s.shape.value s.budget mesh.new.crews.items t)) }
+    ensures search { IfOk result (λ found. IfSome found (IsSearchWith facts.now job.now.budget)) }
+    ensures ended { IfOk result (λ found. IfSome found (λ s. SearchHasEnded s mesh.new.crews.items)) }
 {
     let Some(search) = search else {
         return Ok(None);

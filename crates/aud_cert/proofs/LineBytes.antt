@@ -8,11 +8,11 @@ use Rattle.std.proofs.lemmas.List.Elements.{All-head, All-tail, All-cons, All-ni
 use Rattle.aud_witness.specs.declared.decision.Decision.{Decision}
 use Rattle.aud_text.specs.Lines.{lines_of}
 use Rattle.aud_text.specs.Orders.{order_text}
-use Rattle.aud_text.proofs.Sound.{both}
 use Rattle.aud_accept.specs.declared.cert.CertLine.TheVariants.{Kids, Silent, Same}
 use Rattle.aud_cert.specs.LineText.{Line}
 use Rattle.aud_cert.specs.Written.{line_text, header_text, IsShort, HasShort}
 use Rattle.aud_cert.proofs.Bytes.{IsPlainByte, ArePlain, decimal-plain, order-plain}
+use Rattle.aud_event.proofs.Bools.{and_true}
 
 abbrev is_text : ℕ → Bool
 is_text b = nat_le 32 b && nat_lt b 128
@@ -22,7 +22,7 @@ are_text = list_all is_text
 
 are-both : (s t : List ℕ) → are_text s ≡ true → are_text t ≡ true → are_text (s ++ t) ≡ true
 are-both [] t h g = g
-are-both (b ∷ bs) t h g = let parts = both (is_text b) (are_text bs) h in rw (parts.0, are-both bs t parts.1 g) refl
+are-both (b ∷ bs) t h g = let parts = and_true (is_text b) (are_text bs) h in rw (parts.0, are-both bs t parts.1 g) refl
 
 plain-is_text : (b : ℕ) → IsPlainByte b → is_text b ≡ true
 plain-is_text b p =
@@ -55,8 +55,8 @@ header-are_text n h = are-both (codes "{\"cert\":") (decimal n ++ codes "}") ref
 ascii : (s : List ℕ) → are_text s ≡ true → All (λ b. b < 128) s
 ascii [] h = All-nil (λ b. b < 128)
 ascii (b ∷ bs) h =
-    let parts = both (is_text b) (are_text bs) h in
-    let high = (both (nat_le 32 b) (nat_lt b 128) parts.0).1 in
+    let parts = and_true (is_text b) (are_text bs) h in
+    let high = (and_true (nat_le 32 b) (nat_lt b 128) parts.0).1 in
     All-cons (λ b. b < 128) b bs (grind (arith, high)) (ascii bs parts.1)
 
 pub text-utf8 : (s : List ℕ) → are_text s ≡ true → IsUtf8 s
@@ -66,7 +66,7 @@ text-utf8 s h = IsUtf8-from_ascii s (IsAscii-from_all s (ascii s h))
 pub first-of : (line rest : List ℕ) → are_text line ≡ true → lines_of (line ++ 10 ∷ rest) ≡ line ∷ lines_of rest
 first-of [] rest h = refl
 first-of (b ∷ bs) rest h =
-    let parts = both (is_text b) (are_text bs) h in
-    let low = (both (nat_le 32 b) (nat_lt b 128) parts.0).0 in
+    let parts = and_true (is_text b) (are_text bs) h in
+    let low = (and_true (nat_le 32 b) (nat_lt b 128) parts.0).0 in
     let other : (b == 10) ≡ false = grind (arith, low) in
     rw (other, first-of bs rest parts.1) refl

@@ -18,15 +18,12 @@ use Rattle.aud_accept.specs.declared.cert.CertLine.TheVariants.{Kids, Silent, Sa
 use Rattle.aud_accept.specs.Acceptance.{prefix_in, LeadAlike, HasKids, HasSilent, HasSame, IsAcceptedLine, AreAccepted, EndsEmpty, IsAccepted}
 use Rattle.aud_accept.proofs.Alike.{placed_at, are-alike}
 use Rattle.aud_cert.specs.Recorded.{LinesOf}
+use Rattle.aud_search.proofs.MemoLemmas.{last-there}
 
 -- # Lists
 
 there : {X : Type 0} (xs : List X) (k : ℕ) (x : X) → slice_get xs k ≡ Some x → Contains xs x
 there xs k x at = (k, slice_get_within xs k x at, get_or_from_slice_get xs k x x at)
-
-last-there : {X : Type 0} (xs : List X) (x : X) → slice_get (xs ++ x ∷ []) (length xs) ≡ Some x
-last-there [] x = refl
-last-there (z ∷ xs) x = last-there xs x
 
 map-push : {X : Type 0} (ls : List (CertLine X)) (l : CertLine X) → map prefix_in (ls ++ l ∷ []) ≡ map prefix_in ls ++ prefix_in l ∷ []
 map-push [] l = refl

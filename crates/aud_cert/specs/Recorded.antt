@@ -6,6 +6,7 @@ use Rattle.aud_witness.specs.declared.decision.Decision.{Decision}
 use Rattle.aud_order.specs.Shapes.{ShapeOf}
 use Rattle.aud_accept.specs.declared.cert.CertLine.{CertLine}
 use Rattle.aud_accept.specs.Acceptance.{prefix_in}
+use Rattle.aud_search.proofs.MemoLemmas.{get-front}
 
 -- how contracts see them: the shape that they are of, and the lines in their order
 pub record LinesOf (X : Type 0) : Type 0 where
@@ -19,11 +20,6 @@ pub record IsLonger {X : Type 0} (old new : LinesOf X) : Type 0 where
   pub lines : new.lines ≡ old.lines ++ more
 
 -- # What stays once lines came
-
-get-front : {X : Type 0} (xs ys : List X) (k : ℕ) (x : X) → slice_get xs k ≡ Some x → slice_get (xs ++ ys) k ≡ Some x
-get-front [] ys k x at = absurd (cc)
-get-front (y ∷ xs) ys zero x at = at
-get-front (y ∷ xs) ys (suc k) x at = get-front xs ys k x at
 
 pub noted_later : {X : Type 0} (r s : LinesOf X) (note : ℕ) (p : List Decision) → IsLonger r s → slice_get (map prefix_in r.lines) note ≡ Some p → slice_get (map prefix_in s.lines) note ≡ Some p
 noted_later r s note p on was =

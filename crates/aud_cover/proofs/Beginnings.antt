@@ -15,7 +15,7 @@ use Rattle.aud_witness.specs.DecisionOrder.{decision_cmp, decisions_total, decis
 use Rattle.aud_cover.specs.Closings.{IsCovered, IsInside}
 
 -- a list and the rest of one that it begins
-begins-rest : (q p : List Decision) → begins decision_cmp q p ≡ true → (rest : List Decision) × (p ≡ q ++ rest)
+pub begins-rest : (q p : List Decision) → begins decision_cmp q p ≡ true → (rest : List Decision) × (p ≡ q ++ rest)
 begins-rest [] p e = (p, refl)
 begins-rest (x ∷ q) [] e = absurd (true≢false (sym e))
 begins-rest (x ∷ q) (y ∷ p) e =
@@ -23,7 +23,7 @@ begins-rest (x ∷ q) (y ∷ p) e =
     let found = begins-rest q p parts.1 in
     (found.0, λ i. sym (decision_exact x y ((Equal-is (decision_cmp x y)).0 parts.0)) i ∷ found.1 i)
 
-begins-longer : (q rest : List Decision) → begins decision_cmp q (q ++ rest) ≡ true
+pub begins-longer : (q rest : List Decision) → begins decision_cmp q (q ++ rest) ≡ true
 begins-longer [] rest = refl
 begins-longer (x ∷ q) rest = and_from (is_eq (decision_cmp x x)) (begins decision_cmp q (q ++ rest)) (ap is_eq (tied_itself decisions_total x)) (begins-longer q rest)
 

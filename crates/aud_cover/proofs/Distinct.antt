@@ -8,7 +8,7 @@ use Rattle.std.specs.Ordering.{is_lt, ordering_reverse}
 use Rattle.std.proofs.lemmas.List.Sorted.{sorted_far, ranks_by}
 use Rattle.std.proofs.lemmas.Map.Keys.{apart_from_distinct, IsDistinct-IsPermutation}
 use Rattle.aud_event.specs.Meanings.{Declared}
-use Rattle.aud_event.proofs.Bools.{and_true, true_and, or_false, not_true, nat_eq-refl, nat_eq-sym}
+use Rattle.aud_event.proofs.Bools.{and_true, true_and, or_false, not_true, nat_eq-refl, nat_eq-sym, and_no}
 use Rattle.aud_history.specs.Histories.{History}
 use Rattle.aud_history.specs.Table.{transactions}
 use Rattle.aud_history.proofs.Tables.{are_different, different-transactions}
@@ -43,10 +43,6 @@ same-refl d = true_and (nat_eq d.tx d.tx) (same_fate d.fate d.fate) (nat_eq-refl
 same-sym : (d e : Decision) → same d e ≡ same e d
 same-sym d e = λ i. nat_eq-sym d.tx e.tx i && same_fate-sym d.fate e.fate i
 
-and-none : (b : Bool) → (b && false) ≡ false
-and-none true = refl
-and-none false = refl
-
 -- a decision on none of some transactions is none of theirs
 other-fates : (d : Decision) (ts : List ℕ) → list_any (nat_eq d.tx) ts ≡ false → AllByRecursion (λ (e : Decision). same d e ≡ false) (flat_map both_fates ts)
 other-fates d [] none = tt
@@ -60,7 +56,7 @@ fates-distinct [] differ = tt
 fates-distinct (t ∷ ts) differ =
     let parts = and_true (not (list_any (nat_eq t) ts)) (are_different ts) differ in
     let none = not_true (list_any (nat_eq t) ts) parts.0 in
-    ((and-none (nat_eq t t), other-fates (record { tx = t; fate = C }) ts none), (other-fates (record { tx = t; fate = A }) ts none, fates-distinct ts parts.1))
+    ((and_no (nat_eq t t), other-fates (record { tx = t; fate = C }) ts none), (other-fates (record { tx = t; fate = A }) ts none, fates-distinct ts parts.1))
 
 filter-all : (g : Decision → Bool) (P : Decision → Type 0) (ds : List Decision) → AllByRecursion P ds → AllByRecursion P (filter g ds)
 filter-all g P [] all = tt

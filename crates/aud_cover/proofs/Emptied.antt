@@ -8,7 +8,7 @@ use Rattle.aud_history.specs.Histories.{History}
 use Rattle.aud_history.specs.Table.{transactions}
 use Rattle.aud_lattice.specs.declared.mark.Mark.TheVariants.{Covered, Inner, Outside}
 use Rattle.aud_lattice.specs.Marks.{mark_of}
-use Rattle.aud_lattice.specs.Marked.{covered_is, inner_is}
+use Rattle.aud_lattice.proofs.Marked.{covered_is, inner_is}
 use Rattle.aud_witness.specs.declared.decision.Decision.{Decision}
 use Rattle.aud_witness.specs.DecisionOrder.{decision_cmp}
 use Rattle.aud_witness.specs.Prefixes.{BeginsWith}

@@ -10,10 +10,10 @@ use Rattle.aud_lattice.specs.declared.mark.Mark.TheVariants.{Covered, Inner, Out
 use Rattle.aud_lattice.specs.declared.trie.Trie.{Trie, out-Trie, size-Trie}
 use Rattle.aud_lattice.specs.declared.trie.Trie.TheOpen.{Member, Fork}
 use Rattle.aud_lattice.specs.Marks.{mark_of}
-use Rattle.aud_lattice.specs.Marked.{covered_is, inner_is}
+use Rattle.aud_lattice.proofs.Marked.{covered_is, inner_is}
 use Rattle.aud_lattice.specs.Paths.{paths}
-use Rattle.aud_lattice.specs.Pathed.{marks, member_mark, fork_mark, bare_end, full_end, gone_mark, known_mark, mark_behind, mark_nowhere}
-use Rattle.aud_lattice.specs.Tries.{child_size, fork_child, found_node, gone_node}
+use Rattle.aud_lattice.proofs.Pathed.{marks, member_mark, fork_mark, bare_end, full_end, gone_mark, known_mark, mark_behind, mark_nowhere}
+use Rattle.aud_lattice.proofs.Tries.{child_size, fork_child, found_node, gone_node}
 use Rattle.aud_lattice.specs.Walks.{node_of, node_at, walk_mark, IsTrie}
 use Rattle.aud_witness.specs.declared.decision.Decision.{Decision}
 use Rattle.aud_witness.specs.DecisionOrder.{decision_cmp, decisions_total, decision_exact}

@@ -55,3 +55,47 @@ pub same_bools : (a b : Bool) → (a ≡ true → b ≡ true) → (b ≡ true �
 same_bools true b to back = sym (to refl)
 same_bools false true to back = back refl
 same_bools false false to back = refl
+
+pub unnegated : (a : Bool) → not a ≡ false → a ≡ true
+unnegated true h = refl
+unnegated false h = sym h
+
+pub or_nothing : (a : Bool) → (a || false) ≡ a
+or_nothing true = refl
+or_nothing false = refl
+
+pub or_always : (a : Bool) → (a || true) ≡ true
+or_always true = refl
+or_always false = refl
+
+pub or_same : (a : Bool) → (a || a) ≡ a
+or_same true = refl
+or_same false = refl
+
+pub or_again : (a b : Bool) → (a || b) ≡ (a || (a || b))
+or_again true b = refl
+or_again false b = refl
+
+pub or_comm : (a b : Bool) → (a || b) ≡ (b || a)
+or_comm true true = refl
+or_comm true false = refl
+or_comm false true = refl
+or_comm false false = refl
+
+pub or_assoc : (a b c : Bool) → ((a || b) || c) ≡ (a || (b || c))
+or_assoc true b c = refl
+or_assoc false b c = refl
+
+pub or_swap : (a b c : Bool) → (a || (b || c)) ≡ (b || (a || c))
+or_swap true true c = refl
+or_swap true false c = refl
+or_swap false true c = refl
+or_swap false false c = refl
+
+pub and_no : (a : Bool) → (a && false) ≡ false
+and_no true = refl
+and_no false = refl
+
+pub and_yes : (a : Bool) → (a && true) ≡ a
+and_yes true = refl
+and_yes false = refl

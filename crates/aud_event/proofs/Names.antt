@@ -9,7 +9,7 @@ use Rattle.std.specs.declared.string.String.{String}
 use Rattle.std.proofs.Common.{sym, ◌∙◌, ap, subst, cond}
 use Rattle.std.proofs.lemmas.Slice.Eq.{bytes_eq-Decides}
 use Rattle.aud_event.specs.Meanings.{Declared}
-use Rattle.aud_event.proofs.Bools.{and_true, or_false, or_right, not_true, same_bools}
+use Rattle.aud_event.proofs.Bools.{and_true, or_false, or_right, not_true, same_bools, and_no}
 use Rattle.aud_event.specs.Plans.{has_name, names_differ, number_of}
 
 -- a number that was found, or the given one if the test holds
@@ -66,10 +66,6 @@ any-middle : (p : Declared → Bool) (xs : List Declared) (d : Declared) (ys : L
 any-middle p [] d ys here = rw here refl
 any-middle p (x ∷ xs) d ys here = or_right (p x) (list_any p (xs ++ d ∷ ys)) (any-middle p xs d ys here)
 
-and_false : (a : Bool) → (a && false) ≡ false
-and_false true = refl
-and_false false = refl
-
 pub names_differ-twice : (xs : List Declared) (d : Declared) (ys : List Declared) (i : ℕ) → number_of d.name xs ≡ Some i → names_differ (xs ++ d ∷ ys) ≡ false
 names_differ-twice [] d ys i found = cc
 names_differ-twice (x ∷ xs) d ys i found =
@@ -80,7 +76,7 @@ names_differ-twice (x ∷ xs) d ys i found =
         (not (list_any (has_name x.name) (xs ++ d ∷ ys)) && names_differ (xs ++ d ∷ ys)) ≡ false
     at_first true o same is later found = rw (any-middle (has_name x.name) xs d ys (bytes_eq-comm d.name x.name ∙ same)) refl
     at_first false (Some j) other is later found =
-        rw (later j is) (and_false (not (list_any (has_name x.name) (xs ++ d ∷ ys))))
+        rw (later j is) (and_no (not (list_any (has_name x.name) (xs ++ d ∷ ys))))
     at_first false None other is later found = cc
 
 absent_at : (p : Declared → Bool) (xs : List Declared) (i : ℕ) (d : Declared) → list_any p xs ≡ false → slice_get xs i ≡ Some d → p d ≡ false

@@ -1,5 +1,5 @@
 -- What makes a plan, and which fault is reported of what is none.
-use Rattle.std.specs.Prelude.{◌≡◌, suc, option_map, ℕ, pos, Bool, true, not, ◌&&◌, ◌||◌, if◌then◌else◌, List, [], ◌∷◌, length, Option, Some, None, nat_eq, nat_lt, nat_le, int_le, bytes_eq}
+use Rattle.std.specs.Prelude.{◌≡◌, suc, option_map, ℕ, pos, Bool, true, not, ◌&&◌, ◌||◌, if◌then◌else◌, List, [], ◌∷◌, length, Option, Some, None, nat_eq, nat_lt, nat_le, int_le, bytes_eq, MatchOption, MatchResult, Result, false, ◌⊎◌}
 use Rattle.std.specs.List.{list_all, list_any}
 use Rattle.std.specs.BTreeMap.{BTreeMap, get_by_text}
 use Rattle.std.specs.declared.string.String.{String}
@@ -68,3 +68,12 @@ number_of name (d ∷ ds) = if has_name name d then Some 0 else option_map suc (
 -- a map from names to numbers that answers what a look through the objects answers
 abbrev pub IsIndex : {Y : Type 0} → BTreeMap (String Y) ℕ → List Declared → Type 0
 IsIndex numbers objects = (name : List ℕ) → get_by_text numbers name ≡ number_of name objects
+
+-- the numbers of the objects by their names; none where a name stands twice
+abbrev pub NumbersNames : {Y : Type 0} → List Declared → Option (BTreeMap (String Y) ℕ) → Type 0
+NumbersNames objects found = MatchOption found (names_differ objects ≡ false) (λ numbers. (names_differ objects ≡ true) × IsIndex numbers objects)
+
+-- a plan was made where its parts have no fault; else their first fault was answered, or memory was refused
+abbrev pub JudgesParts : {X : Type 0} → ℕ → List Declared → Result X PlanFault → Type 0
+JudgesParts logs objects result =
+    MatchResult result (λ _. first_plan_fault logs objects ≡ None) (λ e. (e ≡ OutOfMemory) ⊎ (first_plan_fault logs objects ≡ Some e))

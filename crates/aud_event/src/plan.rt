@@ -2,7 +2,7 @@
 
 ghost use Rattle.std.specs.Prelude.{◌≡◌, ◌≤◌, ◌⊎◌, ◌↔◌, IfOk, IsTrue, slice_get, MatchOption, MatchResult, None, Some, true, false, length, option_copied};
 ghost use Rattle.std.specs.List.{list_all};
-ghost use Rattle.aud_event.specs.Plans.{is_name, is_name_byte, names_differ, is_opening, first_plan_fault, first_value_fault, plan_fault_number, number_of, IsIndex};
+ghost use Rattle.aud_event.specs.Plans.{is_name, is_name_byte, names_differ, is_opening, first_plan_fault, first_value_fault, plan_fault_number, number_of, IsIndex, NumbersNames, JudgesParts};
 
 use crate::limits::{COUNTER_MAX, COUNTER_MIN, LOGS_MAX, NAME_MAX, OBJECTS_MAX};
 use crate::memory::{Dup, OutOfMemory};
@@ -160,7 +160,7 @@ fn index_of<A: Allocator + Clone>(
     objects: &[ObjDecl<A>],
 ) -> Result<Option<BTreeMap<String<A>, u16, A>>, OutOfMemory>
     requires { length objects.now ≤ OBJECTS_MAX }
-    ensures { IfOk result (λ found. MatchOption found (names_differ objects.now ≡ false) (λ numbers. (names_differ objects.now ≡ true) × IsIndex numbers objects.now)) }
+    ensures { IfOk result (NumbersNames objects.now) }
 {
     let mut numbers = BTreeMap::new(alloc);
     for (number, decl) in objects.iter().enumerate() {
@@ -191,7 +191,7 @@ impl<A: Allocator + Clone> Plan<A> {
     /// It takes memory for an index of the names, O(n log n) time for n objects. On a fault the objects are given up.
     pub fn new(alloc: A, logs: u32, objects: Vec<ObjDecl<A>, A>) -> Result<Plan<A>, PlanFault>
         ensures made { IfOk result (λ plan. plan ≡ record { logs = logs; objects = objects.items }) }
-        ensures fault { MatchResult result (λ _. first_plan_fault logs objects.items ≡ None) (λ e. (e ≡ PlanFault.OutOfMemory) ⊎ (first_plan_fault logs objects.items ≡ Some e)) }
+        ensures fault { JudgesParts logs objects.items result }
     {
         if logs == 0 {
             return Err(PlanFault::NoLogs);

@@ -18,14 +18,15 @@ use Rattle.aud_event.specs.contracts.fact.FactOrd.TheImpl as fact
 use Rattle.aud_facts.specs.declared.status.Kind.{Kind}
 use Rattle.aud_facts.specs.declared.status.Kind.TheVariants.{TwoRecords, StampTwice, TwoCounts, PastCount, StampOrder}
 use Rattle.aud_facts.specs.declared.status.FactStatus.{FactStatus}
-use Rattle.aud_facts.specs.Clashes.{Place, conflict, clashes, is_against, is_same, is_place, place_of, least_of, least_with}
+use Rattle.aud_facts.specs.Clashes.{Place, conflict, clashes, is_against, is_same, is_place, place_of, least_place, least_with}
 use Rattle.aud_facts.specs.Growth.{IsConflict, SealedIsFull}
 use Rattle.aud_facts.specs.Order.{AreOrdered}
-use Rattle.aud_facts.specs.Status.{status_of, is_waiting, is_record_of, is_mark_within, count, told}
+use Rattle.aud_facts.specs.Status.{fact_status, is_waiting, is_record_of, is_mark_within, count, told}
 use Rattle.aud_facts.specs.Scans.{is_past, first_place}
 use Rattle.aud_facts.proofs.Ordered.{ordered, same_self}
 use Rattle.aud_facts.proofs.Conflicts.{any_same, all_map, Strict, Beyond, strict, twins_is, past_is}
 use Rattle.aud_facts.proofs.Sealing.{not_first, IsSealed, sealed_says, none_below}
+use Rattle.aud_event.proofs.Bools.{unnegated, or_right, true_or, or_false}
 
 -- a conflict of some kind is reported
 told_behind : (k : Kind) (o : Option Place) (s : FactStatus) → IsConflict s → IsConflict (told k o s)
@@ -36,7 +37,7 @@ told_here : (k : Kind) (o : Option Place) (s : FactStatus) → (o ≡ None → �
 told_here k None s c = absurd (c refl)
 told_here k (Some p) s c = tt
 
-pub in_conflict : (k : Kind) (logs : ℕ) (facts : List Fact) → (conflict k facts ≡ None → ⊥) → IsConflict (status_of logs facts)
+pub in_conflict : (k : Kind) (logs : ℕ) (facts : List Fact) → (conflict k facts ≡ None → ⊥) → IsConflict (fact_status logs facts)
 in_conflict TwoRecords logs facts c = told_here TwoRecords (conflict TwoRecords facts) _ c
 in_conflict StampTwice logs facts c = told_behind TwoRecords (conflict TwoRecords facts) _ (told_here StampTwice (conflict StampTwice facts) _ c)
 in_conflict TwoCounts logs facts c = told_behind TwoRecords (conflict TwoRecords facts) _ (told_behind StampTwice (conflict StampTwice facts) _ (told_here TwoCounts (conflict TwoCounts facts) _ c))
@@ -51,11 +52,11 @@ least_some : (p : Place) (o : Option Place) → least_with p o ≡ None → ⊥
 least_some p None e = cc
 least_some p (Some q) e = cc
 
-passes_step : (f : Fact) (fs : List Fact) (b c : Bool) → least_of (map place_of (if b then f ∷ fs else fs)) ≡ None → (least_of (map place_of fs) ≡ None → c ≡ false) → (b || c) ≡ false
-passes_step f fs true c e h = absurd (least_some (place_of f) (least_of (map place_of fs)) e)
+passes_step : (f : Fact) (fs : List Fact) (b c : Bool) → least_place (map place_of (if b then f ∷ fs else fs)) ≡ None → (least_place (map place_of fs) ≡ None → c ≡ false) → (b || c) ≡ false
+passes_step f fs true c e h = absurd (least_some (place_of f) (least_place (map place_of fs)) e)
 passes_step f fs false c e h = h e
 
-pub none_passes : (t : Fact → Bool) (xs : List Fact) → least_of (map place_of (filter t xs)) ≡ None → list_any t xs ≡ false
+pub none_passes : (t : Fact → Bool) (xs : List Fact) → least_place (map place_of (filter t xs)) ≡ None → list_any t xs ≡ false
 none_passes t [] e = refl
 none_passes t (x ∷ xs) e = passes_step x (filter t xs) (t x) (list_any t xs) e (none_passes t xs)
 
@@ -71,30 +72,22 @@ any_ordered t f x xs ys Less e h = refl
 any_ordered t f x xs ys Equal e h = cc
 any_ordered t f x xs ys Greater e h = rw h (or_mid (t f) (t x) (list_any t xs))
 
-pub or_parts : (a b : Bool) → (a || b) ≡ false → (a ≡ false) × (b ≡ false)
-or_parts true b e = cc
-or_parts false b e = (refl, e)
-
 any_inserted : (t : Fact → Bool) (f : Fact) (xs : List Fact) → has fact.ghosts.cmp xs f ≡ false → list_any t (with_item fact.ghosts.cmp f xs) ≡ (t f || list_any t xs)
 any_inserted t f [] e = refl
 any_inserted t f (x ∷ xs) e =
-    let parts = or_parts (is_same f x) (has fact.ghosts.cmp xs f) e in
+    let parts = or_false (is_same f x) (has fact.ghosts.cmp xs f) e in
     any_ordered t f x xs (with_item fact.ghosts.cmp f xs) (fact.ghosts.cmp f x) parts.0 (any_inserted t f xs parts.1)
-
-or_second : (a b : Bool) → b ≡ true → (a || b) ≡ true
-or_second true b e = refl
-or_second false b e = e
 
 clash_of : (a b : Bool) → a ≡ true → (a || b) ≡ false → ⊥
 clash_of true b h g = cc
 clash_of false b h g = cc
 
-grown : (k : Kind) (logs : ℕ) (f : Fact) (xs : List Fact) → has fact.ghosts.cmp xs f ≡ false → list_any (clashes k f) xs ≡ true → IsConflict (status_of logs (with_item fact.ghosts.cmp f xs))
+grown : (k : Kind) (logs : ℕ) (f : Fact) (xs : List Fact) → has fact.ghosts.cmp xs f ≡ false → list_any (clashes k f) xs ≡ true → IsConflict (fact_status logs (with_item fact.ghosts.cmp f xs))
 grown k logs f xs new e =
     in_conflict k logs (with_item fact.ghosts.cmp f xs) (λ nothing. both nothing)
   where
     against : is_against k (with_item fact.ghosts.cmp f xs) f ≡ true
-    against = any_inserted (clashes k f) f xs new ∙ or_second (clashes k f f) (list_any (clashes k f) xs) e
+    against = any_inserted (clashes k f) f xs new ∙ or_right (clashes k f f) (list_any (clashes k f) xs) e
 
     both : conflict k (with_item fact.ghosts.cmp f xs) ≡ None → ⊥
     both nothing =
@@ -108,7 +101,7 @@ or_either : (a b c d : Bool) → (a ≡ true → c ≡ false → d ≡ true) →
 or_either true b true d h t ea eb = cc
 or_either true b false d h t ea eb = rw (h refl refl) refl
 or_either false b true d h t ea eb = cc
-or_either false b false d h t ea eb = or_second d _ (t ea eb)
+or_either false b false d h t ea eb = or_right d _ (t ea eb)
 
 other_mark : (e : EndMark) (n : ℕ) (g : Fact) → is_mark_within e.log n g ≡ true → is_same (End e) g ≡ false → clashes TwoCounts (End e) g ≡ true
 other_mark e n (Rec r) h d = cc
@@ -149,7 +142,7 @@ pigeon (p ∷ ps) lo c k u a long le lt =
     let rest = room ps (suc p) c (omega (arith, a.0)) u.1 a.1 in
     let first : p ≡ lo = omega (arith, rest, u.0) in
     elim (cases_lt p k) [
-      | inl below ↦ or_second (nat_eq p k) _ (pigeon ps (suc p) c k u.1 a.1 (omega (arith, first)) (omega (arith, below)) lt)
+      | inl below ↦ or_right (nat_eq p k) _ (pigeon ps (suc p) c k u.1 a.1 (omega (arith, first)) (omega (arith, below)) lt)
       | inr same ↦ first_is (omega (arith, first, same))
     ]
   where
@@ -235,19 +228,19 @@ places_below all log c (End g ∷ xs) h e = places_below all log c xs h e
 
 there_step : (r s : Record) (ps : List ℕ) (later b : Bool) → nat_eq s.log r.log ≡ b → list_any (λ p. nat_eq p r.at) (if_in b s.at ps) ≡ true →
     is_same (Rec r) (Rec s) ≡ false → (list_any (λ p. nat_eq p r.at) ps ≡ true → later ≡ true) → (clashes TwoRecords (Rec r) (Rec s) || later) ≡ true
-there_step r s ps later false e h d next = or_second (clashes TwoRecords (Rec r) (Rec s)) later (next h)
+there_step r s ps later false e h d next = or_right (clashes TwoRecords (Rec r) (Rec s)) later (next h)
 there_step r s ps later true e h d next = by_place (nat_eq s.at r.at) refl h
   where
     by_place : (b : Bool) → nat_eq s.at r.at ≡ b → (b || list_any (λ p. nat_eq p r.at) ps) ≡ true → (clashes TwoRecords (Rec r) (Rec s) || later) ≡ true
     by_place true at h = let same : is_place r s ≡ true = grind (arith, e, at) in rw (same, d) refl
-    by_place false at h = or_second (clashes TwoRecords (Rec r) (Rec s)) later (next h)
+    by_place false at h = or_right (clashes TwoRecords (Rec r) (Rec s)) later (next h)
 
 record_there : (r : Record) (xs : List Fact) → list_any (λ p. nat_eq p r.at) (places r.log xs) ≡ true → has fact.ghosts.cmp xs (Rec r) ≡ false → list_any (clashes TwoRecords (Rec r)) xs ≡ true
 record_there r [] h d = cc
 record_there r (Rec s ∷ xs) h d =
-    let parts = or_parts (is_same (Rec r) (Rec s)) (has fact.ghosts.cmp xs (Rec r)) d in
+    let parts = or_false (is_same (Rec r) (Rec s)) (has fact.ghosts.cmp xs (Rec r)) d in
     there_step r s (places r.log xs) (list_any (clashes TwoRecords (Rec r)) xs) (nat_eq s.log r.log) refl h parts.0 (λ later. record_there r xs later parts.1)
-record_there r (End e ∷ xs) h d = record_there r xs h (or_parts (is_same (Rec r) (End e)) (has fact.ghosts.cmp xs (Rec r)) d).1
+record_there r (End e ∷ xs) h d = record_there r xs h (or_false (is_same (Rec r) (End e)) (has fact.ghosts.cmp xs (Rec r)) d).1
 
 record Mark (log n : ℕ) (xs : List Fact) : Type 0 where
   counted : ℕ
@@ -258,12 +251,8 @@ later_mark : (log n : ℕ) (e : EndMark) (xs : List Fact) → Mark log n xs → 
 later_mark log n e xs m = record {
   counted = m.counted;
   within = m.within;
-  reached = λ k le. or_second (nat_eq e.log log && nat_le e.count k) (list_any (is_mark_within log k) xs) (m.reached k le);
+  reached = λ k le. or_right (nat_eq e.log log && nat_le e.count k) (list_any (is_mark_within log k) xs) (m.reached k le);
 }
-
-or_first : (a b : Bool) → a ≡ true → (a || b) ≡ true
-or_first true b e = refl
-or_first false b e = cc
 
 mark_of : (log n : ℕ) (xs : List Fact) → list_any (is_mark_within log n) xs ≡ true → Mark log n xs
 mark_of log n [] h = cc
@@ -274,7 +263,7 @@ mark_of log n (End e ∷ xs) h = by_mark (nat_eq e.log log && nat_le e.count n) 
     by_mark true at h next = record {
       counted = e.count;
       within = grind (arith, at);
-      reached = λ m le. or_first (nat_eq e.log log && nat_le e.count m) (list_any (is_mark_within log m) xs) (grind (arith, at, le));
+      reached = λ m le. true_or (nat_eq e.log log && nat_le e.count m) (list_any (is_mark_within log m) xs) (grind (arith, at, le));
     }
     by_mark false at h next = later_mark log n e xs (next h)
 
@@ -289,16 +278,12 @@ log_in : (plan : PlanOf) (f : Fact) → first_fact_fault plan f ≡ None → log
 log_in plan (Rec r) e = let out = faultless (nat_le plan.logs r.log) _ _ e in below_logs r.log plan.logs out
 log_in plan (End g) e = let out = faultless (nat_le plan.logs g.log) _ _ e in below_logs g.log plan.logs out
 
-not_waiting : (b : Bool) → not b ≡ false → b ≡ true
-not_waiting true e = refl
-not_waiting false e = cc
-
-full : (logs : ℕ) (facts : List Fact) (f : Fact) → AreOrdered facts → IsSealed logs facts → log_of f < logs → has fact.ghosts.cmp facts f ≡ false → IsConflict (status_of logs (with_item fact.ghosts.cmp f facts))
+full : (logs : ℕ) (facts : List Fact) (f : Fact) → AreOrdered facts → IsSealed logs facts → log_of f < logs → has fact.ghosts.cmp facts f ≡ false → IsConflict (fact_status logs (with_item fact.ghosts.cmp f facts))
 full logs facts (End e) o s lt new =
-    let there = not_waiting (list_any (is_mark_within e.log (count (is_record_of e.log) facts)) facts) (none_below (is_waiting facts) logs s.all_in e.log lt) in
+    let there = unnegated (list_any (is_mark_within e.log (count (is_record_of e.log) facts)) facts) (none_below (is_waiting facts) logs s.all_in e.log lt) in
     grown TwoCounts logs (End e) facts new (any_other e (count (is_record_of e.log) facts) facts there new)
 full logs facts (Rec r) o s lt new =
-    let there = not_waiting (list_any (is_mark_within r.log (count (is_record_of r.log) facts)) facts) (none_below (is_waiting facts) logs s.all_in r.log lt) in
+    let there = unnegated (list_any (is_mark_within r.log (count (is_record_of r.log) facts)) facts) (none_below (is_waiting facts) logs s.all_in r.log lt) in
     let mark = mark_of r.log (count (is_record_of r.log) facts) facts there in
     elim (cases_lt r.at mark.counted) [
       | inl below ↦ grown TwoRecords logs (Rec r) facts new (record_there r facts (at_its_place mark below) new)

@@ -20,7 +20,7 @@ use Rattle.aud_history.specs.FirstFault.{FitsPlan, IsWithinLimits}
 use Rattle.aud_facts.specs.declared.status.FactStatus.TheVariants.{Sealed}
 use Rattle.aud_facts.specs.Order.{AreOrdered}
 use Rattle.aud_facts.specs.Sets.{AreSound}
-use Rattle.aud_facts.specs.Status.{status_of, hist, events_at, events_below, is_record, is_missing, count}
+use Rattle.aud_facts.specs.Status.{fact_status, hist, events_at, events_below, is_record, is_missing, count}
 use Rattle.aud_facts.specs.Scans.{IsWithin, AreWithin}
 use Rattle.aud_facts.proofs.Lists.{missing_beyond}
 use Rattle.aud_facts.proofs.Sealing.{IsSealed, sealed_says, none_below, length-placed, placed_is}
@@ -104,12 +104,12 @@ few logs facts w s = elim (cases_lt STAMPS (count is_record facts)) [
     differ : true ≡ false → ⊥
     differ e = cc
 
-hist_long : (logs : ℕ) (facts : List Fact) → AreOrdered facts → status_of logs facts ≡ Sealed → length (hist facts) ≡ count is_record facts
+hist_long : (logs : ℕ) (facts : List Fact) → AreOrdered facts → fact_status logs facts ≡ Sealed → length (hist facts) ≡ count is_record facts
 hist_long logs facts o e =
     let slots : List (ℕ × Event) = replicate (count is_record facts) (0, TryC) in
     sym (ap length (placed_is logs facts o e)) ∙ (length-placed slots facts ∙ length-replicate (count is_record facts) (0, TryC))
 
-pub within_limits : (plan : PlanOf) (facts : List Fact) → AreOrdered facts → AreSound plan facts → AreWithin facts → status_of plan.logs facts ≡ Sealed → IsWithinLimits plan (hist facts)
+pub within_limits : (plan : PlanOf) (facts : List Fact) → AreOrdered facts → AreSound plan facts → AreWithin facts → fact_status plan.logs facts ≡ Sealed → IsWithinLimits plan (hist facts)
 within_limits plan facts o a w e =
     let long = hist_long plan.logs facts o e in
     let most = few plan.logs facts w (sealed_says plan.logs facts e) in

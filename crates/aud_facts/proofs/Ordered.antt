@@ -14,7 +14,7 @@ use Rattle.aud_event.specs.declared.fact.Fact.{Fact}
 use Rattle.aud_event.specs.declared.fact.Fact.TheVariants.{Rec, End}
 use Rattle.aud_event.specs.contracts.fact.FactOrd.TheImpl as fact
 use Rattle.aud_facts.specs.Order.{AreOrdered}
-use Rattle.aud_facts.specs.Clashes.{Place, place_of, is_same, lesser, least_with, least_of}
+use Rattle.aud_facts.specs.Clashes.{Place, place_of, is_same, lesser, least_with, least_place}
 use Rattle.aud_facts.specs.Scans.{first_place}
 
 -- of two facts, the second comes later
@@ -97,9 +97,9 @@ least_step p q (Some z) h e = pick (nat_lt q.0 z.0 || (nat_eq q.0 z.0 && nat_le 
     pick true = ap Some h
     pick false = e
 
-least_all : (p : Place) (ps : List Place) → AllByRecursion (λ q. lesser p q ≡ p) ps → least_with p (least_of ps) ≡ Some p
+least_all : (p : Place) (ps : List Place) → AllByRecursion (λ q. lesser p q ≡ p) ps → least_with p (least_place ps) ≡ Some p
 least_all p [] h = refl
-least_all p (q ∷ qs) h = least_step p q (least_of qs) h.0 (least_all p qs h.1)
+least_all p (q ∷ qs) h = least_step p q (least_place qs) h.0 (least_all p qs h.1)
 
 passed_step : (t : Fact → Bool) (x y : Fact) (zs : List Fact) (b : Bool) → t y ≡ b → (t y ≡ true → lesser (place_of x) (place_of y) ≡ place_of x) →
     AllByRecursion (λ q. lesser (place_of x) q ≡ place_of x) (map place_of zs) →
@@ -111,13 +111,13 @@ passed : (t : Fact → Bool) (x : Fact) (ys : List Fact) → IsOfOne t → t x �
 passed t x [] one ex a = tt
 passed t x (y ∷ ys) one ex a = passed_step t x y (filter t ys) (t y) refl (λ ey. lesser_of t x y one a.0 ex ey) (passed t x ys one ex a.1)
 
-first_step : (t : Fact → Bool) (x : Fact) (ys : List Fact) (b : Bool) → t x ≡ b → (t x ≡ true → least_with (place_of x) (least_of (map place_of ys)) ≡ Some (place_of x)) →
-    (o : Option Place) → least_of (map place_of ys) ≡ o →
-    least_of (map place_of (if b then x ∷ ys else ys)) ≡ (if b then Some (place_of x) else o)
+first_step : (t : Fact → Bool) (x : Fact) (ys : List Fact) (b : Bool) → t x ≡ b → (t x ≡ true → least_with (place_of x) (least_place (map place_of ys)) ≡ Some (place_of x)) →
+    (o : Option Place) → least_place (map place_of ys) ≡ o →
+    least_place (map place_of (if b then x ∷ ys else ys)) ≡ (if b then Some (place_of x) else o)
 first_step t x ys true e h o rest = h e
 first_step t x ys false e h o rest = rest
 
-pub first_is_least : (t : Fact → Bool) (xs : List Fact) → IsOfOne t → Ordered xs → least_of (map place_of (filter t xs)) ≡ first_place t xs
+pub first_is_least : (t : Fact → Bool) (xs : List Fact) → IsOfOne t → Ordered xs → least_place (map place_of (filter t xs)) ≡ first_place t xs
 first_is_least t [] one o = refl
 first_is_least t (x ∷ xs) one o =
     first_step t x (filter t xs) (t x) refl (λ e. least_all (place_of x) (map place_of (filter t xs)) (passed t x xs one e o.0)) (first_place t xs) (first_is_least t xs one o.1)

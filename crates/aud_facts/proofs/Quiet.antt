@@ -11,39 +11,35 @@ use Rattle.aud_event.specs.Meanings.{PlanOf}
 use Rattle.aud_event.specs.declared.fact.Fact.{Fact}
 use Rattle.aud_event.specs.contracts.fact.FactOrd.TheImpl as fact
 use Rattle.aud_event.specs.contracts.fact.FactOrd.TheImpl.Laws as laws
-use Rattle.aud_lattice.specs.Members.{member_of, contains_with_item, same_members}
+use Rattle.aud_lattice.proofs.Members.{member_of, contains_with_item, same_members}
 use Rattle.aud_lattice.specs.Sets.{has, with_item}
-use Rattle.aud_lattice.specs.Strict.{some_passes, one_passes}
+use Rattle.aud_lattice.proofs.Strict.{some_passes, one_passes}
 use Rattle.aud_facts.specs.declared.status.Kind.{Kind}
 use Rattle.aud_facts.specs.declared.status.Kind.TheVariants.{TwoRecords, StampTwice, TwoCounts, PastCount, StampOrder}
 use Rattle.aud_facts.specs.declared.status.FactStatus.TheVariants.{Sealed}
-use Rattle.aud_facts.specs.Clashes.{clashes, conflict, is_against, least_of, place_of}
+use Rattle.aud_facts.specs.Clashes.{clashes, conflict, is_against, least_place, place_of}
 use Rattle.aud_facts.specs.Growth.{IsConflict}
 use Rattle.aud_facts.specs.Order.{AreOrdered}
 use Rattle.aud_facts.specs.Quiet.{AreQuiet, AreAmong, QuietIsNoConflict, PartsAreQuiet, SealedIsAll}
 use Rattle.aud_facts.specs.Sets.{AreSound}
-use Rattle.aud_facts.specs.Status.{status_of, or_waiting, or_gap, least_below, is_waiting, is_missing, is_record, count}
-use Rattle.aud_facts.proofs.Grown.{in_conflict, none_passes, or_parts, sealed_is_full}
-
--- a test that is not true is false
-not_true : (b : Bool) → (b ≡ true → ⊥) → b ≡ false
-not_true true h = absurd (h refl)
-not_true false h = refl
+use Rattle.aud_facts.specs.Status.{fact_status, or_waiting, or_gap, least_below, is_waiting, is_missing, is_record, count}
+use Rattle.aud_facts.proofs.Grown.{in_conflict, none_passes, sealed_is_full}
+use Rattle.aud_event.proofs.Bools.{is_false, or_false}
 
 -- where no fact passes, there is no least place of those that pass
-left_out : (f : Fact) (fs : List Fact) (b : Bool) → b ≡ false → least_of (map place_of fs) ≡ None → least_of (map place_of (if b then f ∷ fs else fs)) ≡ None
+left_out : (f : Fact) (fs : List Fact) (b : Bool) → b ≡ false → least_place (map place_of fs) ≡ None → least_place (map place_of (if b then f ∷ fs else fs)) ≡ None
 left_out f fs true e h = cc
 left_out f fs false e h = h
 
-no_least : (t : Fact → Bool) (xs : List Fact) → list_any t xs ≡ false → least_of (map place_of (filter t xs)) ≡ None
+no_least : (t : Fact → Bool) (xs : List Fact) → list_any t xs ≡ false → least_place (map place_of (filter t xs)) ≡ None
 no_least t [] e = refl
 no_least t (x ∷ xs) e =
-    let parts = or_parts (t x) (list_any t xs) e in
+    let parts = or_false (t x) (list_any t xs) e in
     left_out x (filter t xs) (t x) parts.0 (no_least t xs parts.1)
 
 -- no fact is against another
 none_against : (k : Kind) (facts : List Fact) → AreQuiet facts → list_any (is_against k facts) facts ≡ false
-none_against k facts quiet = not_true (list_any (is_against k facts) facts) found
+none_against k facts quiet = is_false (list_any (is_against k facts) facts) found
   where
     apart : (f g : Fact) → Contains facts f → Contains facts g → clashes k f g ≡ true → ⊥
     apart f g there other e = true≢false (sym e ∙ quiet k f g there other)
@@ -63,11 +59,11 @@ not_told (Some log) gap c = c
 not_told None (Some stamp) c = c
 not_told None None c = c
 
-quiet_status : (logs : ℕ) (facts : List Fact) → AreQuiet facts → status_of logs facts ≡ or_waiting (least_below (is_waiting facts) logs) (or_gap (least_below (is_missing facts) (count is_record facts)))
+quiet_status : (logs : ℕ) (facts : List Fact) → AreQuiet facts → fact_status logs facts ≡ or_waiting (least_below (is_waiting facts) logs) (or_gap (least_below (is_missing facts) (count is_record facts)))
 quiet_status logs facts quiet =
     rw (no_conflict TwoRecords facts quiet, no_conflict StampTwice facts quiet, no_conflict TwoCounts facts quiet, no_conflict PastCount facts quiet, no_conflict StampOrder facts quiet) refl
 
-clash_is_conflict : (k : Kind) (logs : ℕ) (facts : List Fact) (f g : Fact) → Contains facts f → Contains facts g → clashes k f g ≡ true → IsConflict (status_of logs facts)
+clash_is_conflict : (k : Kind) (logs : ℕ) (facts : List Fact) (f g : Fact) → Contains facts f → Contains facts g → clashes k f g ≡ true → IsConflict (fact_status logs facts)
 clash_is_conflict k logs facts f g there other e = in_conflict k logs facts told_some
   where
     against : list_any (is_against k facts) facts ≡ true
@@ -79,13 +75,13 @@ clash_is_conflict k logs facts f g there other e = in_conflict k logs facts told
 pub quiet_is_no_conflict : QuietIsNoConflict
 quiet_is_no_conflict logs facts = (from, to)
   where
-    from : AreQuiet facts → IsConflict (status_of logs facts) → ⊥
+    from : AreQuiet facts → IsConflict (fact_status logs facts) → ⊥
     from quiet c =
         not_told (least_below (is_waiting facts) logs) (least_below (is_missing facts) (count is_record facts))
         (subst IsConflict (quiet_status logs facts quiet) c)
 
-    to : (IsConflict (status_of logs facts) → ⊥) → AreQuiet facts
-    to calm k f g there other = not_true (clashes k f g) (λ e. calm (clash_is_conflict k logs facts f g there other e))
+    to : (IsConflict (fact_status logs facts) → ⊥) → AreQuiet facts
+    to calm k f g there other = is_false (clashes k f g) (λ e. calm (clash_is_conflict k logs facts f g there other e))
 
 pub parts_are_quiet : PartsAreQuiet
 parts_are_quiet xs ys among quiet k f g there other = quiet k f g (among f there) (among g other)
@@ -108,7 +104,7 @@ among_with f xs ys there among g h = elim ((contains_with_item facts_total fact_
 ]
 
 -- a sealed part of quiet facts has each of them
-has_each : (plan : PlanOf) (xs ys : List Fact) (f : Fact) → AreOrdered xs → AreSound plan ys → status_of plan.logs xs ≡ Sealed → AreAmong xs ys → AreQuiet ys → Contains ys f → Contains xs f
+has_each : (plan : PlanOf) (xs ys : List Fact) (f : Fact) → AreOrdered xs → AreSound plan ys → fact_status plan.logs xs ≡ Sealed → AreAmong xs ys → AreQuiet ys → Contains ys f → Contains xs f
 has_each plan xs ys f ordered sound sealed among quiet there = by_test (has fact.ghosts.cmp xs f) refl
   where
     each : All (λ g. first_fact_fault plan g ≡ None) ys

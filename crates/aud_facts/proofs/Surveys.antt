@@ -9,10 +9,7 @@ use Rattle.aud_facts.specs.declared.survey.Survey.{Survey}
 use Rattle.aud_facts.specs.Status.{count, has_stamp, is_mark_within}
 use Rattle.aud_facts.specs.Scans.{AreWithin, AreStamps, IsCalm, AreBounds, IsUnderrun, first_place, is_twice, is_past, is_record_from}
 use Rattle.aud_facts.proofs.Lists.{up-more}
-
-or_later : (a b : Bool) → b ≡ true → (a || b) ≡ true
-or_later true b e = refl
-or_later false b e = e
+use Rattle.aud_event.proofs.Bools.{or_right}
 
 -- where no mark is above one, no stamp stands twice
 pub never_twice : (facts xs : List Fact) (marks : List ℕ) → AreWithin xs → AreStamps facts marks → IsCalm marks → first_place (is_twice facts) xs ≡ None
@@ -32,5 +29,5 @@ never_past facts (Rec r ∷ xs) s w b t u =
     let here : (nat_eq r.log r.log && nat_le r.at r.at) ≡ true = grind arith in
     let below : nat_lt r.at (get_or s.tops r.log 0) ≡ true = t r.log r.at w.0.0 (rw here refl) in
     let apart : list_any (is_mark_within r.log r.at) facts ≡ false = sym (b r.log r.at w.0.0) ∙ u r.log w.0.0 r.at below in
-    rw apart (never_past facts xs s w.1 b (λ log n lt e. t log n lt (or_later (is_record_from log n (Rec r)) (list_any (is_record_from log n) xs) e)) u)
+    rw apart (never_past facts xs s w.1 b (λ log n lt e. t log n lt (or_right (is_record_from log n (Rec r)) (list_any (is_record_from log n) xs) e)) u)
 never_past facts (End g ∷ xs) s w b t u = never_past facts xs s w.1 b t u

@@ -5,16 +5,9 @@ use Rattle.std.specs.Cmp.{IsTotalOrder}
 use Rattle.aud_event.specs.Exact.{IsExact}
 use Rattle.aud_lattice.specs.Sets.{has, union}
 use Rattle.aud_lattice.specs.Sorted.{has-union, sorted_union, same_sorted}
-use Rattle.aud_lattice.specs.Pours.{union_swap}
+use Rattle.aud_lattice.proofs.Pours.{union_swap}
 use Rattle.aud_facts.specs.Joins.{UnionsCommute, UnionsAssociate, UnionsRepeat}
-
-or_assoc : (a b c : Bool) → ((a || b) || c) ≡ (a || (b || c))
-or_assoc true b c = refl
-or_assoc false b c = refl
-
-or_same : (a : Bool) → (a || a) ≡ a
-or_same true = refl
-or_same false = refl
+use Rattle.aud_event.proofs.Bools.{or_assoc, or_same}
 
 module _ {T : Type 0} {R : T → T → Ordering} (o : IsTotalOrder R) (ex : IsExact R) where
   pub unions_commute : UnionsCommute R

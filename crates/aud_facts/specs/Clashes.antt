@@ -49,10 +49,10 @@ least_with p None = Some p
 least_with p (Some q) = Some (lesser p q)
 
 -- the least of some places
-abbrev pub least_of : List Place → Option Place
-least_of [] = None
-least_of (p ∷ ps) = least_with p (least_of ps)
+abbrev pub least_place : List Place → Option Place
+least_place [] = None
+least_place (p ∷ ps) = least_with p (least_place ps)
 
 -- the place reported of a kind
 abbrev pub conflict : Kind → List Fact → Option Place
-conflict k facts = least_of (map place_of (filter (is_against k facts) facts))
+conflict k facts = least_place (map place_of (filter (is_against k facts) facts))

@@ -9,7 +9,7 @@ use Rattle.aud_facts.specs.Clashes.{clashes}
 use Rattle.aud_facts.specs.Growth.{IsConflict}
 use Rattle.aud_facts.specs.Order.{AreOrdered}
 use Rattle.aud_facts.specs.Sets.{AreSound}
-use Rattle.aud_facts.specs.Status.{status_of}
+use Rattle.aud_facts.specs.Status.{fact_status}
 
 -- no two of the facts clash
 abbrev pub AreQuiet : List Fact → Type 0
@@ -21,7 +21,7 @@ AreAmong xs ys = (f : Fact) → Contains xs f → Contains ys f
 
 -- facts conflict nowhere exactly where their status is no conflict
 abbrev pub QuietIsNoConflict : Type 0
-QuietIsNoConflict = (logs : ℕ) (facts : List Fact) → AreQuiet facts ↔ (IsConflict (status_of logs facts) → ⊥)
+QuietIsNoConflict = (logs : ℕ) (facts : List Fact) → AreQuiet facts ↔ (IsConflict (fact_status logs facts) → ⊥)
 
 -- a part of facts that conflict nowhere conflicts nowhere
 abbrev pub PartsAreQuiet : Type 0
@@ -31,4 +31,4 @@ PartsAreQuiet = (xs ys : List Fact) → AreAmong xs ys → AreQuiet ys → AreQu
 abbrev pub SealedIsAll : Type 0
 SealedIsAll =
     (plan : PlanOf) (xs ys : List Fact) → AreOrdered xs → AreOrdered ys → AreSound plan ys →
-    status_of plan.logs xs ≡ Sealed → AreAmong xs ys → AreQuiet ys → ys ≡ xs
+    fact_status plan.logs xs ≡ Sealed → AreAmong xs ys → AreQuiet ys → ys ≡ xs

@@ -1,5 +1,5 @@
 -- What one pass over the facts finds.
-use Rattle.std.specs.Prelude.{◌≡◌, ℕ, zero, suc, ◌<◌, ◌≤◌, Bool, true, false, ◌&&◌, if◌then◌else◌, List, [], ◌∷◌, Option, Some, None, nat_eq, nat_lt, nat_le, slice_index_or, slice_set}
+use Rattle.std.specs.Prelude.{◌≡◌, ℕ, zero, suc, ◌<◌, ◌≤◌, Bool, true, false, ◌&&◌, if◌then◌else◌, List, [], ◌∷◌, Option, Some, None, nat_eq, nat_lt, nat_le, slice_index_or, slice_set, ◌||◌, ◌+◌, length}
 use Rattle.std.specs.List.{list_any, AllByRecursion}
 use Rattle.std.specs.Option.{option_or}
 use Rattle.aud_event.specs.declared.limits.TheConstants.{LOGS_MAX, PLACES, STAMPS}
@@ -130,3 +130,27 @@ abbrev pub placed : List (ℕ × Event) → List Fact → List (ℕ × Event)
 placed slots [] = slots
 placed slots (Rec r ∷ facts) = placed (slice_set slots r.stamp (r.tx, r.event)) facts
 placed slots (End e ∷ facts) = placed slots facts
+
+-- # What a walk notes of one fact more
+
+-- the least count of the log is at most this one, those of the others stay
+abbrev pub NotesCount : List (Option ℕ) → List (Option ℕ) → ℕ → ℕ → Type 0
+NotesCount old new log count =
+    (l n : ℕ) → l < LOGS_MAX → is_bounded (slice_index_or new l None) n ≡ (is_bounded (slice_index_or old l None) n || (nat_eq log l && nat_le count n))
+
+-- the number after the greatest place of the log is above this place, those of the others stay
+abbrev pub NotesPlace : List ℕ → List ℕ → ℕ → ℕ → Type 0
+NotesPlace old new log at = (l n : ℕ) → l < LOGS_MAX → nat_lt n (slice_index_or new l 0) ≡ (nat_lt n (slice_index_or old l 0) || (nat_eq log l && nat_le n at))
+
+-- the log has one record more, the others have as many; k is what comes after
+abbrev pub CountsOneMore : List ℕ → List ℕ → ℕ → Type 0
+CountsOneMore old new log = (l k : ℕ) → l < LOGS_MAX → slice_index_or new l 0 + k ≡ slice_index_or old l 0 + (if nat_eq log l then k + 1 else k)
+
+-- one record more has the stamp, up to two, and as many have the others; k is what comes after
+abbrev pub MarksOneMore : List ℕ → List ℕ → ℕ → Type 0
+MarksOneMore old new stamp =
+    (s k : ℕ) → s < length old → up_to_two (slice_index_or new s 0 + k) ≡ up_to_two (slice_index_or old s 0 + (if nat_eq stamp s then k + 1 else k))
+
+-- what stood at most once still does
+abbrev pub StaysCalm : List ℕ → List ℕ → Type 0
+StaysCalm old new = (s : ℕ) → s < length old → nat_lt 1 (slice_index_or old s 0) ≡ false → nat_lt 1 (slice_index_or new s 0) ≡ false

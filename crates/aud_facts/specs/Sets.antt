@@ -1,9 +1,9 @@
 -- What contracts see of a set of facts.
-use Rattle.std.specs.Prelude.{◌≡◌, ℕ, List, None}
+use Rattle.std.specs.Prelude.{◌≡◌, ℕ, List, None, ◌↔◌}
 use Rattle.aud_event.specs.declared.fact.Event.{Event}
 use Rattle.aud_facts.specs.declared.status.FactStatus.TheVariants.{Sealed}
-use Rattle.aud_facts.specs.Status.{status_of, hist}
-use Rattle.std.specs.List.{AllByRecursion}
+use Rattle.aud_facts.specs.Status.{fact_status, hist}
+use Rattle.std.specs.List.{AllByRecursion, Contains}
 use Rattle.aud_event.specs.declared.fact.Fact.{Fact}
 use Rattle.aud_event.specs.Meanings.{PlanOf}
 use Rattle.aud_event.specs.Facts.{first_fact_fault}
@@ -24,13 +24,17 @@ pub record SealedOf : Type 0 where
 
 -- every log has its end mark and its records, and no stamp is missing
 abbrev pub AreSealed : FactsOf → Type 0
-AreSealed facts = status_of facts.plan.logs facts.facts ≡ Sealed
+AreSealed facts = fact_status facts.plan.logs facts.facts ≡ Sealed
 
 -- the facts are sealed, and this is their history
 pub record IsSealedWith (facts : FactsOf) (history : List (ℕ × Event)) : Type 0 where
-  pub sealed : status_of facts.plan.logs facts.facts ≡ Sealed
+  pub sealed : fact_status facts.plan.logs facts.facts ≡ Sealed
   pub events : history ≡ hist facts.facts
 
 -- the sealed set is that of the facts
 abbrev pub IsSealOf : FactsOf → SealedOf → Type 0
 IsSealOf facts sealed = (sealed.facts ≡ facts) × IsSealedWith facts sealed.history
+
+-- exactly the facts of one set that another has not
+abbrev pub AreWithout : List Fact → List Fact → List Fact → Type 0
+AreWithout ours theirs left = (f : Fact) → Contains left f ↔ (Contains ours f × (Contains theirs f → ⊥))

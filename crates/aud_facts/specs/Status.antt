@@ -64,8 +64,8 @@ or_gap None = Sealed
 or_gap (Some stamp) = Gap stamp
 
 -- the status of facts of a plan of so many logs: the first that holds
-abbrev pub status_of : ℕ → List Fact → FactStatus
-status_of logs facts =
+abbrev pub fact_status : ℕ → List Fact → FactStatus
+fact_status logs facts =
     told TwoRecords (conflict TwoRecords facts)
     (told StampTwice (conflict StampTwice facts)
     (told TwoCounts (conflict TwoCounts facts)

@@ -6,7 +6,7 @@ ghost use Rattle.aud_event.specs.declared.limits.TheConstants.{LOGS_MAX, STAMPS}
 ghost use Rattle.aud_facts.specs.declared.status.Kind.TheVariants.{TwoRecords, StampTwice, TwoCounts, PastCount, StampOrder};
 ghost use Rattle.aud_facts.specs.Clashes.{conflict};
 ghost use Rattle.aud_facts.specs.Order.{AreOrdered};
-ghost use Rattle.aud_facts.specs.Status.{status_of, count, is_record, is_waiting, is_missing, is_mark_within, least_below};
+ghost use Rattle.aud_facts.specs.Status.{fact_status, count, is_record, is_waiting, is_missing, is_mark_within, least_below};
 ghost use Rattle.aud_facts.specs.Scans.{AreWithin, AreStamps, AreBounds, IsCalm, IsSurvey, IsUnderrun, first_place, is_past, is_twice};
 
 use crate::status::{FactStatus, Kind};
@@ -220,7 +220,7 @@ fn status_behind<A: Allocator + Copy>(
     requires stamps { AreStamps set.now marks.now }
     requires survey { IsSurvey set.now survey.now }
     requires logs { logs ≤ LOGS_MAX }
-    ensures { result ≡ status_of logs set.now }
+    ensures { result ≡ fact_status logs set.now }
 {
     if let Some((log, at)) = first_two_counts(set, survey) {
         return FactStatus::Conflict(Kind::TwoCounts, log, at);
@@ -254,7 +254,7 @@ fn status_by<A: Allocator + Copy>(
     requires calm { survey.now.crowded ≡ false → IsCalm marks.now }
     requires survey { IsSurvey set.now survey.now }
     requires logs { logs ≤ LOGS_MAX }
-    ensures { result ≡ status_of logs set.now }
+    ensures { result ≡ fact_status logs set.now }
 {
     if let Some((log, at)) = first_two_records(set, survey) {
         return FactStatus::Conflict(Kind::TwoRecords, log, at);
@@ -271,7 +271,7 @@ pub fn status_in<A: Allocator + Copy>(set: &UnionSet<Fact, A>, logs: u32) -> (Fa
     requires ordered { AreOrdered set.now }
     requires within { AreWithin set.now }
     requires logs { logs ≤ LOGS_MAX }
-    ensures status { result.0 ≡ status_of logs set.now }
+    ensures status { result.0 ≡ fact_status logs set.now }
     ensures records { result.1 ≡ count is_record set.now }
 {
     let mut marks = [0u8; STAMPS as usize];

@@ -8,8 +8,8 @@ ghost use Rattle.aud_lattice.specs.Sets.{has, with_item, inserted};
 ghost use Rattle.aud_facts.specs.Growth.{AreInConflict};
 ghost use Rattle.aud_facts.specs.Joins.{joined};
 ghost use Rattle.aud_facts.specs.Order.{AreOrdered};
-ghost use Rattle.aud_facts.specs.Sets.{FactsOf, AreSealed, AreSound, IsSealOf, IsSealedWith};
-ghost use Rattle.aud_facts.specs.Status.{status_of, hist, count, is_record};
+ghost use Rattle.aud_facts.specs.Sets.{FactsOf, AreSealed, AreSound, IsSealOf, IsSealedWith, AreWithout};
+ghost use Rattle.aud_facts.specs.Status.{fact_status, hist, count, is_record};
 
 use crate::conflict::status_in;
 use crate::placing::history_of;
@@ -61,7 +61,7 @@ fn status_of_set<A: Allocator + Copy>(
     set: &UnionSet<Fact, A>,
 ) -> (FactStatus, usize)
     requires { AreSound plan.now set.now }
-    ensures status { result.0 ≡ status_of plan.now.logs set.now }
+    ensures status { result.0 ≡ fact_status plan.now.logs set.now }
     ensures records { result.1 ≡ count is_record set.now }
 {
     let _ordered = set.iter();
@@ -153,7 +153,7 @@ impl<A: Allocator + Copy> Facts<A> {
     /// The facts that the other has not, of an equal plan or not.
     pub fn without(&self, other: &Facts<A>) -> Result<Facts<A>, OutOfMemory>
         ensures plan { IfOk result (λ left. left.plan ≡ self.now.plan) }
-        ensures facts { IfOk result (λ left. (f : Fact) → Contains left.facts f ↔ (Contains self.now.facts f × ¬ (Contains other.now.facts f))) }
+        ensures facts { IfOk result (λ left. AreWithout self.now.facts other.now.facts left.facts) }
         ensures ordered { IfOk result (λ left. AreOrdered left.facts) }
     {
         let plan = Arc::try_clone(&self.plan)?;
@@ -177,7 +177,7 @@ impl<A: Allocator + Copy> Facts<A> {
     /// walks over the facts once, or once more where a stamp stands twice or a record stands past a count, and its tables
     /// take 260 KiB of the stack.
     pub fn status(&self) -> FactStatus
-        ensures { result ≡ status_of self.now.plan.logs self.now.facts }
+        ensures { result ≡ fact_status self.now.plan.logs self.now.facts }
     {
         status_of_set(&self.plan, &self.set).0
     }

@@ -5,7 +5,7 @@ use Rattle.aud_event.specs.Meanings.{PlanOf}
 use Rattle.aud_event.specs.declared.fact.Fact.{Fact}
 use Rattle.aud_facts.specs.Order.{AreOrdered}
 use Rattle.aud_facts.specs.Sets.{FactsOf, SealedOf, IsSealedWith}
-use Rattle.aud_facts.specs.Status.{status_of, hist}
+use Rattle.aud_facts.specs.Status.{fact_status, hist}
 use Rattle.aud_history.specs.Histories.{History}
 use Rattle.aud_witness.specs.declared.decision.Decision.{Decision}
 use Rattle.aud_cover.specs.Closings.{IsClosed}
@@ -46,7 +46,7 @@ audit_says (Some b) plan h said.CertificateRefused says = says
 audit_says (Some b) plan h (said.Certified cert) says = says
 
 pub decided : (budget : Option ℕ) (plan : PlanOf) (facts : List Fact) (s : Said) → SetSays (DecideSays None false) plan facts s → SetSays (AuditSays budget) plan facts s
-decided budget plan facts s = by_status (status_told (status_of plan.logs facts))
+decided budget plan facts s = by_status (status_told (fact_status plan.logs facts))
   where
     by_status : (o : Option (Verdict Global)) → StatusTells said.Verdict (hist facts) (DecideSays None false plan (hist facts)) o s → StatusTells said.Verdict (hist facts) (AuditSays budget plan (hist facts)) o s
     by_status (Some v) is = is
@@ -94,7 +94,7 @@ module _ (kept : KnownIsKept) (norm : KnowledgeIsNorm) (law : SearchIsSaid Globa
   pub said_of : (found : Option Search) (v : Verdict Global) → IsVerdict k v → WasSearched facts budget k found → (v ≡ verdict.Unfinished → WasSearchedWith budget found) →
       ((p : List Decision) → v ≡ verdict.Opaque p → AreShownBy k.plan k.held.facts p) → (v ≡ verdict.NotOpaque → AreRefutedAt k.plan k.held.facts []) →
       SetSays (AuditSays budget) facts.plan facts.facts (said.Verdict v)
-  said_of found v is was searched shows refutes = subst (λ (f : FactsOf). SetSays (AuditSays budget) f.plan f.facts (said.Verdict v)) (sym same) (by_status (IsClosed k.plan.objects (hist k.held.facts) k.held.cover []) (status_told (status_of k.plan.logs k.held.facts)) is)
+  said_of found v is was searched shows refutes = subst (λ (f : FactsOf). SetSays (AuditSays budget) f.plan f.facts (said.Verdict v)) (sym same) (by_status (IsClosed k.plan.objects (hist k.held.facts) k.held.cover []) (status_told (fact_status k.plan.logs k.held.facts)) is)
     where
       Says_so : Type 0
       Says_so = AuditSays budget k.plan (hist k.held.facts) (said.Verdict v)

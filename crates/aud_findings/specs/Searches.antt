@@ -1,5 +1,5 @@
 -- The search of a history by tasks, and what is known of the ends of its tasks.
-use Rattle.std.specs.Prelude.{◌≡◌, ◌⊎◌, ℕ, List, [], Option, Some, None, ⊤}
+use Rattle.std.specs.Prelude.{◌≡◌, ◌⊎◌, ℕ, List, [], Option, Some, None, ⊤, ◌<◌, take, length}
 use Rattle.std.specs.List.{Contains}
 use Rattle.std.specs.declared.alloc.Global.{Global}
 use Rattle.aud_facts.specs.Sets.{FactsOf, IsSealedWith}
@@ -33,11 +33,26 @@ pub record IsSearchOf (facts : FactsOf) (s : ShapeOf) (tasks : List (List Decisi
 abbrev pub IsToldAtOnce : FactsOf → Type 0
 IsToldAtOnce facts = (told : Verdict Global) × FactsTellAtOnce facts.plan.logs facts.facts told
 
+-- the search is of these facts, with this budget for each task
+abbrev pub IsSearchWith : FactsOf → Option ℕ → Search → Type 0
+IsSearchWith facts budget s = (s.budget ≡ task_budget budget) × IsSearchOf facts s.shape.value s.tasks.items
+
+-- the search of the first tasks of another one, so many, and it has more
+pub record IsFirstOf (whole : Search) (count : ℕ) (s : Search) : Type 0 where
+  pub shape : s.shape.value ≡ whole.shape.value
+  pub budget : s.budget ≡ whole.budget
+  pub tasks : s.tasks.items ≡ take count whole.tasks.items
+  pub more : count < length whole.tasks.items
+
 -- # Their ends
 
 -- of a task a beginning is refuted in what is known, or a witness is known, or the budget is spent
 abbrev pub KnowsEnd : ShapeOf → ℕ → KnowledgeOf → List Decision → Type 0
 KnowsEnd s budget k t = IsCovered k.held.cover t ⊎ (HasWitness k.held ⊎ SpentBy (objects_of s) (history_of s) t budget)
+
+-- what one says of the end of a task, the other says too
+abbrev pub KeepsEnds : KnowledgeOf → KnowledgeOf → Type 0
+KeepsEnds before k = (s : ShapeOf) (budget : ℕ) (t : List Decision) → KnowsEnd s budget before t → KnowsEnd s budget k t
 
 -- # What was searched
 

@@ -5,7 +5,7 @@ ghost use Rattle.aud_witness.specs.declared.decision.Decision.{Decision};
 ghost use Rattle.aud_order.specs.Shapes.{ShapeOf};
 ghost use Rattle.aud_know.specs.Known.{Takes};
 ghost use Rattle.aud_know.specs.Norms.{atoms_of};
-ghost use Rattle.aud_findings.specs.Searches.{KnowsEnd};
+ghost use Rattle.aud_findings.specs.Searches.{KnowsEnd, KeepsEnds};
 
 use aud_event::OutOfMemory;
 use aud_know::laws::knowledge_is_norm;
@@ -17,8 +17,8 @@ pub fn joined(one: Knowledge, other: &Knowledge) -> Result<Knowledge, OutOfMemor
     requires { one.plan ≡ other.now.plan }
     ensures taken { IfOk result (λ k. Takes one.held k.held (atoms_of other.now.held)) }
     ensures plan { IfOk result (λ k. k.plan ≡ one.plan) }
-    ensures one { IfOk result (λ k. (s : ShapeOf) (budget : ℕ) (t : List Decision) → KnowsEnd s budget one t → KnowsEnd s budget k t) }
-    ensures other { IfOk result (λ k. (s : ShapeOf) (budget : ℕ) (t : List Decision) → KnowsEnd s budget other.now t → KnowsEnd s budget k t) }
+    ensures one { IfOk result (KeepsEnds one) }
+    ensures other { IfOk result (KeepsEnds other.now) }
 {
     known_is_kept();
     knowledge_is_norm();

@@ -1,7 +1,7 @@
 //! What the workers of all nodes search: the tasks of one history.
 
 ghost use Rattle.std.specs.Prelude.{◌≡◌, ◌≤◌, ◌<◌, None, IfOk, IfSome, length, take};
-ghost use Rattle.aud_findings.specs.Searches.{IsSearchOf, IsToldAtOnce, task_budget};
+ghost use Rattle.aud_findings.specs.Searches.{IsSearchOf, IsToldAtOnce, task_budget, IsSearchWith, IsFirstOf};
 
 use aud_event::{Dup, OutOfMemory};
 use aud_facts::Facts;
@@ -40,7 +40,7 @@ pub fn search_of(
     facts: &Facts,
     budget: Option<u64>,
 ) -> Result<Option<Search>, OutOfMemory>
-    ensures some { IfOk result (λ found. IfSome found (λ s. (s.budget ≡ task_budget budget) × IsSearchOf facts.now s.shape.value s.tasks.items)) }
+    ensures some { IfOk result (λ found. IfSome found (IsSearchWith facts.now budget)) }
     ensures none { IfOk result (λ found. found ≡ None → IsToldAtOnce facts.now) }
 {
     let Ok(sealed) = well_formed_history(facts)? else {
@@ -60,7 +60,7 @@ pub fn search_of(
 impl Search {
     /// The search of the first tasks alone, so many, where there are more. It shares the history.
     pub fn first(&self, alloc: Global, count: usize) -> Result<Option<Search>, OutOfMemory>
-        ensures some { IfOk result (λ found. IfSome found (λ s. (s.shape.value ≡ self.now.shape.value) × (s.budget ≡ self.now.budget) × (s.tasks.items ≡ take count self.now.tasks.items) × (count < length self.now.tasks.items))) }
+        ensures some { IfOk result (λ found. IfSome found (IsFirstOf self.now count)) }
         ensures none { IfOk result (λ found. found ≡ None → length self.now.tasks.items ≤ count) }
     {
         if self.tasks.len() <= count {

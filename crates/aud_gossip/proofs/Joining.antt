@@ -10,6 +10,7 @@ use Rattle.aud_know.specs.Norms.{atoms_of}
 use Rattle.aud_know.specs.Laws.{NormAbsorbs, NormIsOfSet}
 use Rattle.aud_node.specs.Logs.{Entry, atoms_in, state_of}
 use Rattle.aud_gossip.specs.Deltas.{joined, joined_all, Took, GoOn}
+use Rattle.aud_node.proofs.Own.{atoms-append}
 
 -- the join of the deltas is the join of the packets
 packets_join : (old : Option KnowledgeOf) (steps : List (KnowledgeOf × KnowledgeOf)) (new : Option KnowledgeOf) → Took old steps new → new ≡ joined_all old (map (λ step. step.0) steps)
@@ -22,10 +23,6 @@ deltas_join old (step ∷ steps) new (between, packet, delta, rest) = deltas_joi
 
 pub deltas_enough : (steps : List (KnowledgeOf × KnowledgeOf)) (new : Option KnowledgeOf) → Took None steps new → (new ≡ joined_all None (map (λ step. step.0) steps)) × (new ≡ joined_all None (map (λ step. step.1) steps))
 deltas_enough steps new took = (packets_join None steps new took, deltas_join None steps new took)
-
-atoms-append : (xs ys : List Entry) → atoms_in (xs ++ ys) ≡ atoms_in xs ++ atoms_in ys
-atoms-append [] ys = refl
-atoms-append (e ∷ xs) ys = ap (λ l. item_atoms e.1 ++ l) (atoms-append xs ys) ∙ sym (append_assoc (item_atoms e.1) (atoms_in xs) (atoms_in ys))
 
 module _ (absorbs : NormAbsorbs) (same : NormIsOfSet) where
   twice : (xs ys : List KnownAtom) → norm_of ((xs ++ ys) ++ xs) ≡ norm_of (xs ++ ys)

@@ -7,7 +7,7 @@ use Rattle.aud_history.specs.declared.state.TxState.TheVariants.{Idle}
 use Rattle.aud_history.specs.Histories.{History, events_of}
 use Rattle.aud_history.specs.WellFormed.{IsTransaction, IsWellFormed}
 use Rattle.aud_history.specs.ByState.{after, run, Passes}
-use Rattle.std.proofs.lemmas.List.{take_all, get_or-replicate, take-append-drop, take_more}
+use Rattle.std.proofs.lemmas.List.{take_all, get_or-replicate, take-append-drop, take_more, append-nil}
 use Rattle.std.proofs.lemmas.Bool.Decides.{nat_tests}
 use Rattle.aud_history.specs.FirstFault.{IsFirstFault}
 use Rattle.aud_event.proofs.Bools.{split, nat_eq-refl, nat_eq-is}
@@ -53,13 +53,9 @@ run-push s (x ∷ es) t e h =
 pub events_of-own : (h : History) (e : ℕ × Event) → events_of e.0 (h ++ e ∷ []) ≡ events_of e.0 h ++ e.1 ∷ []
 events_of-own h e = events_of-append e.0 h (e ∷ []) ∙ ap (λ b. events_of e.0 h ++ cond b (e.1 ∷ []) []) (nat_eq-refl e.0)
 
-append_nothing : {X : Type 0} (xs : List X) → xs ++ [] ≡ xs
-append_nothing [] = refl
-append_nothing (x ∷ xs) = ap (λ l. x ∷ l) (append_nothing xs)
-
 pub events_of-other : (h : History) (e : ℕ × Event) (t : ℕ) → nat_eq e.0 t ≡ false → events_of t (h ++ e ∷ []) ≡ events_of t h
 events_of-other h e t other =
-    events_of-append t h (e ∷ []) ∙ ap (λ b. events_of t h ++ cond b (e.1 ∷ []) []) other ∙ append_nothing (events_of t h)
+    events_of-append t h (e ∷ []) ∙ ap (λ b. events_of t h ++ cond b (e.1 ∷ []) []) other ∙ append-nil (events_of t h)
 
 pub IsWellFormed-empty : IsWellFormed []
 IsWellFormed-empty t = Continues-from_Passes Idle [] tt

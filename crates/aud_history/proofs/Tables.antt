@@ -10,7 +10,7 @@ use Rattle.aud_event.specs.declared.object.Op.{Op}
 use Rattle.aud_event.specs.declared.object.Answer.{Answer}
 use Rattle.aud_event.specs.declared.fact.Event.{Event}
 use Rattle.aud_event.specs.declared.fact.Event.TheVariants.{Inv, Ret, TryC, TryA, Commit, Abort}
-use Rattle.aud_event.proofs.Bools.{or_false, and_true, true_and, true_or, or_right, not_true, not_false, split, nat_eq-refl, nat_eq-is, nat_eq-sym}
+use Rattle.aud_event.proofs.Bools.{or_false, and_true, true_and, true_or, or_right, not_true, not_false, split, nat_eq-refl, nat_eq-is, nat_eq-sym, or_nothing}
 use Rattle.aud_object.specs.declared.execution.Execution.{Execution}
 use Rattle.aud_object.specs.declared.execution.Invocation.{Invocation}
 use Rattle.aud_object.specs.Blocks.{BlockOf, invoked, answered}
@@ -22,7 +22,7 @@ use Rattle.aud_history.specs.declared.status.Status.TheVariants.{Committed, Abor
 use Rattle.aud_history.specs.Histories.{History, events_of, is_in, is_commit, is_abort, is_try_commit}
 use Rattle.aud_history.specs.ByState.{is_match, after, Passes}
 use Rattle.aud_history.specs.WellFormed.{IsWellFormed}
-use Rattle.aud_history.specs.Table.{transactions, status_of, block_of, first_stamp, last_stamp, RowOf, row_of, table_of, with_event, fresh_row, rows_with}
+use Rattle.aud_history.specs.Table.{transactions, tx_status, block_of, first_stamp, last_stamp, RowOf, row_of, table_of, with_event, fresh_row, rows_with}
 use Rattle.aud_history.proofs.StateTable.{matched_passes, Passes-from_IsTransaction}
 use Rattle.aud_history.proofs.Events.{IsWellFormed-beginning}
 use Rattle.aud_history.proofs.FirstFault.{events_of-own, events_of-other}
@@ -231,15 +231,11 @@ block_with b TryA = b
 block_with b Commit = b
 block_with b Abort = b
 
-or_nothing : (a : Bool) → (a || false) ≡ a
-or_nothing true = refl
-or_nothing false = refl
-
 abbrev by_tests : Bool → Bool → Bool → Status
 by_tests c a p = if c then Committed else (if a then Aborted else (if p then CommitPending else Live))
 
 status-parts : (es : List Event) (x : Event) →
-    status_of (es ++ x ∷ []) ≡ by_tests (list_any is_commit es || list_any is_commit (x ∷ [])) (list_any is_abort es || list_any is_abort (x ∷ [])) (list_any is_try_commit es || list_any is_try_commit (x ∷ []))
+    tx_status (es ++ x ∷ []) ≡ by_tests (list_any is_commit es || list_any is_commit (x ∷ [])) (list_any is_abort es || list_any is_abort (x ∷ [])) (list_any is_try_commit es || list_any is_try_commit (x ∷ []))
 status-parts es x =
     ap (λ k. by_tests k (list_any is_abort (es ++ x ∷ [])) (list_any is_try_commit (es ++ x ∷ []))) (list_any-append is_commit es (x ∷ []))
     ∙ ap (λ k. by_tests (list_any is_commit es || list_any is_commit (x ∷ [])) k (list_any is_try_commit (es ++ x ∷ []))) (list_any-append is_abort es (x ∷ []))
@@ -249,7 +245,7 @@ same_tests : (c a p : Bool) → by_tests (c || false) (a || false) (p || false) 
 same_tests c a p =
     ap (λ k. by_tests k (a || false) (p || false)) (or_nothing c) ∙ ap (λ k. by_tests c k (p || false)) (or_nothing a) ∙ ap (λ k. by_tests c a k) (or_nothing p)
 
-pub status-push : (es : List Event) (x : Event) → Passes Idle (es ++ x ∷ []) → status_of (es ++ x ∷ []) ≡ status_with (status_of es) x
+pub status-push : (es : List Event) (x : Event) → Passes Idle (es ++ x ∷ []) → tx_status (es ++ x ∷ []) ≡ status_with (tx_status es) x
 status-push es (Inv ob op) p = status-parts es (Inv ob op) ∙ same_tests (list_any is_commit es) (list_any is_abort es) (list_any is_try_commit es)
 status-push es (Ret ob name answer) p = status-parts es (Ret ob name answer) ∙ same_tests (list_any is_commit es) (list_any is_abort es) (list_any is_try_commit es)
 status-push es TryC p =
@@ -361,10 +357,10 @@ row-own h e fine =
     let own : events_of e.0 (h ++ e ∷ []) ≡ es ++ e.1 ∷ [] = events_of-own h e in
     let passes : Passes Idle (es ++ e.1 ∷ []) = subst (λ l. Passes Idle l) own (Passes-from_IsTransaction (events_of e.0 (h ++ e ∷ [])) (fine e.0)) in
     let block = ap block_of own ∙ block-push es e.1 passes in
-    let status = ap status_of own ∙ status-push es e.1 passes in
+    let status = ap tx_status own ∙ status-push es e.1 passes in
     let first = first_stamp-own h e in
     let last = last_stamp-own h e in
-    let parts : row_of (h ++ e ∷ []) e.0 ≡ record { tx = e.0; block = block_with (block_of es) e.1; status = status_with (status_of es) e.1; first = first_stamp h e.0; last = length h } =
+    let parts : row_of (h ++ e ∷ []) e.0 ≡ record { tx = e.0; block = block_with (block_of es) e.1; status = status_with (tx_status es) e.1; first = first_stamp h e.0; last = length h } =
     λ i. record { tx = e.0; block = block i; status = status i; first = first i; last = last i } in
     parts ∙ sym (with_event-parts (row_of h e.0) (length h) e.1)
 
@@ -374,7 +370,7 @@ row-other h e t there other =
     let same = events_of-other h e t other in
     let first = first_stamp-there h e t there in
     let last = last_stamp-other h e t other in
-    λ i. record { tx = t; block = block_of (same i); status = status_of (same i); first = first i; last = last i }
+    λ i. record { tx = t; block = block_of (same i); status = tx_status (same i); first = first i; last = last i }
 
 events_of-absent : (h : History) (t : ℕ) → is_in h t ≡ false → events_of t h ≡ []
 events_of-absent [] t none = refl
@@ -387,7 +383,7 @@ row-fresh h t none =
     let nothing = sym (events_of-absent h t none) in
     let first = sym (first_stamp-absent h t none) in
     let last = sym (last_stamp-absent h t none) in
-    λ i. record { tx = t; block = block_of (nothing i); status = status_of (nothing i); first = first i; last = last i }
+    λ i. record { tx = t; block = block_of (nothing i); status = tx_status (nothing i); first = first i; last = last i }
 
 unchanged : (f g : ℕ → RowOf) (u : ℕ) (ts : List ℕ) → list_any (nat_eq u) ts ≡ false →
     ((t : ℕ) → list_any (nat_eq t) ts ≡ true → nat_eq u t ≡ false → g t ≡ f t) → map f ts ≡ map g ts

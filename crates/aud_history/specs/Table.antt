@@ -14,8 +14,8 @@ transactions [] = []
 transactions (e ∷ h) = e.0 ∷ filter (λ t. not (nat_eq t e.0)) (transactions h)
 
 -- what became of a transaction that did these events
-abbrev pub status_of : List Event → Status
-status_of es =
+abbrev pub tx_status : List Event → Status
+tx_status es =
     if list_any is_commit es then Committed
     else (if list_any is_abort es then Aborted
     else (if list_any is_try_commit es then CommitPending
@@ -54,7 +54,7 @@ abbrev pub row_of : History → ℕ → RowOf
 row_of h t = record {
   tx = t;
   block = block_of (events_of t h);
-  status = status_of (events_of t h);
+  status = tx_status (events_of t h);
   first = first_stamp h t;
   last = last_stamp h t;
 }

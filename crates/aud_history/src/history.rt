@@ -2,7 +2,7 @@
 
 ghost use Rattle.std.specs.Prelude.{◌≡◌, ◌↔◌, All, IsTrue, MatchOption, replicate};
 ghost use Rattle.aud_history.specs.WellFormed.{IsWellFormed};
-ghost use Rattle.aud_history.specs.FirstFault.{IsFirstFault, FitsPlan, IsWithinLimits};
+ghost use Rattle.aud_history.specs.FirstFault.{IsFirstFault, FitsPlan, IsWithinLimits, IsCheckedAs};
 
 use crate::rule::Rule;
 use crate::state::TxState;
@@ -57,7 +57,7 @@ fn all_fit<A: Allocator>(plan: &Plan<A>, events: &[(u32, Event)]) -> bool
 impl<A: Allocator + Drop> History<A> {
     /// The history of these events, where each fits the plan and there are at most 262,144. It does not allocate.
     pub fn checked(plan: Arc<Plan<A>, A>, events: Vec<(u32, Event), A>) -> Option<History<A>>
-        ensures { MatchOption result (IsWithinLimits plan.value events.items → ⊥) (λ h. h ≡ record { plan = plan.value; events = events.items }) }
+        ensures { IsCheckedAs plan.value events.items result }
     {
         if events.len() <= STAMPS as usize && all_fit(&plan, &events) {
             Some(History::new(plan, events))

@@ -15,10 +15,10 @@ use Rattle.aud_event.specs.declared.fact.Fact.{Fact}
 use Rattle.aud_event.specs.contracts.fact.FactOrd.TheImpl as fact_order
 use Rattle.aud_lattice.specs.Sets.{by_order, has, union}
 use Rattle.aud_lattice.specs.Sorted.{has-union, sorted_union, same_sorted}
-use Rattle.aud_lattice.specs.Members.{has_is}
+use Rattle.aud_lattice.proofs.Members.{has_is}
 use Rattle.aud_lattice.specs.Covers.{begins, covers, IsCover, cover_union}
 use Rattle.aud_lattice.specs.Covering.{covers-cover_union, cover_cover_union, same_cover}
-use Rattle.aud_lattice.specs.Strict.{some_passes, one_passes}
+use Rattle.aud_lattice.proofs.Strict.{some_passes, one_passes}
 use Rattle.aud_lattice.specs.Least.{least_of}
 use Rattle.aud_facts.specs.Sets.{AreSound}
 use Rattle.aud_facts.specs.Quiet.{AreQuiet}
@@ -31,19 +31,11 @@ use Rattle.aud_know.specs.Beyond.{AreNew, AreAllOrNew, IsNewWitness, HasFinding,
 use Rattle.aud_know.proofs.Keeping.{fact_total}
 use Rattle.aud_know.proofs.Norming.{here, norm_append, norm_atoms}
 use Rattle.aud_know.proofs.Staying.{same_lists}
+use Rattle.aud_event.proofs.Bools.{is_false}
+use Rattle.aud_lattice.proofs.Tries.{same_some, none≢some}
 
 no_item : {T : Type 0} (x : T) → Contains [] x → ⊥
 no_item x h = let lt = h.1 in omega arith
-
-none≢some : {T : Type 0} (x : T) → None ≡ Some x → ⊥
-none≢some x e = cc
-
-same_some : {T : Type 0} (x y : T) → Some x ≡ Some y → x ≡ y
-same_some x y e = cc
-
-false_of : (b : Bool) → (b ≡ true → ⊥) → b ≡ false
-false_of true h = absurd (h refl)
-false_of false h = refl
 
 -- where what is new is all that is added
 adds : (a b d : Bool) → (d ≡ true → a ≡ true) → (a ≡ true → b ≡ false → d ≡ true) → (b || d) ≡ (b || a)
@@ -162,7 +154,7 @@ witness_goes held other same p = (λ e. absurd (none≢some p e), λ h. absurd (
 
 -- where there is no witness, a refuted list alone is a finding
 pub list_found : (cover : List (List Decision)) (witness : Option (List Decision)) (bare : Bool) → witness ≡ None → (bare ≡ true) ↔ (cover ≡ []) → (not bare ≡ true) ↔ HasFinding cover witness
-list_found (p ∷ ps) witness bare none is = ((λ _. (p, inl (here p ps))), λ _. ap not (false_of bare (λ e. some_item p ps (is.0 e))))
+list_found (p ∷ ps) witness bare none is = ((λ _. (p, inl (here p ps))), λ _. ap not (is_false bare (λ e. some_item p ps (is.0 e))))
   where
     some_item : (x : List Decision) (xs : List (List Decision)) → x ∷ xs ≡ [] → ⊥
     some_item x xs e = cc

@@ -15,11 +15,11 @@ use Rattle.aud_event.specs.Exactness.{fact_exact}
 use Rattle.aud_lattice.specs.Covers.{begins, IsFirst}
 use Rattle.aud_lattice.specs.Covering.{cover_sorted}
 use Rattle.aud_lattice.specs.Least.{reaches}
-use Rattle.aud_lattice.specs.Members.{has_member, member_of}
-use Rattle.aud_lattice.specs.Norms.{norm_of_firsts}
+use Rattle.aud_lattice.proofs.Members.{has_member, member_of}
+use Rattle.aud_lattice.proofs.Normed.{norm_of_firsts}
 use Rattle.aud_lattice.specs.Sets.{has}
 use Rattle.aud_lattice.specs.Sorted.{same_sorted}
-use Rattle.aud_lattice.specs.Strict.{some_passes, one_passes}
+use Rattle.aud_lattice.proofs.Strict.{some_passes, one_passes}
 use Rattle.aud_witness.specs.declared.decision.Decision.{Decision}
 use Rattle.aud_witness.specs.DecisionOrder.{decision_cmp, decisions_total, decision_exact, prefix_exact}
 use Rattle.aud_know.specs.Norms.{shown, facts_of, refuted_of, shown_of}
@@ -28,45 +28,29 @@ use Rattle.aud_know.specs.Members.{IsFirstRefuted, IsLeastShown, IsNormOf}
 use Rattle.aud_know.specs.Laws.{NormIsExact}
 use Rattle.aud_know.proofs.Keeping.{fact_total}
 use Rattle.aud_know.proofs.Norming.{fact_there, there_fact, refuted_there, there_refuted, shown_there, there_shown, has-norm, reaches-norm, is_normal}
+use Rattle.aud_event.proofs.Bools.{same_bools}
+use Rattle.aud_cover.proofs.Beginnings.{begins-rest, begins-longer}
 
 prefix_total : IsTotalOrder (slice_cmp decision_cmp)
 prefix_total = lists_total decisions_total
-
-same_bool : (a b : Bool) → (a ≡ true → b ≡ true) → (b ≡ true → a ≡ true) → a ≡ b
-same_bool true true f g = refl
-same_bool true false f g = sym (f refl)
-same_bool false true f g = g refl
-same_bool false false f g = refl
 
 -- sorted lists with the same members are one
 same_members : {T : Type 0} {R : T → T → Ordering} → IsTotalOrder R → IsExact R → (xs ys : List T) → IsStrictlySortedBy R xs → IsStrictlySortedBy R ys →
     ((x : T) → Contains xs x → Contains ys x) → ((x : T) → Contains ys x → Contains xs x) → xs ≡ ys
 same_members {R = R} o ex xs ys s t f g =
-    same_sorted o ex xs ys s t (λ q. same_bool (has R xs q) (has R ys q) (λ e. has_member o ex ys q (f q (member_of o ex xs q e))) (λ e. has_member o ex xs q (g q (member_of o ex ys q e))))
+    same_sorted o ex xs ys s t (λ q. same_bools (has R xs q) (has R ys q) (λ e. has_member o ex ys q (f q (member_of o ex xs q e))) (λ e. has_member o ex xs q (g q (member_of o ex ys q e))))
 
 -- # Beginnings
-
-pub rest_of : (q p : List Decision) → begins decision_cmp q p ≡ true → (rest : List Decision) × (p ≡ q ++ rest)
-rest_of [] p e = (p, refl)
-rest_of (x ∷ q) [] e = absurd (true≢false (sym e))
-rest_of (x ∷ q) (y ∷ p) e =
-    let parts = and_parts (is_eq (decision_cmp x y)) (begins decision_cmp q p) e in
-    let found = rest_of q p parts.1 in
-    (found.0, λ i. sym (decision_exact x y ((Equal-is (decision_cmp x y)).0 parts.0)) i ∷ found.1 i)
-
-pub begins_with : (q rest : List Decision) → begins decision_cmp q (q ++ rest) ≡ true
-begins_with [] rest = refl
-begins_with (x ∷ q) rest = and_from (is_eq (decision_cmp x x)) (begins decision_cmp q (q ++ rest)) (ap is_eq (tied_itself decisions_total x)) (begins_with q rest)
 
 first_refuted : (atoms : List KnownAtom) (p : List Decision) → IsFirst decision_cmp (refuted_of atoms) p ↔ IsFirstRefuted atoms p
 first_refuted atoms p = (
   (λ it. record {
     there = refuted_there atoms p it.there;
-    first = λ q rest member is. it.first q (there_refuted atoms q member) (subst (λ l. begins decision_cmp q l ≡ true) (sym is) (begins_with q rest));
+    first = λ q rest member is. it.first q (there_refuted atoms q member) (subst (λ l. begins decision_cmp q l ≡ true) (sym is) (begins-longer q rest));
   }),
   (λ it. record {
     there = there_refuted atoms p it.there;
-    first = λ q member e. let rest = rest_of q p e in it.first q rest.0 (refuted_there atoms q member) rest.1;
+    first = λ q member e. let rest = begins-rest q p e in it.first q rest.0 (refuted_there atoms q member) rest.1;
   }),
 )
 

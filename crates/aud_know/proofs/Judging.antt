@@ -17,7 +17,7 @@ use Rattle.aud_facts.specs.declared.status.FactStatus.TheVariants as status
 use Rattle.aud_facts.specs.Growth.{IsConflict}
 use Rattle.aud_facts.specs.Quiet.{AreQuiet, QuietIsNoConflict}
 use Rattle.aud_facts.specs.Sets.{FactsOf, SealedOf, IsSealedWith}
-use Rattle.aud_facts.specs.Status.{status_of, hist}
+use Rattle.aud_facts.specs.Status.{fact_status, hist}
 use Rattle.aud_witness.specs.declared.decision.Decision.{Decision}
 use Rattle.aud_witness.specs.Orders.{Refuted, Shows}
 use Rattle.aud_order.specs.Shapes.{ShapeOf, objects_of, history_of}
@@ -44,7 +44,7 @@ tells_nothing X status.Sealed e = refl
 
 -- of facts with a well-formed history the answer is reported
 pub answered : {X S : Type 0} (told : Verdict X → S) (logs : ℕ) (facts : List Fact) (Answers : S → Type 0) (s : S) →
-    status_of logs facts ≡ status.Sealed → IsWellFormed (hist facts) → Answers s → FactsTell told logs facts Answers s
+    fact_status logs facts ≡ status.Sealed → IsWellFormed (hist facts) → Answers s → FactsTell told logs facts Answers s
 answered told logs facts Answers s sealed well answer = subst (λ st. StatusTells told (hist facts) Answers (status_told st) s) (sym sealed) (inr (well, answer))
 
 -- of facts with a history the rule is reported that it breaks first
@@ -66,17 +66,17 @@ read facts v value (Err told) is sealed h = subst (λ (f : FactsOf). FactsTellAt
 -- what is reported at once is reported whatever is asked
 pub told_at_once : {X S : Type 0} (told : Verdict X → S) (logs : ℕ) (facts : List Fact) (Answers : S → Type 0) (v : Verdict X) →
     FactsTellAtOnce logs facts v → FactsTell told logs facts Answers (told v)
-told_at_once {X} {S} told logs facts Answers v = by_status (status_told (status_of logs facts))
+told_at_once {X} {S} told logs facts Answers v = by_status (status_told (fact_status logs facts))
   where
     by_status : (o : Option (Verdict X)) → StatusTells (λ w. w) (hist facts) (λ answer. ⊥) o v → StatusTells told (hist facts) Answers o (told v)
     by_status (Some w) is = ap told is
     by_status None (inl (stamp, (rule, (fault, is)))) = inl (stamp, (rule, (fault, ap told is)))
     by_status None (inr both) = absurd both.1
 
-quiet_of_sealed : QuietIsNoConflict → (logs : ℕ) (facts : List Fact) → status_of logs facts ≡ status.Sealed → AreQuiet facts
+quiet_of_sealed : QuietIsNoConflict → (logs : ℕ) (facts : List Fact) → fact_status logs facts ≡ status.Sealed → AreQuiet facts
 quiet_of_sealed law logs facts sealed = (law logs facts).1 (λ conflict. subst IsConflict sealed conflict)
 
-module _ (law : QuietIsNoConflict) (k : KnowledgeOf) (truth : IsKnowledge k.plan k.held) (sealed : status_of k.plan.logs k.held.facts ≡ status.Sealed) where
+module _ (law : QuietIsNoConflict) (k : KnowledgeOf) (truth : IsKnowledge k.plan k.held) (sealed : fact_status k.plan.logs k.held.facts ≡ status.Sealed) where
   pub quiet : AreQuiet k.held.facts
   quiet = quiet_of_sealed law k.plan.logs k.held.facts sealed
 
@@ -98,7 +98,7 @@ module _ (law : QuietIsNoConflict) (k : KnowledgeOf) (truth : IsKnowledge k.plan
     closes k.plan.objects (hist k.held.facts) k.held.cover [] (λ q there. (truth.true_for.refuted quiet q there).1) closed,
   )
 
-module _ (X : Type 0) (k : KnowledgeOf) (sealed : status_of k.plan.logs k.held.facts ≡ status.Sealed) (well : IsWellFormed (hist k.held.facts)) (none : k.held.witness ≡ None) where
+module _ (X : Type 0) (k : KnowledgeOf) (sealed : fact_status k.plan.logs k.held.facts ≡ status.Sealed) (well : IsWellFormed (hist k.held.facts)) (none : k.held.witness ≡ None) where
   pub says_not_opaque : IsClosed k.plan.objects (hist k.held.facts) k.held.cover [] → IsVerdict {X = X} k verdict.NotOpaque
   says_not_opaque closed =
       subst (λ s. OfStatus {X = X} k.plan k.held s verdict.NotOpaque) (sym sealed)
@@ -191,7 +191,7 @@ one_of_status X plan held status.Sealed u v (inr a) (inl (t, (r, (other, same)))
 one_of_status X plan held status.Sealed u v (inr a) (inr b) = one_of_well_formed X (IsClosed plan.objects (hist held.facts) held.cover []) held.witness u v a.1 b.1
 
 pub verdict_one : (X : Type 0) → VerdictIsOne X
-verdict_one X k v w a b = one_of_status X k.plan k.held (status_of k.plan.logs k.held.facts) v w a b
+verdict_one X k v w a b = one_of_status X k.plan k.held (fact_status k.plan.logs k.held.facts) v w a b
 
 -- # What Opaque and NotOpaque say
 
@@ -223,10 +223,10 @@ not_opaque_says X plan held status.Sealed (inr h) = (refl, (h.0, of_not_opaque X
 
 pub opaque_shown : QuietIsNoConflict → (X : Type 0) → OpaqueIsShown X
 opaque_shown law X k p truth said =
-    let it = opaque_says X k.plan k.held (status_of k.plan.logs k.held.facts) p said in
+    let it = opaque_says X k.plan k.held (fact_status k.plan.logs k.held.facts) p said in
     witness_shows law k truth it.0 p it.1.1
 
 pub not_opaque_refuted : QuietIsNoConflict → ClosedIsRefuted → (X : Type 0) → NotOpaqueIsRefuted X
 not_opaque_refuted law closes X k truth said =
-    let it = not_opaque_says X k.plan k.held (status_of k.plan.logs k.held.facts) said in
+    let it = not_opaque_says X k.plan k.held (fact_status k.plan.logs k.held.facts) said in
     closed_refutes law k truth it.0 closes it.1.0 it.1.1.1

@@ -12,7 +12,7 @@ use Rattle.aud_event.specs.contracts.fact.FactOrd.TheImpl as fact_order
 use Rattle.aud_event.specs.contracts.fact.FactOrd.TheImpl.Laws as fact_laws
 use Rattle.aud_lattice.specs.Covers.{with_list}
 use Rattle.aud_lattice.specs.Least.{least_of}
-use Rattle.aud_lattice.specs.Members.{member_of, has_member}
+use Rattle.aud_lattice.proofs.Members.{member_of, has_member}
 use Rattle.aud_lattice.specs.Sets.{with_item, union}
 use Rattle.aud_facts.specs.Order.{AreOrdered}
 use Rattle.aud_facts.specs.Quiet.{AreQuiet, SealedIsAll}

@@ -11,30 +11,14 @@ use Rattle.std.specs.List.Sorted.{IsStrictlySortedBy}
 use Rattle.aud_event.specs.Exact.{IsExact}
 use Rattle.aud_lattice.specs.Sets.{has}
 use Rattle.aud_lattice.specs.Sorted.{has-union, sorted_union, same_sorted}
-use Rattle.aud_lattice.specs.Strict.{some_passes, one_passes}
+use Rattle.aud_lattice.proofs.Strict.{some_passes, one_passes}
 use Rattle.aud_lattice.specs.Covers.{covers, IsCover}
 use Rattle.aud_lattice.specs.Covering.{cover_cover_union, covers-cover_union, same_cover}
 use Rattle.aud_lattice.specs.Least.{reaches}
 use Rattle.aud_lattice.specs.Leasts.{reaches-least_of, same_least}
 use Rattle.aud_know.specs.Norms.{Atom, fact, refuted, shown, facts_of, refuted_of, shown_of, Norm, least_in, norm, merge, witness_atoms, atoms_of, IsNormal}
-
-or-false : (a : Bool) → (a || false) ≡ a
-or-false true = refl
-or-false false = refl
-
-or_assoc : (a b c : Bool) → ((a || b) || c) ≡ (a || (b || c))
-or_assoc true b c = refl
-or_assoc false b c = refl
-
-pub or_true : (a : Bool) → (a || true) ≡ true
-or_true true = refl
-or_true false = refl
-
-same_bool : (a b : Bool) → (a ≡ true → b ≡ true) → (b ≡ true → a ≡ true) → a ≡ b
-same_bool true true f g = refl
-same_bool true false f g = sym (f refl)
-same_bool false true f g = g refl
-same_bool false false f g = refl
+use Rattle.aud_event.proofs.Bools.{or_nothing, or_assoc, same_bools}
+use Rattle.std.proofs.lemmas.List.{append-nil}
 
 any_append : {X : Type 0} (t : X → Bool) (xs ys : List X) → list_any t (xs ++ ys) ≡ (list_any t xs || list_any t ys)
 any_append t [] ys = refl
@@ -54,11 +38,7 @@ any_within : {X : Type 0} (t : X → Bool) (xs ys : List X) → ((x : X) → Con
 any_within t xs ys within e = let found = some_passes t xs e in one_passes t ys found.0 (within found.0 found.1) found.2
 
 any_same : {X : Type 0} (t : X → Bool) (xs ys : List X) → ((x : X) → Contains xs x → Contains ys x) → ((x : X) → Contains ys x → Contains xs x) → list_any t xs ≡ list_any t ys
-any_same t xs ys f g = same_bool (list_any t xs) (list_any t ys) (any_within t xs ys f) (any_within t ys xs g)
-
-append-none : {A : Type 0} (xs : List A) → xs ++ [] ≡ xs
-append-none [] = refl
-append-none (x ∷ xs) = ap (λ l. x ∷ l) (append-none xs)
+any_same t xs ys f g = same_bools (list_any t xs) (list_any t ys) (any_within t xs ys f) (any_within t ys xs g)
 
 refuted-witness : (F D : Type 0) (w : Option (List D)) → refuted_of {F = F} (witness_atoms w) ≡ []
 refuted-witness F D None = refl
@@ -213,14 +193,14 @@ module _ {F D : Type 0} where
   facts-atoms n =
       facts-map_fact n.facts (map refuted n.cover ++ witness_atoms n.witness)
       ∙ ap (λ l. n.facts ++ l) (facts-map_refuted n.cover (witness_atoms n.witness) ∙ facts-witness n.witness)
-      ∙ append-none n.facts
+      ∙ append-nil n.facts
 
   pub refuted-atoms : (n : Norm F D) → refuted_of (atoms_of n) ≡ n.cover
   refuted-atoms n =
       refuted-map_fact n.facts (map refuted n.cover ++ witness_atoms n.witness)
       ∙ refuted-map_refuted n.cover (witness_atoms n.witness)
       ∙ ap (λ l. n.cover ++ l) (refuted-witness F D n.witness)
-      ∙ append-none n.cover
+      ∙ append-nil n.cover
 
   pub shown-atoms : (n : Norm F D) → shown_of (atoms_of n) ≡ shown_of {F = F} (witness_atoms n.witness)
   shown-atoms n =
@@ -275,10 +255,10 @@ module _ {F D : Type 0} {R : F → F → Ordering} {S : D → D → Ordering} (o
   }
 
   pub has-norm : (X : List (Atom F D)) (q : F) → has R (norm R S X).facts q ≡ has R (facts_of X) q
-  has-norm X q = has-union o (facts_of X) [] q ∙ or-false (has R (facts_of X) q)
+  has-norm X q = has-union o (facts_of X) [] q ∙ or_nothing (has R (facts_of X) q)
 
   pub covers-norm : (X : List (Atom F D)) (q : List D) → covers S (norm R S X).cover q ≡ covers S (refuted_of X) q
-  covers-norm X q = covers-cover_union p (refuted_of X) [] q ∙ or-false (covers S (refuted_of X) q)
+  covers-norm X q = covers-cover_union p (refuted_of X) [] q ∙ or_nothing (covers S (refuted_of X) q)
 
   pub reaches-norm : (X : List (Atom F D)) (q : List D) → reaches (slice_cmp S) (norm R S X).witness q ≡ list_any (λ x. is_le (slice_cmp S x q)) (shown_of X)
   reaches-norm X q = reaches-least_in lo (shown_of X) q

@@ -14,16 +14,7 @@ use Rattle.aud_lattice.specs.Least.{least_of}
 use Rattle.aud_know.specs.Norms.{Atom, fact, refuted, shown, facts_of, refuted_of, shown_of, Norm, set_of, least_in, norm, merge, atoms_of, IsNormal}
 use Rattle.aud_know.proofs.Norming.{first_or_later, is_normal, merge_normal, norm_append, norm_atoms}
 use Rattle.aud_know.proofs.Truths.{QuietParts, WholeStays, IsTrueFor, merge_true}
-
-or-false : (a : Bool) → (a || false) ≡ a
-or-false true = refl
-or-false false = refl
-
-or_comm : (a b : Bool) → (a || b) ≡ (b || a)
-or_comm true true = refl
-or_comm true false = refl
-or_comm false true = refl
-or_comm false false = refl
+use Rattle.aud_event.proofs.Bools.{or_nothing, or_comm}
 
 facts-map : (F D : Type 0) (fs : List F) → facts_of {D = D} (map fact fs) ≡ fs
 facts-map F D [] = refl
@@ -53,18 +44,18 @@ module _ {F D : Type 0} {R : F → F → Ordering} {S : D → D → Ordering} (o
   -- a set with an item
   with_one : (f : F) (xs : List F) → IsStrictlySortedBy R xs → with_item R f xs ≡ union R xs (f ∷ [])
   with_one f xs s = same_sorted o ex (with_item R f xs) (union R xs (f ∷ [])) (sorted_with_item o f xs s) (sorted_union o xs (f ∷ []) (sorted_with_item o f [] sorted_none))
-      (λ q. has-with_item o f xs q ∙ or_comm _ (has R xs q) ∙ ap (λ b. has R xs q || b) (sym (or-false _)) ∙ sym (has-union o xs (f ∷ []) q))
+      (λ q. has-with_item o f xs q ∙ or_comm _ (has R xs q) ∙ ap (λ b. has R xs q || b) (sym (or_nothing _)) ∙ sym (has-union o xs (f ∷ []) q))
 
   -- a set with nothing
   set_alone : (xs : List F) → IsStrictlySortedBy R xs → set_of R xs ≡ xs
-  set_alone xs s = same_sorted o ex (union R xs []) xs (sorted_union o xs [] sorted_none) s (λ q. has-union o xs [] q ∙ or-false (has R xs q))
+  set_alone xs s = same_sorted o ex (union R xs []) xs (sorted_union o xs [] sorted_none) s (λ q. has-union o xs [] q ∙ or_nothing (has R xs q))
 
   with_one_list : (q : List D) (ps : List (List D)) → IsCover S ps → with_list S q ps ≡ cover_union S ps (q ∷ [])
   with_one_list q ps s = same_cover p ey (with_list S q ps) (cover_union S ps (q ∷ [])) (cover_with_list p q ps s) (cover_cover_union p ps (q ∷ []) (cover_with_list p q [] cover_none))
-      (λ r. covers-with_list p q ps r ∙ or_comm _ (covers S ps r) ∙ ap (λ b. covers S ps r || b) (sym (or-false _)) ∙ sym (covers-cover_union p ps (q ∷ []) r))
+      (λ r. covers-with_list p q ps r ∙ or_comm _ (covers S ps r) ∙ ap (λ b. covers S ps r || b) (sym (or_nothing _)) ∙ sym (covers-cover_union p ps (q ∷ []) r))
 
   cover_alone : (ps : List (List D)) → IsCover S ps → cover_union S ps [] ≡ ps
-  cover_alone ps s = same_cover p ey (cover_union S ps []) ps (cover_cover_union p ps [] cover_none) s (λ r. covers-cover_union p ps [] r ∙ or-false (covers S ps r))
+  cover_alone ps s = same_cover p ey (cover_union S ps []) ps (cover_cover_union p ps [] cover_none) s (λ r. covers-cover_union p ps [] r ∙ or_nothing (covers S ps r))
 
   -- the values that takes leave
   pub with_fact : (n : Norm F D) (f : F) → IsNormal R S n →

@@ -11,10 +11,10 @@ use Rattle.aud_event.specs.Exact.{IsExact}
 use Rattle.aud_lattice.specs.Sets.{has, union, by_order}
 use Rattle.aud_lattice.specs.Sorted.{has-union, sorted_union}
 use Rattle.aud_lattice.specs.Covers.{cover_union}
-use Rattle.aud_lattice.specs.Minimal.{kept}
+use Rattle.aud_lattice.proofs.Minimal.{kept}
 use Rattle.aud_lattice.specs.Least.{least_of}
 use Rattle.aud_know.specs.Norms.{Norm, merge, IsNormal}
-use Rattle.aud_know.proofs.Norming.{or_true}
+use Rattle.aud_event.proofs.Bools.{or_always}
 
 -- each item of xs is in ys
 abbrev pub IsWithin : {T : Type 0} → (T → T → Ordering) → List T → List T → Type 0
@@ -51,7 +51,7 @@ module _ {F D : Type 0} {R : F → F → Ordering} {S : D → D → Ordering} (o
   within_left xs ys q h = has-union o xs ys q ∙ ap (λ b. b || has R ys q) h
 
   pub within_right : (xs ys : List F) → IsWithin R ys (union R xs ys)
-  within_right xs ys q h = has-union o xs ys q ∙ ap (λ b. has R xs q || b) h ∙ or_true (has R xs q)
+  within_right xs ys q h = has-union o xs ys q ∙ ap (λ b. has R xs q || b) h ∙ or_always (has R xs q)
 
   pub merge_true : (n m : Norm F D) → IsNormal R S n → IsNormal R S m →
       IsTrueFor Quiet Whole Refutes Shows n → IsTrueFor Quiet Whole Refutes Shows m → IsTrueFor Quiet Whole Refutes Shows (merge R S n m)

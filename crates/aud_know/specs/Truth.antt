@@ -6,7 +6,7 @@ use Rattle.aud_event.specs.declared.fact.Fact.{Fact}
 use Rattle.aud_event.specs.contracts.fact.FactOrd.TheImpl as fact_order
 use Rattle.aud_history.specs.WellFormed.{IsWellFormed}
 use Rattle.aud_facts.specs.declared.status.FactStatus.TheVariants.{Sealed}
-use Rattle.aud_facts.specs.Status.{status_of, hist}
+use Rattle.aud_facts.specs.Status.{fact_status, hist}
 use Rattle.aud_facts.specs.Sets.{AreSound}
 use Rattle.aud_facts.specs.Quiet.{AreQuiet}
 use Rattle.aud_witness.specs.declared.decision.Decision.{Decision}
@@ -17,7 +17,7 @@ use Rattle.aud_know.specs.Known.{Held}
 
 -- the facts are sealed, and their history is well-formed
 pub record AreWhole (plan : PlanOf) (facts : List Fact) : Type 0 where
-  pub sealed : status_of plan.logs facts ≡ Sealed
+  pub sealed : fact_status plan.logs facts ≡ Sealed
   pub well_formed : IsWellFormed (hist facts)
 
 -- the facts are whole, and the order shows their history

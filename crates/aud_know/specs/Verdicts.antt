@@ -6,7 +6,7 @@ use Rattle.aud_history.specs.WellFormed.{IsWellFormed}
 use Rattle.aud_history.specs.FirstFault.{IsFirstFault}
 use Rattle.aud_facts.specs.declared.status.FactStatus.{FactStatus}
 use Rattle.aud_facts.specs.declared.status.FactStatus.TheVariants as status
-use Rattle.aud_facts.specs.Status.{status_of, hist}
+use Rattle.aud_facts.specs.Status.{fact_status, hist}
 use Rattle.aud_witness.specs.declared.decision.Decision.{Decision}
 use Rattle.aud_cover.specs.Closings.{IsClosed}
 use Rattle.aud_know.specs.Known.{KnowledgeOf}
@@ -37,7 +37,7 @@ StatusTells told h Answers None s = HistoryTells told h Answers s
 -- of facts: the first that holds of a conflict, a log that waits, a gap, and a rule that their history breaks, as it is
 -- reported; else what is answered of the history
 abbrev pub FactsTell : {X S : Type 0} → (Verdict X → S) → ℕ → List Fact → (S → Type 0) → S → Type 0
-FactsTell told logs facts Answers s = StatusTells told (hist facts) Answers (status_told (status_of logs facts)) s
+FactsTell told logs facts Answers s = StatusTells told (hist facts) Answers (status_told (fact_status logs facts)) s
 
 -- what is reported before any answer
 abbrev pub FactsTellAtOnce : {X : Type 0} → ℕ → List Fact → Verdict X → Type 0

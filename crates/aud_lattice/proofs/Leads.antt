@@ -13,14 +13,15 @@ use Rattle.std.specs.declared.sync.Arc.{Arc}
 use Rattle.std.specs.declared.collections.BTreeMap.{BTreeMap}
 use Rattle.aud_event.specs.Exact.{IsExact}
 use Rattle.aud_lattice.specs.Sets.{either}
-use Rattle.aud_lattice.specs.Strict.{some_passes, one_passes}
+use Rattle.aud_lattice.proofs.Strict.{some_passes, one_passes}
 use Rattle.aud_lattice.specs.declared.trie.Trie.{Trie, out-Trie}
 use Rattle.aud_lattice.specs.declared.trie.Trie.TheVariants.{Fork as made, outs-Fork}
 use Rattle.aud_lattice.specs.declared.trie.Trie.TheOpen.{Trie-F, Member, Fork}
 use Rattle.aud_lattice.specs.Walks.{nodes_of, node_of, ends, behind, IsLayer, is_member, child, walk_on, walk, leads, nothing, but, after, starts, IsLive, IsTrie, AreAlikeBut}
 use Rattle.aud_lattice.specs.Paths.{paths}
-use Rattle.aud_lattice.specs.Pathed.{pathed, paths_member, paths_fork, same_paths, none_paths}
-use Rattle.aud_lattice.specs.Tries.{pointwise, not_true, any_by, any_by-get, good_here, good_child, live_child, fork_child, fork_member, found_kids, sorted_nodes}
+use Rattle.aud_lattice.proofs.Pathed.{pathed, paths_member, paths_fork, same_paths, none_paths, and_none, and_more, on_found}
+use Rattle.aud_lattice.proofs.Tries.{pointwise, any_by, any_by-get, good_here, good_child, live_child, fork_child, fork_member, found_kids, sorted_nodes}
+use Rattle.aud_event.proofs.Bools.{or_nothing, and_true, is_false, and_yes}
 
 -- whether the lists are one
 abbrev pub alike : {D : Type 0} → (D → D → Ordering) → List D → List D → Bool
@@ -33,34 +34,9 @@ alike cmp (x ∷ p) (y ∷ q) = is_eq (cmp x y) && alike cmp p q
 abbrev pub held : {D : Type 0} → (D → D → Ordering) → List (List D) → List D → Bool
 held cmp ps q = list_any (λ p. alike cmp p q) ps
 
-and_both : (a b : Bool) → (a && b) ≡ true → (a ≡ true) × (b ≡ true)
-and_both true b e = (refl, e)
-and_both false b e = absurd (true≢false (sym e))
-
-and_none : (b c : Bool) → c ≡ ((b && false) || c)
-and_none true c = refl
-and_none false c = refl
-
-and_more : (b x y z : Bool) → ((b && x) || ((b && y) || z)) ≡ ((b && (x || y)) || z)
-and_more true true y z = refl
-and_more true false y z = refl
-and_more false x y z = refl
-
-or-false : (b : Bool) → (b || false) ≡ b
-or-false true = refl
-or-false false = refl
-
-and-true : (b : Bool) → (b && true) ≡ b
-and-true true = refl
-and-true false = refl
-
 pub told : (b : Bool) (P Q : Type 0) → (b ≡ true → P) → (b ≡ false → Q) → MatchBool b P Q
 told true P Q f g = f refl
 told false P Q f g = g refl
-
-on_found : {X : Type 0} (f g : X → Bool) (o : Option X) → ((u : X) → o ≡ Some u → f u ≡ g u) → walk_on f o ≡ walk_on g o
-on_found f g None h = refl
-on_found f g (Some u) h = h u refl
 
 module _ {D : Type 0} (R : D → D → Ordering) where
   alike_itself : IsTotalOrder R → (p : List D) → alike R p p ≡ true
@@ -72,7 +48,7 @@ module _ {D : Type 0} (R : D → D → Ordering) where
   alike_is ex [] (y ∷ q) e = absurd (true≢false (sym e))
   alike_is ex (x ∷ p) [] e = absurd (true≢false (sym e))
   alike_is ex (x ∷ p) (y ∷ q) e =
-      let both = and_both (is_eq (R x y)) (alike R p q) e in
+      let both = and_true (is_eq (R x y)) (alike R p q) e in
       let heads = ex x y ((Equal-is (R x y)).0 both.0) in
       let tails = alike_is ex p q both.1 in
       λ i. heads i ∷ tails i
@@ -140,11 +116,11 @@ module _ {D A : Type 0} (R : D → D → Ordering) where
 
         from : Contains (paths t) p → Contains (paths x) p × ¬ (Contains (paths y) p)
         from h =
-            let both = and_both (held R (paths x) p) (not (held R (paths y) p)) (sym there ∙ held_member R o (paths t) p h) in
+            let both = and_true (held R (paths x) p) (not (held R (paths y) p)) (sym there ∙ held_member R o (paths t) p h) in
             (member_held R ex (paths x) p both.0, λ k. true≢false (sym both.1 ∙ ap not (held_member R o (paths y) p k)))
 
         to : Contains (paths x) p × ¬ (Contains (paths y) p) → Contains (paths t) p
-        to h = member_held R ex (paths t) p (there ∙ (λ i. held_member R o (paths x) p h.0 i && not (not_true (held R (paths y) p) (λ k. h.1 (member_held R ex (paths y) p k)) i)))
+        to h = member_held R ex (paths t) p (there ∙ (λ i. held_member R o (paths x) p h.0 i && not (is_false (held R (paths y) p) (λ k. h.1 (member_held R ex (paths y) p k)) i)))
 
     -- tries with the same walks lead to the same lists
     pub same_leads : (t u : Trie D A) → IsTrie R t → IsTrie R u → walk R u ≡ walk R t → leads R u ≡ leads R t
@@ -203,7 +179,7 @@ module _ {D A : Type 0} (R : D → D → Ordering) where
     set_leads m n x u kids absent = pointwise each
       where
         cases : (y : D) (q : List D) (b : Bool) → is_eq (R x y) ≡ b → walk_on (λ w. leads R w q) (cond b (Some u) (node_of R m y)) ≡ ((b && leads R u q) || walk_on (λ w. leads R w q) (node_of R m y))
-        cases y q true e = sym (or-false (leads R u q)) ∙ (λ i. leads R u q || walk_on (λ w. leads R w q) ((sym absent ∙ ap (node_of R m) (ex x y ((Equal-is (R x y)).0 e))) i))
+        cases y q true e = sym (or_nothing (leads R u q)) ∙ (λ i. leads R u q || walk_on (λ w. leads R w q) ((sym absent ∙ ap (node_of R m) (ex x y ((Equal-is (R x y)).0 e))) i))
         cases y q false e = refl
 
         each : (q : List D) → leads R (made n) q ≡ (starts R x (leads R u) q || leads R (made m) q)
@@ -218,7 +194,7 @@ module _ {D A : Type 0} (R : D → D → Ordering) where
   there_leads m x q = ap (walk_on (λ w. leads R w q)) (fork_child R (made m) m (outs-Fork m) x)
 
   pub gone_left : (f : List D → Bool) (m : BTreeMap D (Arc (Trie D A) A) A) (x : D) → node_of R m x ≡ None → f ≡ but f (after x (leads R (made m)))
-  gone_left f m x gone = pointwise (λ q. sym (and-true (f q)) ∙ (λ i. f q && not (sym (there_leads m x q ∙ ap (walk_on (λ w. leads R w q)) gone) i)))
+  gone_left f m x gone = pointwise (λ q. sym (and_yes (f q)) ∙ (λ i. f q && not (sym (there_leads m x q ∙ ap (walk_on (λ w. leads R w q)) gone) i)))
 
   pub known_left : (f : List D → Bool) (m : BTreeMap D (Arc (Trie D A) A) A) (x : D) (w : Trie D A) → node_of R m x ≡ Some w → but f (leads R w) ≡ but f (after x (leads R (made m)))
   known_left f m x w found = pointwise (λ q i. f q && not (sym (there_leads m x q ∙ ap (walk_on (λ w. leads R w q)) found) i))
@@ -238,7 +214,7 @@ module _ {D A : Type 0} (R : D → D → Ordering) where
   member_from_fork t u m e f = pointwise each
     where
       each : (q : List D) → leads R t q ≡ (leads R t q && not (leads R u q))
-      each [] = sym (and-true (ends (out-Trie D A t))) ∙ (λ i. ends (out-Trie D A t) && not (ends (sym f i)))
+      each [] = sym (and_yes (ends (out-Trie D A t))) ∙ (λ i. ends (out-Trie D A t) && not (ends (sym f i)))
       each (x ∷ q) = member_leads t e x q ∙ (λ i. sym (member_leads t e x q) i && not (leads R u (x ∷ q)))
 
   pub fork_from_member : (t u : Trie D A) (m : BTreeMap D (Arc (Trie D A) A) A) → out-Trie D A t ≡ Fork m → out-Trie D A u ≡ Member → leads R t ≡ but (leads R t) (leads R u)
@@ -246,7 +222,7 @@ module _ {D A : Type 0} (R : D → D → Ordering) where
     where
       each : (q : List D) → leads R t q ≡ (leads R t q && not (leads R u q))
       each [] = ap ends e ∙ (λ i. ends (sym e i) && not (is_member u))
-      each (x ∷ q) = sym (and-true (leads R t (x ∷ q))) ∙ (λ i. leads R t (x ∷ q) && not (sym (member_leads u f x q) i))
+      each (x ∷ q) = sym (and_yes (leads R t (x ∷ q))) ∙ (λ i. leads R t (x ∷ q) && not (sym (member_leads u f x q) i))
 
   -- keys that stay apart
   pub still_absent : (x : D) (m n : BTreeMap D (Arc (Trie D A) A) A) (es : List (D × Trie D A)) → AllByRecursion (λ k. R x k ≡ Less) (keys_of es) → AreAlikeBut R x m n →
@@ -288,7 +264,7 @@ unfolding IsStrictlySortedBy
 rising R k ks s = s
 
 pub either_nothing : {D : Type 0} (f : List D → Bool) → either f nothing ≡ f
-either_nothing f = pointwise (λ q. or-false (f q))
+either_nothing f = pointwise (λ q. or_nothing (f q))
 
 pub passed_on : {D : Type 0} (a r g w : List D → Bool) → either (but r g) (either (but a g) w) ≡ either (but (either a r) g) w
 passed_on a r g w = pointwise (λ q. each (a q) (r q) (g q) (w q))

@@ -1,18 +1,19 @@
 -- What is left of a set without the items of another.
-use Rattle.std.proofs.Common.{◌≡◌, Bool, true, false, not, ◌&&◌, List, [], ◌∷◌, ◌++◌, refl, sym, ap, ◌∙◌, ◌↔◌, append_assoc}
+use Rattle.std.proofs.Common.{◌≡◌, Bool, true, false, not, ◌||◌, ◌&&◌, List, [], ◌∷◌, ◌++◌, refl, sym, ap, subst, ◌∙◌, ◌↔◌, inl, inr, append_assoc}
 use mathlib.Core.Bool.{true≢false}
 use Rattle.std.specs.declared.cmp.Ordering.{Ordering}
 use Rattle.std.specs.Ordering.{eq_by_cmp}
 use Rattle.std.specs.Cmp.{IsTotalOrder, Equal-is}
 use Rattle.std.specs.List.{Contains}
-use Rattle.std.proofs.lemmas.List.Elements.{filter-append}
+use Rattle.std.proofs.lemmas.List.Elements.{filter-append, Contains-append_left, Contains-append_right, Contains-append_cases}
 use Rattle.std.proofs.lemmas.Map.Views.{any-filter_same}
 use Rattle.std.specs.List.Sorted.{IsStrictlySortedBy}
 use Rattle.std.proofs.lemmas.List.Kept.{IsStrictlySortedBy-filter}
 use Rattle.aud_event.specs.Exact.{IsExact}
-use Rattle.aud_lattice.specs.Sets.{has, without}
-use Rattle.aud_lattice.specs.Members.{has_is}
-use Rattle.aud_lattice.specs.Tries.{not_true}
+use Rattle.aud_lattice.specs.Sets.{has, union, without}
+use Rattle.aud_lattice.proofs.Members.{has_is, contains_union, same_members}
+use Rattle.aud_lattice.specs.Sorted.{has-union, sorted_union, same_sorted}
+use Rattle.aud_event.proofs.Bools.{is_false}
 
 pub sorted_without : {T : Type 0} (R : T → T → Ordering) (xs ys : List T) → IsStrictlySortedBy R xs → IsStrictlySortedBy R (without R xs ys)
 sorted_without R xs ys s = IsStrictlySortedBy-filter R (λ x. not (has R ys x)) xs s
@@ -23,6 +24,12 @@ and_true false b e = (e, refl)
 
 true_and : (a b : Bool) → b ≡ true → a ≡ false → (not a && b) ≡ true
 true_and a b e f = (λ i. not (f i) && b) ∙ e
+
+new_or_there : (a b : Bool) → ((not b && a) || b) ≡ (a || b)
+new_or_there true true = refl
+new_or_there true false = refl
+new_or_there false true = refl
+new_or_there false false = refl
 
 -- one item more
 pub without_more : {T : Type 0} (R : T → T → Ordering) (x : T) (xs ys all : List T) → (all ++ without R (x ∷ []) ys) ++ without R xs ys ≡ all ++ without R (x ∷ xs) ys
@@ -41,4 +48,23 @@ module _ {T : Type 0} {R : T → T → Ordering} (o : IsTotalOrder R) (ex : IsEx
           ((has_is o ex xs q).0 both.0, λ there. true≢false (sym ((has_is o ex ys q).1 there) ∙ both.1))
 
       to : Contains xs q × ¬ (Contains ys q) → Contains (without R xs ys) q
-      to h = (has_is o ex (without R xs ys) q).0 (has-without xs ys q ∙ true_and (has R ys q) (has R xs q) ((has_is o ex xs q).1 h.0) (not_true (has R ys q) (λ e. h.1 ((has_is o ex ys q).0 e))))
+      to h = (has_is o ex (without R xs ys) q).0 (has-without xs ys q ∙ true_and (has R ys q) (has R xs q) ((has_is o ex xs q).1 h.0) (is_false (has R ys q) (λ e. h.1 ((has_is o ex ys q).0 e))))
+
+  -- what is new joined is all joined
+  pub union_of_new : (xs ys : List T) → IsStrictlySortedBy R ys → union R (without R xs ys) ys ≡ union R xs ys
+  union_of_new xs ys s =
+      same_sorted o ex _ _ (sorted_union o (without R xs ys) ys s) (sorted_union o xs ys s)
+      (λ q. has-union o (without R xs ys) ys q ∙ (λ i. has-without xs ys q i || has R ys q) ∙ new_or_there (has R xs q) (has R ys q) ∙ sym (has-union o xs ys q))
+
+  -- the sorted list of the members of both
+  pub rebuilt_is : (new ys both all : List T) → both ≡ new ++ ys → IsStrictlySortedBy R ys → IsStrictlySortedBy R all → ((x : T) → Contains all x ↔ Contains both x) → all ≡ union R new ys
+  rebuilt_is new ys both all e s t same = same_members o ex all (union R new ys) t (sorted_union o new ys s) (λ x. (from x, to x))
+    where
+      from : (x : T) → Contains all x → Contains (union R new ys) x
+      from x h = (contains_union o ex new ys x).1 (Contains-append_cases new ys x (subst (λ l. Contains l x) e ((same x).0 h)))
+
+      to : (x : T) → Contains (union R new ys) x → Contains all x
+      to x h = (same x).1 (subst (λ l. Contains l x) (sym e) (elim ((contains_union o ex new ys x).0 h) [
+        | inl first ↦ Contains-append_left new ys x first
+        | inr second ↦ Contains-append_right new ys x second
+      ]))

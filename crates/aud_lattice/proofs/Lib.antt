@@ -4,3 +4,13 @@ pub mod Grouped
 pub mod Turns
 pub mod CoverCrosses
 pub mod Crosses
+pub mod Strict
+pub mod Splits
+pub mod Pours
+pub mod Parts
+pub mod Members
+pub mod Minimal
+pub mod Marked
+pub mod Tries
+pub mod Pathed
+pub mod Normed

@@ -12,25 +12,13 @@ use Rattle.std.proofs.lemmas.Bool.{and_parts, and_from, cases_Bool, cond_both}
 use Rattle.aud_event.specs.Exact.{IsExact}
 use Rattle.aud_lattice.specs.Covers.{cover_cmp, begins, IsCover, covers, with_list, cover_union}
 use Rattle.aud_lattice.specs.Sorted.{three_ways}
-
-or_swap : (a b c : Bool) → (a || (b || c)) ≡ (b || (a || c))
-or_swap true true c = refl
-or_swap true false c = refl
-or_swap false b c = refl
-
-or_assoc : (a b c : Bool) → ((a || b) || c) ≡ (a || (b || c))
-or_assoc true b c = refl
-or_assoc false b c = refl
+use Rattle.aud_event.proofs.Bools.{or_assoc, or_swap}
 
 -- a test that another test passes too adds nothing
 absorbed : (a b c : Bool) → (a ≡ true → b ≡ true) → (b || c) ≡ (a || (b || c))
 absorbed true true c h = refl
 absorbed true false c h = absurd (true≢false (sym (h refl)))
 absorbed false b c h = refl
-
-or_true : (a : Bool) → (a || true) ≡ true
-or_true true = refl
-or_true false = refl
 
 pub Less≢Equal : Less ≢ Equal
 Less≢Equal e = cc

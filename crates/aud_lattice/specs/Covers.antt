@@ -1,5 +1,5 @@
 -- A cover: lists of which none begins another, least first.
-use Rattle.std.specs.Prelude.{◌≡◌, Bool, true, false, ◌&&◌, List, [], ◌∷◌, if◌then◌else◌}
+use Rattle.std.specs.Prelude.{◌≡◌, ◌⊎◌, Bool, true, false, ◌&&◌, List, [], ◌∷◌, if◌then◌else◌}
 use Rattle.std.specs.declared.cmp.Ordering.{Ordering}
 use Rattle.std.specs.declared.cmp.Ordering.TheVariants.{Equal}
 use Rattle.std.specs.Ordering.{is_eq, ordering_then}
@@ -57,3 +57,8 @@ HasBeginning {D} cmp ps q = (p : List D) × Contains ps p × (begins cmp p q ≡
 -- q is a beginning of one of the lists
 abbrev pub BeginsOne : {D : Type 0} → (D → D → Ordering) → List (List D) → List D → Type 0
 BeginsOne {D} cmp ps q = (p : List D) × Contains ps p × (begins cmp q p ≡ true)
+
+-- p is in either, and nothing in either is a proper beginning of it
+pub record IsKept {D : Type 0} (cmp : D → D → Ordering) (ps qs : List (List D)) (p : List D) : Type 0 where
+  pub there : Contains ps p ⊎ Contains qs p
+  pub least : (q : List D) → Contains ps q ⊎ Contains qs q → begins cmp q p ≡ true → q ≡ p

@@ -9,19 +9,7 @@ use Rattle.std.specs.List.{AllByRecursion}
 use Rattle.std.specs.List.Sorted.{IsStrictlySortedBy}
 use Rattle.aud_event.specs.Exact.{IsExact}
 use Rattle.aud_lattice.specs.Sets.{by_order, has, with_item, union}
-
-or_swap : (a b c : Bool) → (a || (b || c)) ≡ (b || (a || c))
-or_swap true true c = refl
-or_swap true false c = refl
-or_swap false b c = refl
-
-or_twice : (a c : Bool) → (a || c) ≡ (a || (a || c))
-or_twice true c = refl
-or_twice false c = refl
-
-or_assoc : (a b c : Bool) → ((a || b) || c) ≡ (a || (b || c))
-or_assoc true b c = refl
-or_assoc false b c = refl
+use Rattle.aud_event.proofs.Bools.{or_assoc, or_swap, or_again}
 
 -- of three ways, each with what the comparison answered
 pub three_ways : {A : Type 0} (P : A → Type 0) (o : Ordering) (a b c : A) → (o ≡ Less → P a) → (o ≡ Equal → P b) → (o ≡ Greater → P c) → P (by_order o a b c)
@@ -46,7 +34,7 @@ module _ {T : Type 0} {R : T → T → Ordering} (o : IsTotalOrder R) where
   has-with_item x (y ∷ ys) q =
       three_ways (λ l. has R l q ≡ (eq_by_cmp R q x || has R (y ∷ ys) q)) (R x y) _ _ _
       (λ e. refl)
-      (λ e. or_twice (eq_by_cmp R q y) (has R ys q) ∙ ap (λ r. is_eq r || (eq_by_cmp R q y || has R ys q)) (sym (alike_right o x y q e)))
+      (λ e. or_again (eq_by_cmp R q y) (has R ys q) ∙ ap (λ r. is_eq r || (eq_by_cmp R q y || has R ys q)) (sym (alike_right o x y q e)))
       (λ e. ap (λ b. eq_by_cmp R q y || b) (has-with_item x ys q) ∙ or_swap (eq_by_cmp R q y) (eq_by_cmp R q x) (has R ys q))
 
   pub has-union : (xs ys : List T) (q : T) → has R (union R xs ys) q ≡ (has R xs q || has R ys q)

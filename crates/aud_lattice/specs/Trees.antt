@@ -1,5 +1,5 @@
 -- What a tree holds.
-use Rattle.std.proofs.Common.{◌≡◌, ℕ, ◌+◌, ◌*◌, ◌≤◌, List, [], ◌∷◌, ◌++◌, length, length-append, Option, None, Some, sym, ap, arith}
+use Rattle.std.proofs.Common.{◌≡◌, ℕ, ◌+◌, ◌*◌, ◌<◌, ◌≤◌, drop, List, [], ◌∷◌, ◌++◌, length, length-append, Option, None, Some, sym, ap, arith}
 use Rattle.std.specs.Arc.{arc_value}
 use Rattle.std.specs.declared.sync.Arc.{Arc}
 
@@ -15,6 +15,16 @@ AreBalanced l r = (l + 1 ≤ 3 * (r + 1)) × (r + 1 ≤ 3 * (l + 1))
 -- so but for one item
 abbrev pub NearlyBalanced : ℕ → ℕ → Type 0
 NearlyBalanced l r = (l + 1 ≤ 3 * (r + 1) + 1) × (r + 1 ≤ 3 * (l + 1) + 1)
+
+-- what stands at place n
+abbrev pub Found : {T : Type 0} → List T → ℕ → Option T → Type 0
+Found xs n None = drop n xs ≡ []
+Found xs n (Some x) = drop n xs ≡ x ∷ drop (n + 1) xs
+
+-- a part of a list that begins at a place
+pub record IsPart {T : Type 0} (all : List T) (skip : ℕ) (part : List T) : Type 0 where
+  pub fits : skip + length part ≤ length all
+  pub found : (n m : ℕ) (x : Option T) → m ≡ skip + n → n < length part → Found part n x → Found all m x
 
 -- where a list's end is as long as the list, it is the list
 pub all_taken : {T : Type 0} (xs front end : List T) → xs ≡ front ++ end → length end ≡ length xs → end ≡ xs

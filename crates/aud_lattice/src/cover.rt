@@ -3,11 +3,10 @@
 ghost use Rattle.std.specs.Prelude.{◌≡◌, IfOk, OnOk, OnErr, IsTrue, IsOk, ◌↔◌, List, [], true, Bool, Contains, ◌∷◌, ◌++◌, All};
 ghost use Rattle.std.specs.Cmp.Lexicographic.{slice_cmp};
 ghost use Rattle.std.specs.List.Sorted.{IsStrictlySortedBy};
-ghost use Rattle.aud_lattice.specs.Covers.{covers, with_list, cover_union, normal_form, IsCover, HasBeginning, BeginsOne};
+ghost use Rattle.aud_lattice.specs.Covers.{covers, with_list, cover_union, normal_form, IsCover, HasBeginning, BeginsOne, IsKept};
 ghost use Rattle.aud_lattice.specs.Marks.{mark_of};
 ghost use Rattle.aud_lattice.specs.Covering.{covers-cover_union};
 ghost use Rattle.aud_lattice.specs.Sets.{either, either_laws};
-ghost use Rattle.aud_lattice.specs.Minimal.{IsKept};
 ghost use Rattle.aud_lattice.specs.Paths.{paths};
 ghost use Rattle.aud_lattice.specs.Walks.{IsTrie};
 
@@ -77,7 +76,7 @@ impl<D: Key + Dup, A: Allocator + Copy> Cover<D, A> {
     }
 
     /// How the list stands to the cover. It does not allocate.
-    #[tactic(auto, using(crate::specs::Marked::covered_is, crate::specs::Marked::inner_is))]
+    #[tactic(auto, using(crate::proofs::Marked::covered_is, crate::proofs::Marked::inner_is))]
     pub fn mark(&self, list: &[D]) -> Mark
         ensures mark { result ≡ mark_of D.Ord.cmp self.now list.now }
         ensures covered { (result ≡ Mark.Covered) ↔ HasBeginning D.Ord.cmp self.now list.now }

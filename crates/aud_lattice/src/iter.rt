@@ -3,9 +3,7 @@
 ghost use Rattle.std.specs.Prelude.{◌≡◌, ◌<◌, ◌≤◌, ◌+◌, List, length, drop};
 ghost use Rattle.std.specs.Iterator.{YieldsFirstRef, item_count};
 ghost use Rattle.std.specs.Option.{option_copied};
-ghost use Rattle.aud_lattice.specs.Parts.{IsPart};
-ghost use Rattle.aud_lattice.specs.Splits.{Found};
-ghost use Rattle.aud_lattice.specs.Trees.{items_of};
+ghost use Rattle.aud_lattice.specs.Trees.{IsPart, Found, items_of};
 
 use crate::tree::{Link, Tree, at, count};
 use aud_event::Dup;
@@ -16,7 +14,7 @@ use std::marker::Model;
 const PART: usize = 64;
 
 // A part that has the place, and where it begins.
-#[tactic(auto, using(crate::specs::Parts::part_all, crate::specs::Parts::part_left, crate::specs::Parts::part_right))]
+#[tactic(auto, using(crate::proofs::Parts::part_all, crate::proofs::Parts::part_left, crate::proofs::Parts::part_right))]
 fn part_at<T: Dup, A: Allocator>(tree: &Link<T, A>, place: usize) -> (&Link<T, A>, usize)
     requires { place < length (items_of tree.now) }
     ensures part { IsPart (items_of tree.now) result.1 (items_of result.0.now) }
@@ -62,7 +60,7 @@ fn part_for<'a, T: Dup, A: Allocator>(
 }
 
 // What stands at the place of the whole tree.
-#[tactic(auto, using(crate::specs::Parts::in_part))]
+#[tactic(auto, using(crate::proofs::Parts::in_part))]
 fn at_part<'a, T: Dup, A: Allocator>(
     _tree: &'a Link<T, A>,
     part: &'a Link<T, A>,
@@ -115,7 +113,7 @@ impl<'a, T: Dup, A: Allocator> Iterator for Iter<'a, T, A> {
 }
 
 /// All items, least first.
-#[tactic(auto, using(crate::specs::Parts::part_all))]
+#[tactic(auto, using(crate::proofs::Parts::part_all))]
 pub fn all_of<T: Dup, A: Allocator>(tree: &Link<T, A>) -> Iter<'_, T, A>
     ensures { result ≡ items_of tree.now }
 {

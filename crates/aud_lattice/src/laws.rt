@@ -5,19 +5,19 @@ ghost use Rattle.aud_lattice.specs.Norms.{IsNormOfUnion, IsNormWithNorm, IsNormO
 use aud_event::Key;
 
 /// The cover of a union is the cover of the covers.
-#[tactic(auto, using(crate::specs::Norms::norm_of_union))]
+#[tactic(auto, using(crate::proofs::Normed::norm_of_union))]
 pub fn norm_of_union<D: Key>()
     ensures { IsNormOfUnion D.Ord.cmp }
 {}
 
 /// Lists beside the cover of others have the cover of both together.
-#[tactic(auto, using(crate::specs::Norms::norm_with_norm))]
+#[tactic(auto, using(crate::proofs::Normed::norm_with_norm))]
 pub fn norm_with_norm<D: Key>()
     ensures { IsNormWithNorm D.Ord.cmp }
 {}
 
 /// The cover of some lists keeps those of which no proper beginning is there.
-#[tactic(auto, using(crate::specs::Norms::norm_of_firsts))]
+#[tactic(auto, using(crate::proofs::Normed::norm_of_firsts))]
 pub fn norm_of_firsts<D: Key>()
     ensures { IsNormOfFirsts D.Ord.cmp }
 {}

@@ -5,7 +5,7 @@ ghost use Rattle.std.specs.List.Sorted.{IsStrictlySortedBy};
 ghost use Rattle.aud_lattice.specs.Sets.{with_item, without, union};
 ghost use Rattle.aud_lattice.specs.Trees.{items_of};
 
-use crate::bulk::tree_of;
+use crate::bulk::{arranged, tree_of};
 use crate::copies::push_copy;
 use crate::iter::all_of;
 use crate::tree::{Link, Tree, contains, count, shared, with};
@@ -13,8 +13,12 @@ use aud_event::{Dup, Key, OutOfMemory};
 use std::alloc::Allocator;
 use std::cmp::Ordering;
 
+// A tree takes in others' items one by one while these are at most one for so many of its own. Where they are more, a tree that is
+// built anew of all costs less than the nodes of their paths.
+const FEW: usize = 8;
+
 // The tree with a copy of the item. One that is there already needs no allocation.
-#[tactic(auto, using(crate::specs::Splits::with_there))]
+#[tactic(auto, using(crate::proofs::Splits::with_there))]
 fn added<T: Key + Dup, A: Allocator + Clone>(
     alloc: &A,
     tree: Link<T, A>,
@@ -33,7 +37,7 @@ fn added<T: Key + Dup, A: Allocator + Clone>(
 }
 
 // One tree with the items of another.
-#[tactic(auto, using(crate::specs::Sorted::sorted_with_item, crate::specs::Pours::inserted_union))]
+#[tactic(auto, using(crate::specs::Sorted::sorted_with_item, crate::proofs::Pours::inserted_union))]
 fn poured<T: Key + Dup, A: Allocator + Clone>(
     alloc: &A,
     from: &Link<T, A>,
@@ -49,9 +53,58 @@ fn poured<T: Key + Dup, A: Allocator + Clone>(
     Ok(all)
 }
 
+// A tree of its own for the items of a list and of a tree. Each comes in a run that is in order, so the sort merges two runs.
+fn rebuilt<T: Key + Dup, A: Allocator + Clone>(
+    alloc: &A,
+    new: Vec<T, A>,
+    tree: &Link<T, A>,
+) -> Result<Link<T, A>, OutOfMemory>
+    requires { IsStrictlySortedBy T.Ord.cmp (items_of tree.now) }
+    ensures { IfOk result (λ all. items_of all ≡ union T.Ord.cmp new.items (items_of tree.now)) }
+{
+    let mut all = new;
+    push_all(&mut all, tree)?;
+    tree_of(alloc, arranged(all)?)
+}
+
+// Puts copies of the items at the end.
+fn push_all<T: Dup, A: Allocator>(all: &mut Vec<T, A>, tree: &Link<T, A>) -> Result<(), OutOfMemory>
+    ensures { OnOk result (all.new.items ≡ all.old.items ++ items_of tree.now) }
+{
+    all.reserve(count(tree))?;
+    for item in all_of(tree) {
+        push_copy(all, item)?;
+    }
+    Ok(())
+}
+
+// One tree with the items of another that is no larger. What is new is put in one by one while it is little, and shares the rest
+// with the tree.
+#[tactic(auto, using(crate::proofs::Leftovers::union_of_new))]
+fn grown<T: Key + Dup, A: Allocator + Clone>(
+    alloc: &A,
+    from: &Link<T, A>,
+    into: &Link<T, A>,
+) -> Result<Link<T, A>, OutOfMemory>
+    requires { IsStrictlySortedBy T.Ord.cmp (items_of into.now) }
+    ensures { IfOk result (λ all. items_of all ≡ union T.Ord.cmp (items_of from.now) (items_of into.now)) }
+{
+    let few = count(into) / FEW;
+    if count(from) <= few {
+        return poured(alloc, from, into);
+    }
+    let new = left_over(alloc, from, into)?;
+    if new.len() <= few {
+        let new = tree_of(alloc, new)?;
+        poured(alloc, &new, into)
+    } else {
+        rebuilt(alloc, new, into)
+    }
+}
+
 // Whether both are built alike of the same items. Trees of one source are, as far as neither grew; others may differ though
 // their items are the same.
-#[tactic(auto, using(crate::specs::Pours::parts_same))]
+#[tactic(auto, using(crate::proofs::Pours::parts_same))]
 fn built_alike<T: Key + Dup, A: Allocator>(xs: &Link<T, A>, ys: &Link<T, A>) -> bool
     ensures { IsTrue result → items_of xs.now ≡ items_of ys.now }
 {
@@ -78,7 +131,7 @@ fn built_alike<T: Key + Dup, A: Allocator>(xs: &Link<T, A>, ys: &Link<T, A>) -> 
 
 /// The items of both: those of the smaller tree are put into the larger one. Of two trees with the same items the answer is the
 /// second, so that who joins it once more finds it built alike, which takes no look-ups.
-#[tactic(auto, using(crate::specs::Pours::union_swap, crate::specs::Pours::union_itself))]
+#[tactic(auto, using(crate::proofs::Pours::union_swap, crate::proofs::Pours::union_itself))]
 pub fn joined<T: Key + Dup, A: Allocator + Clone>(
     alloc: &A,
     xs: &Link<T, A>,
@@ -91,9 +144,9 @@ pub fn joined<T: Key + Dup, A: Allocator + Clone>(
     if built_alike(xs, ys) {
         shared(ys)
     } else if count(xs) <= count(ys) {
-        poured(alloc, xs, ys)
+        grown(alloc, xs, ys)
     } else {
-        poured(alloc, ys, xs)
+        grown(alloc, ys, xs)
     }
 }
 
@@ -106,11 +159,24 @@ pub fn without<T: Key + Dup, A: Allocator + Clone>(
     requires { IsStrictlySortedBy T.Ord.cmp (items_of ys.now) }
     ensures { IfOk result (λ all. items_of all ≡ without T.Ord.cmp (items_of xs.now) (items_of ys.now)) }
 {
+    let left = left_over(alloc, xs, ys)?;
+    tree_of(alloc, left)
+}
+
+// The same, as a list.
+fn left_over<T: Key + Dup, A: Allocator + Clone>(
+    alloc: &A,
+    xs: &Link<T, A>,
+    ys: &Link<T, A>,
+) -> Result<Vec<T, A>, OutOfMemory>
+    requires { IsStrictlySortedBy T.Ord.cmp (items_of ys.now) }
+    ensures { IfOk result (λ all. all.items ≡ without T.Ord.cmp (items_of xs.now) (items_of ys.now)) }
+{
     let mut all = Vec::new(alloc.clone()?);
     for item in all_of(xs) {
         put_new(&mut all, item, ys)?;
     }
-    tree_of(alloc, all)
+    Ok(all)
 }
 
 // Puts a copy of the item at the end where the tree has it not.
@@ -135,7 +201,7 @@ fn alike<T: Key>(x: &T, y: &T) -> bool
 }
 
 /// Whether both have the same items.
-#[tactic(auto, using(crate::specs::Pours::tails_same, crate::specs::Pours::heads_same))]
+#[tactic(auto, using(crate::proofs::Pours::tails_same, crate::proofs::Pours::heads_same))]
 pub fn same<T: Key + Dup, A: Allocator>(xs: &Link<T, A>, ys: &Link<T, A>) -> bool
     ensures { IsTrue result ↔ (items_of xs.now ≡ items_of ys.now) }
 {

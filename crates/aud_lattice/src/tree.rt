@@ -4,8 +4,7 @@ ghost use Rattle.std.specs.Prelude.{◌≡◌, ◌∷◌, ◌++◌, ◌<◌, ◌
 ghost use Rattle.std.specs.List.Sorted.{IsStrictlySortedBy};
 ghost use Rattle.std.specs.Option.{option_copied};
 ghost use Rattle.aud_lattice.specs.Sets.{has, with_item};
-ghost use Rattle.aud_lattice.specs.Splits.{Found};
-ghost use Rattle.aud_lattice.specs.Trees.{items_of, AreBalanced, NearlyBalanced};
+ghost use Rattle.aud_lattice.specs.Trees.{Found, items_of, AreBalanced, NearlyBalanced};
 
 use aud_event::{Dup, Key, OutOfMemory};
 use std::alloc::{Allocator, Global};
@@ -181,7 +180,7 @@ fn to_left<T: Dup, A: Allocator + Clone>(
 
 /// The tree with an item that it has not, in its place, or none where it has the item. Only the nodes on the way to that
 /// place are new.
-#[tactic(auto, using(crate::specs::Splits::sorted_left, crate::specs::Splits::sorted_right, crate::specs::Splits::with_left, crate::specs::Splits::with_right, crate::specs::Splits::has_left, crate::specs::Splits::has_right, crate::specs::Splits::has_middle, crate::specs::Splits::length_with))]
+#[tactic(auto, using(crate::proofs::Splits::sorted_left, crate::proofs::Splits::sorted_right, crate::proofs::Splits::with_left, crate::proofs::Splits::with_right, crate::proofs::Splits::has_left, crate::proofs::Splits::has_right, crate::proofs::Splits::has_middle, crate::proofs::Splits::length_with))]
 pub fn with<T: Key + Dup, A: Allocator + Clone>(
     alloc: &A,
     tree: &Link<T, A>,
@@ -219,7 +218,7 @@ pub fn with<T: Key + Dup, A: Allocator + Clone>(
 }
 
 /// Whether the item is there.
-#[tactic(auto, using(crate::specs::Splits::sorted_left, crate::specs::Splits::sorted_right, crate::specs::Splits::has_left, crate::specs::Splits::has_right))]
+#[tactic(auto, using(crate::proofs::Splits::sorted_left, crate::proofs::Splits::sorted_right, crate::proofs::Splits::has_left, crate::proofs::Splits::has_right))]
 pub fn contains<T: Key + Dup, A: Allocator>(tree: &Link<T, A>, item: &T) -> bool
     requires { IsStrictlySortedBy T.Ord.cmp (items_of tree.now) }
     ensures { result ≡ has T.Ord.cmp (items_of tree.now) item.now }
@@ -241,7 +240,7 @@ pub fn contains<T: Key + Dup, A: Allocator>(tree: &Link<T, A>, item: &T) -> bool
 }
 
 /// What stands at the place, counted from the least.
-#[tactic(auto, using(crate::specs::Splits::found_left, crate::specs::Splits::found_middle, crate::specs::Splits::found_right))]
+#[tactic(auto, using(crate::proofs::Splits::found_left, crate::proofs::Splits::found_middle, crate::proofs::Splits::found_right))]
 pub fn at<T: Dup, A: Allocator>(tree: &Link<T, A>, place: usize) -> Option<&T>
     ensures { Found (items_of tree.now) place (option_copied result) }
 {

@@ -73,7 +73,7 @@ impl<T: Key + Dup, A: Allocator + Clone> UnionSet<T, A> {
     }
 
     /// Whether the item is there. It does not allocate, and takes as many comparisons as the tree is deep.
-    #[tactic(auto, using(crate::specs::Members::has_is))]
+    #[tactic(auto, using(crate::proofs::Members::has_is))]
     pub fn contains(&self, item: &T) -> bool
         ensures test { result ≡ has T.Ord.cmp self.now item.now }
         ensures member { IsTrue result ↔ Contains self.now item.now }
@@ -83,7 +83,7 @@ impl<T: Key + Dup, A: Allocator + Clone> UnionSet<T, A> {
 
     /// Puts the item in, and says whether it is new. One that is there already needs no allocation; a new one takes as many
     /// nodes as the tree is deep, and shares all others with the set before.
-    #[tactic(auto, using(crate::specs::Splits::with_there, crate::specs::Sorted::sorted_with_item, crate::specs::Members::contains_with_item))]
+    #[tactic(auto, using(crate::proofs::Splits::with_there, crate::specs::Sorted::sorted_with_item, crate::proofs::Members::contains_with_item))]
     pub fn insert(&mut self, item: T) -> Result<bool, OutOfMemory>
         ensures ok { OnOk result (self.new ≡ with_item T.Ord.cmp item self.old) }
         ensures members { OnOk result ((x : T) → Contains self.new x ↔ (Contains self.old x ⊎ (x ≡ item))) }
@@ -145,7 +145,7 @@ impl<T: Key + Dup, A: Allocator + Clone> Lattice for UnionSet<T, A> {
 
     ghost laws = { either_laws };
 
-    #[tactic(auto, using(crate::specs::Sorted::sorted_union, crate::specs::Members::contains_union))]
+    #[tactic(auto, using(crate::specs::Sorted::sorted_union, crate::proofs::Members::contains_union))]
     // The items of the smaller set that the larger has not are put into it, whichever of the two is `self`.
     fn join(&mut self, other: &UnionSet<T, A>) -> Result<(), OutOfMemory>
         ensures ok { OnOk result (self.new ≡ union T.Ord.cmp self.old other.now) }
@@ -157,7 +157,7 @@ impl<T: Key + Dup, A: Allocator + Clone> Lattice for UnionSet<T, A> {
         Ok(())
     }
 
-    #[tactic(auto, using(crate::specs::Pours::same_has))]
+    #[tactic(auto, using(crate::proofs::Pours::same_has))]
     fn same(&self, other: &UnionSet<T, A>) -> bool {
         same(&self.root, &other.root)
     }

@@ -1,5 +1,5 @@
 -- What the parts of a state keep beside their meaning, so that a change can be taken back with no memory.
-use Rattle.std.specs.Prelude.{◌≡◌, ℕ, ℤ, Bool, true, if◌then◌else◌, int_lt, List, [], ◌∷◌, drop, take, length, nat_lt, ◌-◌, Option, Some, None}
+use Rattle.std.specs.Prelude.{◌≡◌, ℕ, ℤ, Bool, true, if◌then◌else◌, int_lt, List, [], ◌∷◌, drop, take, length, nat_lt, ◌-◌, Option, Some, None, MatchOption, ◌<◌}
 use Rattle.std.specs.Ordering.{int_eq}
 use Rattle.aud_object.specs.declared.change.Change.{Change}
 use Rattle.aud_object.specs.declared.change.Change.TheVariants as ch
@@ -68,3 +68,11 @@ abbrev pub back_items : ItemsOf → Change → ItemsOf
 back_items q ch.Enq = if nat_lt q.gone (length q.all) then record { all = take (length q.all - 1) q.all; gone = q.gone } else q
 back_items q ch.Deq = record { all = q.all; gone = q.gone - 1 }
 back_items q _ = q
+
+-- the first was taken, if there was one
+abbrev pub TakesFirst : {X : Type 0} → List X → List X → Option X → Type 0
+TakesFirst old new found = MatchOption found ((old ≡ []) × (new ≡ [])) (λ x. old ≡ x ∷ new)
+
+-- entries were passed up to the next member and with it, if one was left
+abbrev pub PassesMember : Flags → Flags → Option ℤ → Type 0
+PassesMember old new found = MatchOption found (members old ≡ []) (λ v. (members old ≡ v ∷ members new) × (length new < length old))

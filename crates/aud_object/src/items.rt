@@ -3,7 +3,7 @@
 ghost use Rattle.std.specs.Prelude.{◌≡◌, ◌↔◌, IsTrue, [], ◌∷◌, ◌++◌, IfOk, OnErr, OnOk, MatchOption};
 ghost use Rattle.aud_object.specs.declared.change.Change.TheVariants as Change;
 ghost use Rattle.aud_object.specs.Digests.{digest_values};
-ghost use Rattle.aud_object.specs.Keeps.{items_in, back_items};
+ghost use Rattle.aud_object.specs.Keeps.{items_in, back_items, TakesFirst};
 
 use crate::change::Change;
 use crate::digest::stir;
@@ -96,7 +96,7 @@ impl<A: Allocator + Drop> Items<A> {
 
     /// Takes the front item, if there is one.
     pub(crate) fn dequeue(&mut self) -> Option<i64>
-        ensures items { MatchOption result ((items_in self.old ≡ []) × (items_in self.new ≡ [])) (λ v. items_in self.old ≡ v ∷ items_in self.new) }
+        ensures items { TakesFirst (items_in self.old) (items_in self.new) result }
         ensures back { MatchOption result (self.new ≡ self.old) (λ _. back_items self.new Change.Deq ≡ self.old) }
     {
         let front = self.all.get(self.gone).copied();

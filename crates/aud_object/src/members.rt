@@ -4,7 +4,7 @@ ghost use Rattle.std.specs.Prelude.{◌≡◌, ◌<◌, ◌↔◌, IsTrue, List,
 ghost use Rattle.std.specs.List.{filter};
 ghost use Rattle.aud_object.specs.Objects.{has_member, with_member, without_member};
 ghost use Rattle.aud_object.specs.Digests.{digest_values};
-ghost use Rattle.aud_object.specs.Keeps.{members, flag_of, with_flag, with_value, without_value, back_members, Ascend};
+ghost use Rattle.aud_object.specs.Keeps.{members, flag_of, with_flag, with_value, without_value, back_members, Ascend, PassesMember};
 
 use crate::change::Change;
 use crate::digest::stir;
@@ -42,7 +42,7 @@ fn write_flag<A: Allocator + Drop>(values: &mut BTreeMap<i64, bool, A>, value: i
 
 /// The next member, which is then no longer left.
 fn next_member(left: &mut Iter<'_, i64, bool>) -> Option<i64>
-    ensures { MatchOption result (members left.old ≡ []) (λ v. (members left.old ≡ v ∷ members left.new) × (length left.new < length left.old)) }
+    ensures { PassesMember left.old left.new result }
 {
     while let Some((value, is_member)) = left.next() {
         if *is_member {

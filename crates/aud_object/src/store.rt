@@ -4,7 +4,7 @@ ghost use Rattle.std.specs.Prelude.{◌≡◌, ◌≢◌, ◌↔◌, ◌≤◌, 
 ghost use Rattle.aud_object.specs.Objects.{opening_of};
 ghost use Rattle.aud_object.specs.States.{meaning};
 ghost use Rattle.aud_object.specs.Shown.{shown};
-ghost use Rattle.aud_object.specs.Logs.{back_at};
+ghost use Rattle.aud_object.specs.Logs.{back_at, LeadsBack};
 ghost use Rattle.aud_object.specs.Digests.{digest_of};
 ghost use Rattle.aud_object.specs.Replayed.{same_answer, after_at, answer_at, answers, replayed, Replays, Runs};
 
@@ -57,7 +57,7 @@ fn apply_at<A: Allocator + Clone>(
 ) -> Result<Option<(Answer, Option<Change>)>, OutOfMemory>
     ensures answer { IfOk result (λ r. option_map (λ a. a.0) r ≡ answer_at (map meaning states.old.items) object op) }
     ensures after { OnOk result (map meaning states.new.items ≡ after_at (map meaning states.old.items) object op) }
-    ensures back { IfOk result (λ r. MatchOption r (states.new.items ≡ states.old.items) (λ a. MatchOption a.1 (states.new.items ≡ states.old.items) (λ change. back_at states.new.items object change ≡ states.old.items))) }
+    ensures back { IfOk result (LeadsBack states.old.items object states.new.items) }
     ensures refused { OnErr result (states.new.items ≡ states.old.items) }
 {
     match states.get_mut(object as usize) {

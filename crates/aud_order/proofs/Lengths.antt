@@ -84,7 +84,7 @@ once-good objects h before (d ∷ rest) p is good =
     true_and (not (is_named rest d.tx)) (are_named_once rest) (not_false (is_named rest d.tx) alone)
     (once-good objects h (before ++ d ∷ []) rest p (is ∙ sym (append_assoc before (d ∷ []) rest)) good)
 
-named-good : (objects : List Declared) (h : History) (p : List Decision) (t : ℕ) → IsGood objects h p → is_named p t ≡ true → is_in h t ≡ true
+pub named-good : (objects : List Declared) (h : History) (p : List Decision) (t : ℕ) → IsGood objects h p → is_named p t ≡ true → is_in h t ≡ true
 named-good objects h p t good named =
     let (a, (d, (b, (at, same, _)))) = place_of p t named in
     subst (λ n. is_in h n ≡ true) same (good a d b at).in_history

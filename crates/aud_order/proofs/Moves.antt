@@ -19,15 +19,11 @@ use Rattle.aud_witness.specs.Walks.{walked}
 use Rattle.aud_witness.proofs.Beginnings.{IsGood-from_Shows}
 use Rattle.aud_witness.proofs.Good.{IsGood-empty, IsGood-beginning, IsGood-push}
 use Rattle.aud_witness.proofs.BridgeSteps.{Stands, Stands-root}
-use Rattle.aud_witness.proofs.WalkLemmas.{walks-say, walked-good, fits-from_limits}
+use Rattle.aud_witness.proofs.WalkLemmas.{walks-say, walked-good, fits-from_limits, some-from}
 use Rattle.aud_order.specs.Silent.{silent_fate, silent_row}
 use Rattle.aud_order.specs.Moves.{without, SilentMovesForward, SpotsDecide}
 use Rattle.aud_order.proofs.SilentRows.{row-found, silent-row}
 use Rattle.aud_order.proofs.Stepping.{steps-from, walked-join, walked-one, silent-leaves, marked, moved}
-
-some-from : {X : Type 0} (o : Option X) → is_some o ≡ true → (x : X) × (o ≡ Some x)
-some-from None none = absurd (cc)
-some-from (Some x) there = (x, refl)
 
 -- where a good list leads
 pub led-to : (plan : PlanOf) (h : History) (p : List Decision) → IsWellFormed h → IsWithinLimits plan h → IsGood plan.objects h p →
@@ -74,7 +70,7 @@ refuted-by_silent plan h p d fine within silent next refuted q shown = refuted (
 
 -- # Lists that lead to one spot
 
-map-named : (f g : ℕ → Bool) (ts : List ℕ) → ((t : ℕ) → f t ≡ g t) → map f ts ≡ map g ts
+pub map-named : (f g : ℕ → Bool) (ts : List ℕ) → ((t : ℕ) → f t ≡ g t) → map f ts ≡ map g ts
 map-named f g [] same = refl
 map-named f g (t ∷ ts) same = λ i. same t i ∷ map-named f g ts same i
 

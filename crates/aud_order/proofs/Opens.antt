@@ -12,6 +12,7 @@ use Rattle.aud_witness.specs.declared.fault.OrderFault.{OrderFault}
 use Rattle.aud_witness.specs.declared.fault.OrderFault.TheVariants.{UnknownTx, Illegal}
 use Rattle.aud_witness.specs.Spots.{Spot, stepped, row_stepped, block_stepped, early_fault, states_with}
 use Rattle.aud_order.specs.Cursors.{ArePlaced}
+use Rattle.aud_witness.proofs.PlacingLemmas.{set_true-keeps}
 
 ok-block : (s t : Spot) (d : Decision) (k : ℕ) (r : RowOf) → block_stepped s d k r ≡ Ok t → t.placed ≡ set s.placed k true
 ok-block s t d k r = go (replayed s.states r.block)
@@ -44,13 +45,6 @@ step-places rows s t d = go (position (nat_eq d.tx) (map (λ (r : RowOf). r.tx) 
     go None found is = absurd (cc)
     go (Some k) found is = (k, (found, at k (slice_get rows k) is))
 
-set-keeps : (placed : List Bool) (k j : ℕ) → get_or placed j false ≡ true → get_or (set placed k true) j false ≡ true
-set-keeps [] k j h = h
-set-keeps (b ∷ bs) zero zero h = refl
-set-keeps (b ∷ bs) zero (suc j) h = h
-set-keeps (b ∷ bs) (suc k) zero h = h
-set-keeps (b ∷ bs) (suc k) (suc j) h = set-keeps bs k j h
-
 set-others : (placed : List Bool) (k j : ℕ) → j < k → get_or (set placed k true) j false ≡ get_or placed j false
 set-others [] k j below = refl
 set-others (b ∷ bs) zero j below = absurd (omega arith)
@@ -61,7 +55,7 @@ set-others (b ∷ bs) (suc k) (suc j) below = set-others bs k j (omega arith)
 pub placed-after : (rows : List RowOf) (s t : Spot) (d : Decision) (count : ℕ) → stepped rows s d ≡ Ok t → ArePlaced s.placed count → ArePlaced t.placed count
 placed-after rows s t d count step are = λ j below.
     let (k, (_, is)) = step-places rows s t d step in
-    subst (λ l. get_or l j false ≡ true) (sym is) (set-keeps s.placed k j (are j below))
+    subst (λ l. get_or l j false ≡ true) (sym is) (set_true-keeps s.placed k j (are j below))
 
 -- what was placed after a step and stands before its row was placed before it
 pub placed-before : (rows : List RowOf) (s t : Spot) (d : Decision) (count k : ℕ) → stepped rows s d ≡ Ok t → position (nat_eq d.tx) (map (λ (r : RowOf). r.tx) rows) ≡ Some k → ArePlaced t.placed count → ArePlaced s.placed (min count k)

@@ -20,7 +20,8 @@ use Rattle.aud_witness.specs.declared.decision.Fate.TheVariants.{C}
 use Rattle.aud_witness.specs.Orders.{is_allowed}
 use Rattle.aud_witness.proofs.Bridge.{tx-rows, row-at, status-allowed}
 use Rattle.aud_order.specs.Silent.{leaves_objects, silent_by, silent_fate, silent_row}
-use Rattle.aud_order.proofs.Standing.{absent-from_position}
+use Rattle.aud_witness.proofs.BridgeSteps.{asked-from_allowed, absent-from_position, any-at}
+use Rattle.aud_order.proofs.Standing.{got}
 
 -- what follows an end or the wish for one leaves the objects
 left-tried : (es : List Event) → Passes TriedCommit es → list_all leaves_objects es ≡ true
@@ -62,13 +63,6 @@ by-executions (TryA ∷ es) p want = absurd (given_up es p want)
 by-executions (Commit ∷ es) p want = absurd p
 by-executions (Abort ∷ es) p want = absurd p
 
-asked-from_allowed : (h : History) (t : ℕ) → is_allowed h t C ≡ true → (list_any is_commit (events_of t h) || list_any is_try_commit (events_of t h)) ≡ true
-asked-from_allowed h t allowed =
-    elim (or_true (is_committed h t) (is_commit_pending h t) allowed) [
-      | inl commits ↦ true_or (is_committed h t) (list_any is_try_commit (events_of t h)) commits
-      | inr pending ↦ or_right (is_committed h t) (list_any is_try_commit (events_of t h)) (and_true (is_live h t) (list_any is_try_commit (events_of t h)) pending).1
-    ]
-
 -- the row of a transaction gives its silent fate
 pub silent-row : (h : History) (t : ℕ) → IsWellFormed h → is_in h t ≡ true → silent_row (row_of h t) ≡ silent_fate h t
 silent-row h t fine there =
@@ -83,24 +77,14 @@ silent-row h t fine there =
     go true is = ap (silent_by true) (by-executions (events_of t h) (Passes-from_IsTransaction (events_of t h) (fine t)) (asked-from_allowed h t is))
     go false is = refl
 
-any-there : (u : ℕ) (ts : List ℕ) (k : ℕ) (d : ℕ) → k < length ts → nat_eq u (get_or ts k d) ≡ true → list_any (nat_eq u) ts ≡ true
-any-there u [] k d inside same = absurd (omega arith)
-any-there u (t ∷ ts) zero d inside same = true_or (nat_eq u t) (list_any (nat_eq u) ts) same
-any-there u (t ∷ ts) (suc k) d inside same = or_right (nat_eq u t) (list_any (nat_eq u) ts) (any-there u ts k d (omega arith) same)
-
 -- the row that is found for a transaction is its own
 pub row-found : (h : History) (t k : ℕ) → position (nat_eq t) (map (λ (r : RowOf). r.tx) (table_of h)) ≡ Some k → (slice_get (table_of h) k ≡ Some (row_of h t)) × (is_in h t ≡ true)
 row-found h t k found =
     let place = position-Some (nat_eq t) (transactions h) k 0 (ap (position (nat_eq t)) (sym (tx-rows h (transactions h))) ∙ found) in
     let at : get_or (transactions h) k 0 ≡ t = sym (nat_eq-is t (get_or (transactions h) k 0) place.1) in (
       row-at h (transactions h) k 0 place.0 ∙ ap (λ u. Some (row_of h u)) at,
-      sym (any-transactions h t) ∙ any-there t (transactions h) k 0 place.0 place.1,
+      sym (any-transactions h t) ∙ any-at t (transactions h) k 0 place.0 place.1,
     )
-
-got : (rows : List RowOf) (k : ℕ) (d x : RowOf) → slice_get rows k ≡ Some x → get_or rows k d ≡ x
-got [] k d x at = absurd (cc)
-got (y ∷ rows) zero d x at = cc
-got (y ∷ rows) (suc k) d x at = got rows k d x at
 
 pub silent-found : (h : History) (t k : ℕ) (r d : RowOf) → IsWellFormed h → position (nat_eq t) (map (λ (r : RowOf). r.tx) (table_of h)) ≡ Some k → r ≡ get_or (table_of h) k d → silent_row r ≡ silent_fate h t
 silent-found h t k r d fine found is =

@@ -24,7 +24,7 @@ use Rattle.aud_witness.specs.Placings.{PlacingOf, Advances, GoesBack}
 use Rattle.aud_witness.proofs.Good.{IsGood-empty, IsGood-push, place_of}
 use Rattle.aud_witness.proofs.Faults.{IsGoodNext-from_no_fault, no_fault-from_IsGoodNext}
 use Rattle.aud_witness.proofs.Bridge.{tx-rows, row-at, named-at, enabled-by_rows}
-use Rattle.aud_witness.proofs.BridgeSteps.{Stands, Stands-root, Told, stepped-told, fit-from_plan}
+use Rattle.aud_witness.proofs.BridgeSteps.{Stands, Stands-root, Told, stepped-told, fit-from_plan, lt-any, absent-from_position}
 use Rattle.aud_order.specs.Shapes.{ShapeOf, plan_of, objects_of, history_of}
 use Rattle.aud_order.specs.declared.pushed.Pushed.{Pushed}
 use Rattle.aud_order.specs.declared.pushed.Pushed.TheVariants as told
@@ -83,21 +83,6 @@ fault-err shape p k d fault at is =
 keys : (h : History) → map (λ (r : RowOf). r.tx) (table_of h) ≡ transactions h
 keys h = tx-rows h (transactions h)
 
-lt-any : (q : ℕ → Bool) (ts : List ℕ) → nat_lt (position_or_len q ts) (length ts) ≡ list_any q ts
-lt-any q [] = grind (arith, nat_tests)
-lt-any q (t ∷ ts) =
-    elim (q t) as (λ k. nat_lt (cond (not k) (1 + position_or_len q ts) 0) (suc (length ts)) ≡ (k || list_any q ts)) [
-      | true ↦ grind (arith, nat_tests)
-      | false ↦ (let down : nat_lt (1 + position_or_len q ts) (suc (length ts)) ≡ nat_lt (position_or_len q ts) (length ts) = grind (arith, nat_tests) in down) ∙ lt-any q ts
-    ]
-
-pub absent-from_position : (q : ℕ → Bool) (ts : List ℕ) → position q ts ≡ None → list_any q ts ≡ false
-absent-from_position q ts none = sym (lt-any q ts) ∙ by_test (nat_lt (position_or_len q ts) (length ts)) none
-  where
-    by_test : (k : Bool) → cond k (Some (position_or_len q ts)) None ≡ None → k ≡ false
-    by_test true e = cc
-    by_test false e = refl
-
 pub has-row : (shape : ShapeOf) (p : PlacingOf) (k i t : ℕ) → IsAt shape p k → position (nat_eq t) (map (λ (r : RowOf). r.tx) (table_of (history_of shape))) ≡ Some i →
     slice_index_or p.spot.placed i false ≡ is_named p.path t
 has-row shape p k i t at found =
@@ -134,7 +119,7 @@ enabled-there shape p k i at inside =
     ∙ ap (λ l. are_earlier_placed (table_of h) l (first_stamp h t)) (stands-at shape p k at).placed
     ∙ enabled-by_rows h p.path t (in-transactions h i 0 (subst (λ n. i < n) (length-map (transactions h) (row_of h)) inside))
 
-got : (rows : List RowOf) (i : ℕ) (d x : RowOf) → slice_get rows i ≡ Some x → get_or rows i d ≡ x
+pub got : (rows : List RowOf) (i : ℕ) (d x : RowOf) → slice_get rows i ≡ Some x → get_or rows i d ≡ x
 got [] i d x at = absurd (cc)
 got (y ∷ rows) zero d x at = cc
 got (y ∷ rows) (suc i) d x at = got rows i d x at

@@ -69,3 +69,8 @@ module _ {T S : Type 0} where
   HaveGrown grows [] (w ∷ ws) = ⊥
   HaveGrown grows (s ∷ ss) [] = ⊥
   HaveGrown grows (s ∷ ss) (w ∷ ws) = grows s w.seat × HaveGrown grows ss ws
+
+module _ {T S : Type 0} where
+  -- the tally of a queue once all tokens are taken back: what was put, what the workers drew, and whether a mark was taken
+  abbrev pub gathered : List T → List (WorkerEnd T S) → Tally T
+  gathered put workers = tally 1024 false put (all_drawn workers) (some_stopped workers)

@@ -4,7 +4,7 @@ ghost use Rattle.std.specs.Prelude.{ℕ, ◌-◌, ◌++◌, ◌≡◌, ◌<◌, 
 ghost use Rattle.std.specs.List.Sorted.{IsPermutation};
 ghost use Rattle.crossbeam_deque.specs.Handles.{view, IsPassOf, worker_deque, stealer_deque, worker_view, worker_flavor, worker_index, worker_capacity, SameWorker};
 ghost use Rattle.aud_pool.specs.Rule.{tally};
-ghost use Rattle.aud_pool.specs.Workers.{AreWorked, HasParts, HaveGrown, IsCrew, IsHolding, IsReady, IsRefusal, IsStarting, all_drawn, some_stopped, end_of};
+ghost use Rattle.aud_pool.specs.Workers.{AreWorked, HasParts, HaveGrown, IsCrew, IsHolding, IsReady, IsRefusal, IsStarting, all_drawn, some_stopped, end_of, gathered};
 
 use crate::queue::{add_marks, drain, fill};
 use crate::rule::{OnePart, Queue, Taker};
@@ -48,7 +48,8 @@ fn make_room<T: Drop, S: Drop>(
     count: usize,
     tasks: usize,
 ) -> Result<Room<T, S>, OutOfMemory>
-    ensures queue { IfOk result (λ r. (worker_view r.queue ≡ tally 1024 true [] [] false) × (worker_flavor r.queue ≡ 0) × (worker_index r.queue ≡ 0) × (tasks + count ≤ worker_capacity r.queue)) }
+    ensures fresh { IfOk result (λ r. worker_view r.queue ≡ tally 1024 true [] [] false) }
+    ensures queue { IfOk result (λ r. (worker_flavor r.queue ≡ 0) × (worker_index r.queue ≡ 0) × (tasks + count ≤ worker_capacity r.queue)) }
     ensures taker { IfOk result (λ r. stealer_deque r.taker ≡ worker_deque r.queue) }
     ensures lists { IfOk result (λ r. (r.members.items ≡ []) × (r.workers.items ≡ []) × (r.left.items ≡ [])) }
     ensures room { IfOk result (λ r. (count ≤ vec_capacity r.members) × (count ≤ vec_capacity r.workers) × (tasks ≤ vec_capacity r.left)) }
@@ -108,13 +109,14 @@ fn gather<T: Drop, S: Drop>(
     workers: &mut Vec<WorkerEnd<T, S>>,
 )
     requires parts { ((worker_view queue.old).parts + vec_len members ≡ 1024) × (0 < (worker_view queue.old).parts) }
-    requires start { ((worker_view queue.old).fresh ≡ false) × ((worker_view queue.old).taken ≡ []) × ((worker_view queue.old).stopped ≡ false) }
+    requires start { ((worker_view queue.old).fresh ≡ false) × ((worker_view queue.old).taken ≡ []) }
+    requires going { (worker_view queue.old).stopped ≡ false }
     requires holding { All (IsHolding (worker_deque queue.old)) members.items }
     requires none { workers.old.items ≡ [] }
     requires room { vec_len members ≤ vec_capacity workers.old }
     ensures same { SameWorker queue.old queue.new }
     ensures workers { workers.new.items ≡ map end_of members.items }
-    ensures whole { worker_view queue.new ≡ tally 1024 false (worker_view queue.old).put (all_drawn workers.new.items) (some_stopped workers.new.items) }
+    ensures whole { worker_view queue.new ≡ gathered (worker_view queue.old).put workers.new.items }
 {
     for member in members {
         let Member {

@@ -21,7 +21,13 @@ use Rattle.aud_search.specs.Choices.{AreChoices}
 use Rattle.aud_search.specs.Searches.{IsExpandable, SpentBy}
 use Rattle.aud_search.specs.Levels.{AreTried, AreBelow, IsSearching}
 use Rattle.aud_search.specs.Tried.{IsBehind}
-use Rattle.aud_search.proofs.Refuting.{refuted-bad, refuted-longer, refuted-by_kids}
+use Rattle.aud_search.proofs.Refuting.{refuted-bad, refuted-by_kids}
+use Rattle.aud_witness.proofs.Beginnings.{Refuted-append}
+
+pub there-below : (cs : List Choice) (k : ℕ) (c : Choice) → slice_get cs k ≡ Some c → k < length cs
+there-below [] k c at = absurd (cc)
+there-below (x ∷ cs) zero c at = omega arith
+there-below (x ∷ cs) (suc k) c at = let low : k < length cs = there-below cs k c at in omega arith
 
 -- # Lists
 
@@ -130,7 +136,7 @@ tried-behind plan h cs path k g c fine within choices behind at tried good refut
       | inl next ↦ subst (λ n. AreTried plan.objects h cs path n) (sym next) (tried-next plan.objects h cs path k c at tried refuted)
       | inr silent ↦
           let all : Refuted plan.objects h path = refuted-by_silent plan h path c.decision fine within (choices.silent k c at silent) good refuted in
-          λ j e below there. refuted-longer plan.objects h path (e.decision ∷ []) all
+          λ j e below there. Refuted-append plan.objects h path (e.decision ∷ []) all
     ]
 
 -- a choice is passed over whose list is known to be refuted
@@ -252,11 +258,6 @@ search-unspent objects h p good unfull = (
     (p, record { opens = (good, unfull); outside = λ member. contains_none p member; place = inl refl }),
   ),
 )
-
-there-below : (cs : List Choice) (k : ℕ) (c : Choice) → slice_get cs k ≡ Some c → k < length cs
-there-below [] k c at = absurd (cc)
-there-below (x ∷ cs) zero c at = omega arith
-there-below (x ∷ cs) (suc k) c at = let low : k < length cs = there-below cs k c at in omega arith
 
 -- where all choices are refuted after a list, it is refuted
 pub refuted-here : (objects : List Declared) (h : History) (p : List Decision) (cs : List Choice) (used : ℕ) (path : List Decision) (next : ℕ) (gs : List ℕ) →

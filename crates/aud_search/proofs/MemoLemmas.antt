@@ -3,7 +3,7 @@ use Rattle.std.specs.Prelude.{◌≡◌, ℕ, zero, suc, ◌+◌, ◌-◌, ◌<�
 use Rattle.std.specs.List.{Contains}
 use Rattle.std.proofs.Common.{sym, ◌∙◌, ap, subst, inl, inr, arith, get_or, set}
 use Rattle.std.proofs.lemmas.List.{append-nil, reverse-append, length-map, length-append}
-use Rattle.aud_event.proofs.Bools.{or_right, true_or, nat_eq-refl}
+use Rattle.aud_event.proofs.Bools.{or_right, true_or, nat_eq-refl, or_nothing}
 use Rattle.aud_object.specs.Objects.{ObjState}
 use Rattle.aud_object.specs.Replayed.{replayed}
 use Rattle.aud_history.specs.WellFormed.{IsWellFormed}
@@ -32,7 +32,7 @@ use Rattle.aud_search.proofs.Refuting.{next-shown}
 
 -- # Lists
 
-get-front : {X : Type 0} (xs ys : List X) (k : ℕ) (x : X) → slice_get xs k ≡ Some x → slice_get (xs ++ ys) k ≡ Some x
+pub get-front : {X : Type 0} (xs ys : List X) (k : ℕ) (x : X) → slice_get xs k ≡ Some x → slice_get (xs ++ ys) k ≡ Some x
 get-front [] ys k x at = absurd (cc)
 get-front (y ∷ xs) ys zero x at = at
 get-front (y ∷ xs) ys (suc k) x at = get-front xs ys k x at
@@ -135,7 +135,7 @@ last-at (z ∷ xs) x y (suc k) at = elim (last-at xs x y k at) [
   | inr last ↦ inr (ap (λ n. suc n) last.0, last.1)
 ]
 
-last-there : {X : Type 0} (xs : List X) (x : X) → slice_get (xs ++ x ∷ []) (length xs) ≡ Some x
+pub last-there : {X : Type 0} (xs : List X) (x : X) → slice_get (xs ++ x ∷ []) (length xs) ≡ Some x
 last-there [] x = refl
 last-there (z ∷ xs) x = last-there xs x
 
@@ -274,10 +274,6 @@ dead-refuted shape all P placed n at same fine within good is names dead rest sh
 
 named-own : (p : List Decision) (d : Decision) → is_named (p ++ d ∷ []) d.tx ≡ true
 named-own p d = is_named-append p (d ∷ []) d.tx ∙ or_right (is_named p d.tx) (nat_eq d.tx d.tx || false) (true_or (nat_eq d.tx d.tx) false (nat_eq-refl d.tx))
-
-or_nothing : (a : Bool) → (a || false) ≡ a
-or_nothing true = refl
-or_nothing false = refl
 
 named-others : (p : List Decision) (d : Decision) (u : ℕ) → nat_eq d.tx u ≡ false → is_named (p ++ d ∷ []) u ≡ is_named p u
 named-others p d u other = is_named-append p (d ∷ []) u ∙ ap (λ b. is_named p u || (b || false)) other ∙ or_nothing (is_named p u)

@@ -20,6 +20,7 @@ use Rattle.aud_search.specs.Recorders.{HasNote, HasSilent, IsReason, AreKept, Is
 use Rattle.aud_search.specs.Tried.{IsFound, IsBehind, ArePassed}
 use Rattle.aud_search.proofs.Passing.{passed-search, passed-follows}
 use Rattle.aud_search.specs.Readiness.{ReadyOf, IsReady}
+use Rattle.aud_search.proofs.Levels.{there-below}
 use Rattle.aud_search.proofs.Readiness.{bad-until}
 use Rattle.aud_search.proofs.Steps.{Follows, no_choice, choice-at, bad-none, next_of, states_of}
 
@@ -129,11 +130,6 @@ module _ (P : List Decision → Type 0) (shape : ShapeOf) (cs : List Choice) whe
         (kept-join p 0 o.place (o.place + 1) o.kept (kept-one p o.place o.choice o.at (λ good. subst (λ (x : Decision). P (p ++ x ∷ [])) (sym o.is) noted))))
     | inr (quiet, silent, over) ↦ subst (λ (s : Option Decision). IsHeard P shape cs p t.next s) (sym quiet) (record { silent = silent; good = o.good; noted = noted }, over)
   ]
-
-there-below : (cs : List Choice) (k : ℕ) (c : Choice) → slice_get cs k ≡ Some c → k < length cs
-there-below [] k c at = absurd (cc)
-there-below (x ∷ cs) zero c at = omega arith
-there-below (x ∷ cs) (suc k) c at = let low : k < length cs = there-below cs k c at in omega arith
 
 -- why a list is refuted after which nothing is left
 pub heard-reason : {N : Type 0} (noted : N → List Decision → Type 0) (shape : ShapeOf) (cs : List Choice) (p : List Decision) (from : ℕ) (silent : Option Decision) → AreChoices (history_of shape) cs → (IsFull (history_of shape) p → ⊥) →

@@ -14,10 +14,6 @@ pub next-shown : (objects : List Declared) (h : History) (p : List Decision) (d 
 next-shown objects h p d q shows =
     IsGood-last objects h p d (IsGood-from_Shows objects h (p ++ d ∷ []) q shows)
 
--- what begins with a list that is not good does not show
-pub refuted-unless_good : (objects : List Declared) (h : History) (p : List Decision) → (IsGood objects h p → ⊥) → Refuted objects h p
-refuted-unless_good objects h p bad q shows = bad (IsGood-from_Shows objects h p q shows)
-
 -- after a decision that is not good nothing shows
 pub refuted-bad : (objects : List Declared) (h : History) (p : List Decision) (d : Decision) → (IsGoodNext objects h p d → ⊥) → Refuted objects h (p ++ d ∷ [])
 refuted-bad objects h p d bad q shows = bad (next-shown objects h p d q shows)
@@ -29,10 +25,6 @@ refuted-by_kids objects h p unfull kids [] shows = unfull (subst (λ l. IsFull h
 refuted-by_kids objects h p unfull kids (d ∷ q) shows =
     let again : Shows objects h ((p ++ d ∷ []) ++ q) = subst (λ l. Shows objects h l) (sym (append_assoc p (d ∷ []) q)) shows in
     kids d (next-shown objects h p d q again) q again
-
--- what begins with a refuted list is refuted
-pub refuted-longer : (objects : List Declared) (h : History) (p q : List Decision) → Refuted objects h p → Refuted objects h (p ++ q)
-refuted-longer objects h p q refuted rest shows = refuted (q ++ rest) (subst (λ l. Shows objects h l) (append_assoc p q rest) shows)
 
 -- a full good list that begins with a refuted one is none
 pub shown-here : (objects : List Declared) (h : History) (p : List Decision) → IsGood objects h p → IsFull h p → Shows objects h p

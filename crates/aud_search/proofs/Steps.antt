@@ -34,7 +34,7 @@ use Rattle.aud_search.specs.Searches.{SpentBy, Tells}
 use Rattle.aud_search.specs.Levels.{AreTried, IsSearching, IsOneLess}
 use Rattle.aud_search.specs.Memos.{MemoOf, states_behind, Names, NameWay, IsStep}
 use Rattle.aud_search.specs.Tried.{IsTried, IsFound, IsBehind, Spends, TellsFrom, outcome_of}
-use Rattle.aud_search.proofs.Levels.{tried-more, tried-behind, search-on, search-deeper, search-spent, search-unspent, refuted-here, search-back, search-refuted, search-begins}
+use Rattle.aud_search.proofs.Levels.{there-below, tried-more, tried-behind, search-on, search-deeper, search-spent, search-unspent, refuted-here, search-back, search-refuted, search-begins}
 use Rattle.aud_search.proofs.Weights.{weigh, lighter-deeper, lighter-on, lighter-back}
 
 abbrev pub no_decision : Decision
@@ -56,11 +56,6 @@ pub choice-at : (cs : List Choice) (k : ℕ) → k < length cs → slice_get cs 
 choice-at [] k inside = absurd (omega arith)
 choice-at (c ∷ cs) zero inside = refl
 choice-at (c ∷ cs) (suc k) inside = choice-at cs k (omega arith)
-
-there-below : (cs : List Choice) (k : ℕ) (c : Choice) → slice_get cs k ≡ Some c → k < length cs
-there-below [] k c at = absurd (cc)
-there-below (x ∷ cs) zero c at = omega arith
-there-below (x ∷ cs) (suc k) c at = let low : k < length cs = there-below cs k c at in omega arith
 
 abbrev pub AreBad : CursorOf → List Choice → ℕ → ℕ → Type 0
 AreBad cur cs from to = (j : ℕ) (c : Choice) → from ≤ j → j < to → slice_get cs j ≡ Some c → IsGoodAt cur c.decision → ⊥

@@ -1,5 +1,5 @@
 -- States under numbers, kept whole or by the blocks that lead to them.
-use Rattle.std.specs.Prelude.{◌≡◌, ℕ, List, [], ◌∷◌, ◌++◌, Option, Some, None, unwrap_or, slice_get, slice_index_or}
+use Rattle.std.specs.Prelude.{◌≡◌, ℕ, List, [], ◌∷◌, ◌++◌, Option, Some, None, unwrap_or, slice_get, slice_index_or, MatchOption}
 use Rattle.aud_object.specs.Objects.{ObjState}
 use Rattle.aud_object.specs.Replayed.{replayed}
 use Rattle.aud_history.specs.Histories.{History}
@@ -44,3 +44,7 @@ LeadsFrom h (Behind step cost) way states = ⊥
 -- some more after the others
 abbrev pub IsMoreOf : {X : Type 0} → List X → List X → Type 0
 IsMoreOf {X} old new = (more : List X) × (new ≡ old ++ more)
+
+-- the states are kept, if they are, after those of the earlier numbers
+abbrev pub IsKeptOf : {A : Type 0} → History → List (Kept A) → List ObjState → Option (Kept A) → Type 0
+IsKeptOf h earlier states kept = MatchOption kept (Unit {0}) (λ fresh. state_from h (states_of h earlier) fresh ≡ states)

@@ -100,3 +100,11 @@ LeavesStates c false = c.decision.fate ≡ C
 -- after the choice the states have the number: it leaves them, or a lead of its block is known
 abbrev pub IsAfter : {V : Type 0} → MemoOf V → ℕ → Choice → ℕ → Type 0
 IsAfter memo n c to = (LeavesStates c true × (to ≡ n)) ⊎ ((c.decision.fate ≡ C) × IsLead memo.shape memo.states (record { from = n; tx = c.decision.tx; to = to }))
+
+-- no list that begins with the cursor's shows the history
+abbrev pub IsRefutedAt : CursorOf → Type 0
+IsRefutedAt c = Refuted (objects_of c.shape) (history_of c.shape) c.path
+
+-- the same of the cursor's list with the decision after it
+abbrev pub IsRefutedBehind : CursorOf → Decision → Type 0
+IsRefutedBehind c d = Refuted (objects_of c.shape) (history_of c.shape) (c.path ++ d ∷ [])

@@ -10,6 +10,7 @@ use Rattle.aud_search.specs.declared.choice.Choice.{Choice}
 use Rattle.aud_search.specs.declared.memo.Reason.{Reason}
 use Rattle.aud_search.specs.declared.memo.Reason.TheVariants.{Kids, Silent, Same}
 use Rattle.aud_search.specs.Memos.{states_behind}
+use Rattle.aud_order.specs.Cursors.{CursorOf, IsGoodAt}
 
 -- some note is of the list
 abbrev pub HasNote : {N : Type 0} → (N → List Decision → Type 0) → List Decision → Type 0
@@ -64,3 +65,7 @@ IsSilentAt cs k (Some d) = (c : Choice) → slice_get cs k ≡ Some c → (c.eff
 abbrev pub reason_by : {N : Type 0} → Option Decision → Reason N
 reason_by None = Kids
 reason_by (Some d) = Silent d
+
+-- where the decision is good after the cursor's list, the note is of a list that is the same as that list with it
+abbrev pub IsNotedBehind : CursorOf → Decision → (List Decision → Type 0) → Type 0
+IsNotedBehind c d P = IsGoodAt c d → IsNotedAlike c.shape P (c.path ++ d ∷ [])

@@ -13,6 +13,7 @@ use Rattle.aud_search.specs.declared.outcome.Searched.{Searched}
 use Rattle.aud_search.specs.declared.outcome.Searched.TheVariants as searched
 use Rattle.aud_search.specs.declared.outcome.Decided.{Decided}
 use Rattle.aud_search.specs.declared.outcome.Decided.TheVariants as decided
+use Rattle.aud_witness.specs.Letter.{Letter}
 
 -- p is good, and some transaction is not placed
 abbrev pub IsExpandable : List Declared → History → List Decision → Type 0
@@ -53,6 +54,11 @@ Tells objects h p None outcome.Spent = ⊥
 abbrev pub Decides : {X : Type 0} → List Declared → History → Decided X → Type 0
 Decides objects h (decided.Opaque q) = Shows objects h q
 Decides objects h decided.NotOpaque = orders.Opaque objects h → ⊥
+
+-- the same by the letter of 2008: a completion of the history and a sequential history equivalent to it show it, or none do
+abbrev pub DecidesByLetter : {X : Type 0} → List Declared → History → Decided X → Type 0
+DecidesByLetter objects h (decided.Opaque q) = Letter objects h
+DecidesByLetter objects h decided.NotOpaque = Letter objects h → ⊥
 
 -- the same of a search over a recorder, which has a note of the empty list where no list shows the history
 abbrev pub TellsWith : {R N X : Type 0} → List Declared → History → (R → N → List Decision → Type 0) → Searched R N X → Type 0

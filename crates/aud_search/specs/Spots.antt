@@ -1,5 +1,5 @@
 -- Spots of refuted lists, as words.
-use Rattle.std.specs.Prelude.{◌≡◌, ℕ, zero, suc, ◌/◌, ◌%◌, ◌<◌, Bool, true, false, List, [], ◌∷◌, ◌++◌, length, take, drop, Option, Some, None, slice_index_or, slice_set, ◌⊎◌}
+use Rattle.std.specs.Prelude.{◌≡◌, ℕ, zero, suc, ◌/◌, ◌%◌, ◌<◌, Bool, true, false, List, [], ◌∷◌, ◌++◌, length, take, drop, Option, Some, None, slice_index_or, slice_set, ◌⊎◌, map, slice_get, MatchOption}
 use Rattle.std.specs.List.{Contains}
 use Rattle.aud_marks.specs.Marked.{marks_of, IsBitWritten}
 
@@ -41,3 +41,14 @@ AreWith {X} old new x = (y : X) → Contains new y → Contains old y ⊎ (y ≡
 abbrev pub IsKeptAs : {X : Type 0} → List X → List X → X → Bool → Type 0
 IsKeptAs old new x true = new ≡ old ++ x ∷ []
 IsKeptAs old new x false = new ≡ old
+
+-- spots by their words, where there are as many rows as marks
+abbrev pub entries_over : List Bool → List (List ℕ) → List EntryOf
+entries_over marks spots = map (entry_of (length marks)) spots
+
+abbrev pub entry : List Bool → ℕ → EntryOf
+entry marks n = record { placed = marks; states = n }
+
+-- the element stands at the place, if there is a place
+abbrev pub IsPlaceOf : {X : Type 0} → List X → X → Option ℕ → Type 0
+IsPlaceOf xs x found = MatchOption found (Unit {0}) (λ k. slice_get xs k ≡ Some x)

@@ -57,3 +57,7 @@ abbrev pub outcome_of : {N X : Type 0} → Ended N X → Outcome X
 outcome_of (ended.Refuted note) = outcome.Refuted
 outcome_of (ended.Witness q) = outcome.Witness q
 outcome_of ended.Spent = outcome.Spent
+
+-- the same of the lists that begin with the cursor's
+abbrev pub TellsAt : {N X : Type 0} → CursorOf → (N → List Decision → Type 0) → Option ℕ → Ended N X → Type 0
+TellsAt at noted left e = TellsFrom (objects_of at.shape) (history_of at.shape) noted at.path left e

@@ -5,7 +5,7 @@ ghost use Rattle.aud_history.specs.Histories.{History};
 ghost use Rattle.aud_history.specs.Table.{row_of};
 ghost use Rattle.aud_order.specs.Shapes.{history_of};
 ghost use Rattle.aud_search.specs.Memos.{Names};
-ghost use Rattle.aud_search.specs.Kept.{IsMoreOf, states_of, state_from, run_way, IsWay, LeadsTo, LeadsFrom};
+ghost use Rattle.aud_search.specs.Kept.{IsMoreOf, states_of, state_from, run_way, IsWay, LeadsTo, LeadsFrom, IsKeptOf};
 
 use crate::digests::Digests;
 use crate::index::{Index, Look};
@@ -224,7 +224,7 @@ fn kept_as<A: Allocator + Copy>(
     store: &Store<A>,
 ) -> Option<Kept<A>>
     requires { LeadsTo (history_of shape.now) (states_of (history_of shape.now) kept.now) step store.now.now }
-    ensures { MatchOption result (Unit {0}) (λ fresh. state_from (history_of shape.now) (states_of (history_of shape.now) kept.now) fresh ≡ store.now.now) }
+    ensures { IsKeptOf (history_of shape.now) kept.now store.now.now result }
 {
     if let Some(step) = step {
         let cost = cost_of(kept, shape, step);

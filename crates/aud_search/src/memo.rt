@@ -9,8 +9,8 @@ ghost use Rattle.aud_witness.specs.Orders.{Refuted};
 ghost use Rattle.aud_order.specs.Shapes.{objects_of, history_of};
 ghost use Rattle.aud_order.specs.Cursors.{IsGoodAt};
 ghost use Rattle.aud_search.specs.Kept.{LeadsTo};
-ghost use Rattle.aud_search.specs.Memos.{states_behind, Names, IsLead, IsGrown, IsTold, IsStep, IsNext, IsAfter, LeavesStates};
-ghost use Rattle.aud_search.specs.Recorders.{IsReason, IsNotedAlike, HasNote};
+ghost use Rattle.aud_search.specs.Memos.{states_behind, Names, IsLead, IsGrown, IsTold, IsStep, IsNext, IsAfter, LeavesStates, IsRefutedAt, IsRefutedBehind};
+ghost use Rattle.aud_search.specs.Recorders.{IsReason, IsNotedAlike, HasNote, IsNotedBehind};
 ghost use Rattle.aud_search.specs.Spots.{AreWith};
 
 use crate::choice::{Choice, Effect};
@@ -294,7 +294,7 @@ impl<'a, N: Copy, R: Recorder<N>, A: Allocator + Copy> Memo<'a, N, R, A> {
     pub(crate) fn knows(&self, states: Option<usize>, cursor: &Cursor<A>) -> Option<N>
         requires shape { self.now.shape ≡ cursor.now.shape }
         requires named { Names self.now.states states (states_behind cursor.now.shape cursor.now.path) }
-        ensures refuted { IfSome result (λ note. Refuted (objects_of cursor.now.shape) (history_of cursor.now.shape) cursor.now.path) }
+        ensures refuted { IfSome result (λ note. IsRefutedAt cursor.now) }
         ensures alike { IfSome result (λ note. IsNotedAlike cursor.now.shape (R.noted self.now.recorder note) cursor.now.path) }
     {
         let _ = self.shape.history();
@@ -318,8 +318,8 @@ impl<'a, N: Copy, R: Recorder<N>, A: Allocator + Copy> Memo<'a, N, R, A> {
         cursor: &Cursor<A>,
     ) -> Option<N>
         requires { IsNext self.now states choice.now cursor.now }
-        ensures refuted { IfSome result (λ note. Refuted (objects_of cursor.now.shape) (history_of cursor.now.shape) (cursor.now.path ++ choice.now.decision ∷ [])) }
-        ensures alike { IfSome result (λ note. IsGoodAt cursor.now choice.now.decision → IsNotedAlike cursor.now.shape (R.noted self.now.recorder note) (cursor.now.path ++ choice.now.decision ∷ [])) }
+        ensures refuted { IfSome result (λ note. IsRefutedBehind cursor.now choice.now.decision) }
+        ensures alike { IfSome result (λ note. IsNotedBehind cursor.now choice.now.decision (R.noted self.now.recorder note)) }
     {
         let _ = self.shape.history();
         let _ = self.shape.plan();
@@ -340,7 +340,7 @@ impl<'a, N: Copy, R: Recorder<N>, A: Allocator + Copy> Memo<'a, N, R, A> {
     pub(crate) fn learn(&mut self, states: Option<usize>, note: N, cursor: &Cursor<A>)
         requires shape { self.old.shape ≡ cursor.now.shape }
         requires named { Names self.old.states states (states_behind cursor.now.shape cursor.now.path) }
-        requires refuted { Refuted (objects_of cursor.now.shape) (history_of cursor.now.shape) cursor.now.path }
+        requires refuted { IsRefutedAt cursor.now }
         requires noted { R.noted self.old.recorder note cursor.now.path }
         ensures { IsGrown self.old self.new }
     {
@@ -367,7 +367,7 @@ impl<'a, N: Copy, R: Recorder<N>, A: Allocator + Copy> Memo<'a, N, R, A> {
     fn keep_refuted(&mut self, states: usize, note: N, cursor: &Cursor<A>)
         requires shape { self.old.shape ≡ cursor.now.shape }
         requires named { Names self.old.states (Some states) (states_behind cursor.now.shape cursor.now.path) }
-        requires refuted { Refuted (objects_of cursor.now.shape) (history_of cursor.now.shape) cursor.now.path }
+        requires refuted { IsRefutedAt cursor.now }
         requires noted { R.noted self.old.recorder note cursor.now.path }
         ensures { self.new ≡ self.old }
     {

@@ -9,11 +9,11 @@ ghost use Rattle.aud_order.specs.Shapes.{plan_of, objects_of, history_of};
 ghost use Rattle.aud_search.specs.Choices.{AreChoices};
 ghost use Rattle.aud_search.specs.Levels.{IsOneLess};
 ghost use Rattle.aud_search.specs.Readiness.{IsReady};
-ghost use Rattle.aud_search.specs.Searches.{Tells, TellsWith, Decides};
+ghost use Rattle.aud_search.specs.Searches.{Tells, TellsWith, Decides, DecidesByLetter};
 ghost use Rattle.aud_order.specs.Cursors.{IsGoodAt, cursor_back, cursor_with};
-ghost use Rattle.aud_search.specs.Tried.{IsTried, IsFound, IsBehind, ArePassed, TellsFrom};
+ghost use Rattle.aud_search.specs.Tried.{IsTried, IsFound, IsBehind, ArePassed, TellsFrom, TellsAt};
 ghost use Rattle.aud_search.specs.Memos.{Names, states_behind, IsTold};
-ghost use Rattle.aud_search.specs.Recorders.{HasNote, IsNotedFor, IsNotedAlike, AreKept, IsSilentAt, reason_by};
+ghost use Rattle.aud_search.specs.Recorders.{HasNote, IsNotedFor, IsNotedAlike, AreKept, IsSilentAt, reason_by, IsNotedBehind};
 
 use crate::choice::{Choice, Effect, choices_of};
 use crate::memo::{Memo, Reason};
@@ -22,6 +22,7 @@ use crate::ready::Ready;
 use crate::recorder::{Recorder, Unnoted, Unrecorded};
 use aud_event::OutOfMemory;
 use aud_order::{Cursor, Pushed, Shape};
+use aud_witness::laws::letter_is_opaque;
 use aud_witness::{Decision, Prefix};
 use std::alloc::{Allocator, Global};
 use std::marker::Model;
@@ -79,7 +80,7 @@ fn pass<N: Copy, R: Recorder<N>, A: Allocator + Copy>(
     note: N,
 ) -> Result<(), OutOfMemory>
     requires shape { memo.old.shape ≡ cursor.old.shape }
-    requires alike { IsGoodAt cursor.old decision → IsNotedAlike cursor.old.shape (R.noted memo.old.recorder note) (cursor.old.path ++ decision ∷ []) }
+    requires alike { IsNotedBehind cursor.old decision (R.noted memo.old.recorder note) }
     ensures noted { OnOk result (IsGoodAt cursor.old decision → HasNote (R.noted memo.new.recorder) (cursor.old.path ++ decision ∷ [])) }
     ensures stays { OnOk result (cursor.new ≡ cursor.old) }
     ensures told { OnOk result (IsTold R.grows memo.old memo.new) }
@@ -229,7 +230,7 @@ fn search_from<'a, N: Copy, R: Recorder<N>, A: Allocator + Copy>(
     requires unfull { IsFull (history_of cursor.old.shape) cursor.old.path → ⊥ }
     requires fine { IsWellFormed (history_of cursor.old.shape) }
     requires within { IsWithinLimits (plan_of cursor.old.shape) (history_of cursor.old.shape) }
-    ensures told { IfOk result (TellsFrom (objects_of cursor.old.shape) (history_of cursor.old.shape) (R.noted memo.new.recorder) cursor.old.path budget) }
+    ensures told { IfOk result (TellsAt cursor.old (R.noted memo.new.recorder) budget) }
     ensures shape { OnOk result (memo.new.shape ≡ memo.old.shape) }
 {
     let mut left = budget;
@@ -370,16 +371,17 @@ pub fn explore<A: Allocator + Copy>(
     Memory::new(alloc, shape).explore(prefix, budget)
 }
 
-/// Whether the history is opaque, with a list that shows it where it is.
+/// Whether the history is opaque, with a list that shows it where it is. That is so by lists of decisions, and by the letter of
+/// Guerraoui and Kapałka (PPoPP 2008).
 pub fn decide<A: Allocator + Copy>(alloc: A, shape: &Shape<A>) -> Result<Decided<A>, OutOfMemory>
-    ensures { IfOk result (Decides (objects_of shape.now) (history_of shape.now)) }
+    ensures decides { IfOk result (Decides (objects_of shape.now) (history_of shape.now)) }
+    ensures letter { IfOk result (DecidesByLetter (objects_of shape.now) (history_of shape.now)) }
 {
-    let mut memo = Memo::new(alloc, shape, Unrecorded);
-    match search(alloc, shape, &[], None, &mut memo)? {
-        Outcome::Witness(witness) => Ok(Decided::Opaque(witness)),
-        Outcome::Refuted => Ok(Decided::NotOpaque),
-        // Without a budget none is spent.
-        Outcome::Spent => unreachable!(),
+    letter_is_opaque();
+    let _well_formed = shape.history();
+    match search_with(alloc, shape, Unrecorded)? {
+        Searched::Opaque(witness) => Ok(Decided::Opaque(witness)),
+        Searched::NotOpaque(_, _) => Ok(Decided::NotOpaque),
     }
 }
 

@@ -2,7 +2,7 @@
 
 ghost use Rattle.std.specs.Prelude.{◌≡◌, ◌+◌, ◌<◌, ◌≤◌, ◌++◌, [], ◌∷◌, true, nat_eq, IsTrue, MatchOption, map, length, take, drop, slice_get, slice_index_or, if◌then◌else◌, ◌⊎◌, Some};
 ghost use Rattle.aud_marks.specs.Marked.{IsBitWritten};
-ghost use Rattle.aud_search.specs.Spots.{IsKeptAs, entry_of, with_place, WithPlace, IsSpot};
+ghost use Rattle.aud_search.specs.Spots.{IsKeptAs, entry_of, with_place, WithPlace, IsSpot, IsPlaceOf, entries_over, entry};
 
 use crate::index::{Index, Look, hash_of};
 use aud_marks::Marks;
@@ -156,7 +156,7 @@ impl<A: Allocator + Copy> Spots<A> {
         further: Option<usize>,
     ) -> Option<usize>
         requires { MatchOption further (Unit {0}) (λ k. k < length placed.now) }
-        ensures { MatchOption result (Unit {0}) (λ k. slice_get (map (entry_of (length placed.now)) self.now) k ≡ Some (record { placed = with_place placed.now further; states = states })) }
+        ensures { IsPlaceOf (entries_over placed.now self.now) (entry (with_place placed.now further) states) result }
     {
         let words = placed.words();
         let hash = hash_spot(states, words, further);
@@ -176,7 +176,7 @@ impl<A: Allocator + Copy> Spots<A> {
 
     /// Puts a spot after the others, if it has as many words as they have and there is memory for it.
     pub(crate) fn keep(&mut self, states: usize, placed: &Marks<A>) -> bool
-        ensures { IsKeptAs (map (entry_of (length placed.now)) self.old) (map (entry_of (length placed.now)) self.new) (record { placed = placed.now; states = states }) result }
+        ensures { IsKeptAs (entries_over placed.now self.old) (entries_over placed.now self.new) (entry placed.now states) result }
     {
         let marks = placed.words();
         let width = marks.len() + 1;

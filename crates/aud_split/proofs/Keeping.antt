@@ -3,7 +3,7 @@ use Rattle.std.specs.Prelude.{◌≡◌, List, ◌++◌, Option, Some, None, ref
 use Rattle.std.proofs.Common.{◌∙◌, subst}
 use Rattle.aud_event.specs.Exactness.{fact_exact}
 use Rattle.aud_lattice.specs.Covers.{begins}
-use Rattle.aud_lattice.specs.Strict.{some_passes, one_passes}
+use Rattle.aud_lattice.proofs.Strict.{some_passes, one_passes}
 use Rattle.aud_witness.specs.declared.decision.Decision.{Decision}
 use Rattle.aud_witness.specs.DecisionOrder.{decision_cmp, decisions_total, decision_exact}
 use Rattle.aud_cover.specs.Closings.{IsCovered}
@@ -12,9 +12,10 @@ use Rattle.aud_know.specs.Known.{KnownAtom, norm_of}
 use Rattle.aud_know.specs.Members.{IsLeastShown}
 use Rattle.aud_know.proofs.Keeping.{fact_total}
 use Rattle.aud_know.proofs.Norming.{there_refuted, covers-norm}
-use Rattle.aud_know.proofs.Exact.{rest_of, begins_with, norm_exact}
+use Rattle.aud_know.proofs.Exact.{norm_exact}
 use Rattle.aud_split.specs.Searched.{IsRefutedBy, HasShown}
 use Rattle.aud_split.specs.Laws.{KnownIsKept}
+use Rattle.aud_cover.proofs.Beginnings.{begins-rest, begins-longer}
 
 -- a beginning that an atom refutes has a beginning in the cover
 kept_refuted : (atoms : List KnownAtom) (t : List Decision) → IsRefutedBy atoms t → IsCovered (norm_of atoms).cover t
@@ -22,8 +23,8 @@ kept_refuted atoms t (q, (rest, (there, is))) =
     let found =
     some_passes (λ p. begins decision_cmp p (q ++ rest)) (norm_of atoms).cover
     (covers-norm fact_total fact_exact decisions_total decision_exact atoms (q ++ rest)
-    ∙ one_passes (λ p. begins decision_cmp p (q ++ rest)) (refuted_of atoms) q (there_refuted atoms q there) (begins_with q rest)) in
-    let behind = rest_of found.0 (q ++ rest) found.2 in
+    ∙ one_passes (λ p. begins decision_cmp p (q ++ rest)) (refuted_of atoms) q (there_refuted atoms q there) (begins-longer q rest)) in
+    let behind = begins-rest found.0 (q ++ rest) found.2 in
     (found.0, (behind.0, (found.1, is ∙ behind.1)))
 
 -- the least witness is the witness of an atom, and there is one where an atom is a witness

@@ -8,7 +8,7 @@ use Rattle.aud_history.specs.WellFormed.{IsWellFormed}
 use Rattle.aud_facts.specs.declared.status.FactStatus.{FactStatus}
 use Rattle.aud_facts.specs.declared.status.FactStatus.TheVariants as status
 use Rattle.aud_facts.specs.Sets.{SealedOf}
-use Rattle.aud_facts.specs.Status.{status_of, hist}
+use Rattle.aud_facts.specs.Status.{fact_status, hist}
 use Rattle.aud_facts.proofs.Quiet.{quiet_is_no_conflict, sealed_is_all}
 use Rattle.aud_witness.specs.declared.decision.Decision.{Decision}
 use Rattle.aud_witness.specs.Orders.{Refuted}
@@ -61,7 +61,7 @@ all_or_one k budget (x ∷ ts) none ended = elim (ended x (0, omega arith, refl)
     first x ts there all t (suc i, inside, is) = all t (i, omega arith, is)
 
 module _ (k : KnowledgeOf) (depth budget : ℕ) (tasks : List (List Decision)) (truth : IsKnowledge k.plan k.held)
-    (sealed : status_of k.plan.logs k.held.facts ≡ status.Sealed) (well : IsWellFormed (hist k.held.facts))
+    (sealed : fact_status k.plan.logs k.held.facts ≡ status.Sealed) (well : IsWellFormed (hist k.held.facts))
     (whole_split : AreTasks k.plan.objects (hist k.held.facts) [] depth tasks) (ended : (t : List Decision) → Contains tasks t → IsEnded k budget t) where
   -- a task with a beginning in the cover is refuted
   covered-refuted : (t : List Decision) → IsCovered k.held.cover t → Refuted k.plan.objects (hist k.held.facts) t
@@ -100,12 +100,12 @@ module _ (k : KnowledgeOf) (depth budget : ℕ) (tasks : List (List Decision)) (
 -- # By what was taken
 
 module _ (k : KnowledgeOf) (atoms : List KnownAtom) (s : SealedOf) (depth budget : ℕ) (tasks : List (List Decision)) (it : IsSearched k atoms s depth budget tasks)
-    (sealed : status_of k.plan.logs k.held.facts ≡ status.Sealed) where
+    (sealed : fact_status k.plan.logs k.held.facts ≡ status.Sealed) where
   -- the part is all facts
   all_facts : k.held.facts ≡ s.facts.facts
   all_facts =
       sealed_is_all k.plan s.facts.facts k.held.facts it.ordered it.truth.normal.facts it.truth.sound
-      (subst (λ (p : PlanOf). status_of p.logs s.facts.facts ≡ status.Sealed) it.plan it.sealed.sealed) it.part (quiet quiet_is_no_conflict k it.truth sealed)
+      (subst (λ (p : PlanOf). fact_status p.logs s.facts.facts ≡ status.Sealed) it.plan it.sealed.sealed) it.part (quiet quiet_is_no_conflict k it.truth sealed)
 
   abbrev theirs : List Declared × History
   theirs = (s.facts.plan.objects, s.history)
@@ -125,10 +125,10 @@ module _ (k : KnowledgeOf) (atoms : List KnownAtom) (s : SealedOf) (depth budget
       X v said)
 
 -- a verdict is one on facts that are not sealed, or they are
-unsealed_or_sealed : (X : Type 0) (k : KnowledgeOf) (v : Verdict X) → IsVerdict k v → IsUnsealed v ⊎ (status_of k.plan.logs k.held.facts ≡ status.Sealed)
-unsealed_or_sealed X k v said = go (status_of k.plan.logs k.held.facts) refl said
+unsealed_or_sealed : (X : Type 0) (k : KnowledgeOf) (v : Verdict X) → IsVerdict k v → IsUnsealed v ⊎ (fact_status k.plan.logs k.held.facts ≡ status.Sealed)
+unsealed_or_sealed X k v said = go (fact_status k.plan.logs k.held.facts) refl said
   where
-    go : (s : FactStatus) → status_of k.plan.logs k.held.facts ≡ s → OfStatus k.plan k.held s v → IsUnsealed v ⊎ (status_of k.plan.logs k.held.facts ≡ status.Sealed)
+    go : (s : FactStatus) → fact_status k.plan.logs k.held.facts ≡ s → OfStatus k.plan k.held s v → IsUnsealed v ⊎ (fact_status k.plan.logs k.held.facts ≡ status.Sealed)
     go (status.Conflict kind log at) is e = inl (subst (λ (u : Verdict X). IsUnsealed u) (sym e) tt)
     go (status.Waiting log) is e = inl (subst (λ (u : Verdict X). IsUnsealed u) (sym e) tt)
     go (status.Gap stamp) is e = inl (subst (λ (u : Verdict X). IsUnsealed u) (sym e) tt)

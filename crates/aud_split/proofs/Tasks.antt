@@ -22,10 +22,6 @@ use Rattle.aud_split.specs.Tasks.{HasNoKids, IsTask, AreTasks, AreAdded}
 abbrev Lists : Type 0
 Lists = List (List Decision)
 
-pub on_ok : {X E : Type 0} (r : Result X E) (P Q : Type 0) → (P → Q) → OnOk r P → OnOk r Q
-on_ok (Ok x) P Q f holds = f holds
-on_ok (Err e) P Q f holds = holds
-
 -- by its length a list is known to be empty
 pub none_by_length : (b : Bool) (n : ℕ) (ks : List Decision) → b ≡ (n == 0) → n ≡ length ks → b ≡ true → ks ≡ []
 none_by_length b n [] told long is = refl

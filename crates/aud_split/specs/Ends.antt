@@ -1,9 +1,10 @@
 -- What the workers of a pool leave, as lists by their numbers.
-use Rattle.std.specs.Prelude.{◌≡◌, ◌≤◌, ℕ, ◌+◌, ◌++◌, ◌==◌, Bool, List, [], ◌∷◌, map, filter, cond}
+use Rattle.std.specs.Prelude.{◌≡◌, ◌≤◌, ℕ, ◌+◌, ◌++◌, ◌==◌, Bool, List, [], ◌∷◌, map, filter, cond, vec_capacity}
 use Rattle.std.specs.List.{list_any}
 use Rattle.aud_pool.specs.declared.worker.WorkerEnd.{WorkerEnd}
 use Rattle.aud_split.specs.declared.fault.PoolFault.{PoolFault}
 use Rattle.aud_split.specs.declared.fault.PoolFault.TheVariants.{OutOfMemory}
+use Rattle.aud_split.specs.declared.ends.Lists.{Lists}
 
 -- the tasks of one worker
 abbrev pub drawn_by : {T : Type 0} → ℕ → List (ℕ × T) → List T
@@ -28,3 +29,7 @@ module _ {T S : Type 0} where
   abbrev pub failures : ℕ → List (WorkerEnd T S) → List (ℕ × PoolFault)
   failures n [] = []
   failures n (e ∷ es) = cond e.failed ((n, OutOfMemory) ∷ failures (n + 1) es) (failures (n + 1) es)
+
+-- the lists have room for so many workers and tasks
+abbrev pub HaveRoom : {T S : Type 0} → ℕ → ℕ → Lists T S → Type 0
+HaveRoom workers tasks lists = (workers ≤ vec_capacity lists.seats) × (workers ≤ vec_capacity lists.faults) × (tasks ≤ vec_capacity lists.drawn)

@@ -2,7 +2,7 @@
 
 ghost use Rattle.std.specs.Prelude.{◌≡◌, ◌<◌, ◌≤◌, ◌+◌, ◌++◌, ◌∷◌, [], length, map, IfOk, vec_len, vec_capacity, if◌then◌else◌};
 ghost use Rattle.aud_pool.specs.Workers.{all_drawn};
-ghost use Rattle.aud_split.specs.Ends.{numbered, failures};
+ghost use Rattle.aud_split.specs.Ends.{numbered, failures, HaveRoom};
 ghost use Rattle.aud_split.specs.declared.fault.PoolFault.TheVariants.{OutOfMemory as Exhausted};
 
 use crate::fault::PoolFault;
@@ -25,7 +25,7 @@ pub(crate) fn make_lists<T: Drop, S: Drop>(
     tasks: usize,
 ) -> Result<Lists<T, S>, OutOfMemory>
     ensures empty { IfOk result (λ r. (r.seats.items ≡ []) × (r.drawn.items ≡ []) × (r.faults.items ≡ [])) }
-    ensures room { IfOk result (λ r. (workers ≤ vec_capacity r.seats) × (workers ≤ vec_capacity r.faults) × (tasks ≤ vec_capacity r.drawn)) }
+    ensures room { IfOk result (HaveRoom workers tasks) }
 {
     Ok(Lists {
         seats: Vec::with_capacity(alloc, workers)?,
@@ -64,7 +64,7 @@ fn note_fault(worker: u32, failed: bool, faults: &mut Vec<(u32, PoolFault)>)
 pub(crate) fn take_apart<T: Drop, S: Drop>(workers: Vec<WorkerEnd<T, S>>, lists: &mut Lists<T, S>)
     requires few { vec_len workers < 1024 }
     requires empty { (lists.old.seats.items ≡ []) × (lists.old.drawn.items ≡ []) × (lists.old.faults.items ≡ []) }
-    requires room { (vec_len workers ≤ vec_capacity lists.old.seats) × (vec_len workers ≤ vec_capacity lists.old.faults) × (length (all_drawn workers.items) ≤ vec_capacity lists.old.drawn) }
+    requires room { HaveRoom (vec_len workers) (length (all_drawn workers.items)) lists.old }
     ensures seats { lists.new.seats.items ≡ map (λ w. w.seat) workers.items }
     ensures drawn { lists.new.drawn.items ≡ numbered 0 workers.items }
     ensures faults { lists.new.faults.items ≡ failures 0 workers.items }

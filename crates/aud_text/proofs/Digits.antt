@@ -4,6 +4,7 @@ use Rattle.std.specs.Str.Parse.{digits_value_after}
 use Rattle.std.specs.Char.{digit_value}
 use Rattle.aud_text.specs.Orders.{all_digits}
 use Rattle.std.proofs.lemmas.Str.{digit_value_digit}
+use Rattle.aud_event.proofs.Bools.{and_true}
 
 pub after_grows : (x : ℕ) (cs : List ℕ) → x ≤ digits_value_after 10 x cs
 after_grows x [] = omega arith
@@ -24,21 +25,17 @@ cut_early x cs = by_test (nat_le 1024 x) refl
         let k : x < 1024 = grind arith in
         let m : min x 1024 ≡ x = omega arith in rw m refl
 
-pub both : (a b : Bool) → (a && b) ≡ true → (a ≡ true) × (b ≡ true)
-both true b h = (refl, h)
-both false b h = absurd (cc)
-
 pub one_digit : (c : ℕ) → (nat_le 48 c && nat_le c 57) ≡ true → digit_value c + 48 ≡ c
 one_digit c h =
-    let t = both (nat_le 48 c) (nat_le c 57) h in
+    let t = and_true (nat_le 48 c) (nat_le c 57) h in
     let low : 48 ≤ c = grind (arith, t.0) in
     let high : c ≤ 57 = grind (arith, t.1) in
     digit_value_digit c (low, high)
 
 pub digit_at : (s : List ℕ) (i : ℕ) → i < length s → all_digits s ≡ true → digit_value (get_or s i 0) + 48 ≡ get_or s i 0
 digit_at [] i h a = absurd (omega arith)
-digit_at (c ∷ cs) zero h a = one_digit c (both (nat_le 48 c && nat_le c 57) (all_digits cs) a).0
-digit_at (c ∷ cs) (suc i) h a = digit_at cs i (omega arith) (both (nat_le 48 c && nat_le c 57) (all_digits cs) a).1
+digit_at (c ∷ cs) zero h a = one_digit c (and_true (nat_le 48 c && nat_le c 57) (all_digits cs) a).0
+digit_at (c ∷ cs) (suc i) h a = digit_at cs i (omega arith) (and_true (nat_le 48 c && nat_le c 57) (all_digits cs) a).1
 
 -- one more digit
 pub one_more : (s : List ℕ) (i v w : ℕ) → i < length s → all_digits s ≡ true → w ≡ min (v * 10 + (get_or s i 0 - 48)) 1024

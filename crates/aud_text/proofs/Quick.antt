@@ -20,6 +20,7 @@ use Rattle.aud_text.specs.declared.shape.Shape.{Shape}
 use Rattle.aud_text.specs.declared.shape.Shape.TheVariants.{EndMark, Invoke, Respond, TryCommit, TryAbort, Commit, Abort, Strange}
 use Rattle.aud_text.specs.Json.{Key, has, has_all, has_only, is_one_of, fits_at, small, whole, small_at, whole_at, word_at}
 use Rattle.aud_text.specs.FactText.{shape_of, shape_of_ev, takes_argument, base_keys, operation_keys, required, allowed, types_fit, answer_of, answer_fits, answer_at, object_number, object_at, op_at, op_with, event_of, record_of, fact_of, checked, fact_or_word, judged_as, judged}
+use Rattle.aud_event.proofs.Bools.{and_true}
 
 -- ---- a key that stands
 
@@ -78,14 +79,10 @@ skipped Less r d e = refl
 skipped Equal r d e = absurd (true≢false e)
 skipped Greater r d e = refl
 
-both : (a b : Bool) → (a && b) ≡ true → (a ≡ true) × (b ≡ true)
-both true b h = (refl, h)
-both false b h = absurd (cc)
-
 absent : (ks : List Key) (k : Key) (ms : Members) → is_one_of ks k ≡ false → has_only ks ms ≡ true → get_member k ms ≡ None
 absent ks k no_members other only = refl
 absent ks k (member l d ms) other only =
-    let parts = both (is_one_of ks l) (has_only ks ms) only in
+    let parts = and_true (is_one_of ks l) (has_only ks ms) only in
     let apart : is_eq (slice_cmp nat_cmp k l) ≡ false = is_eq-slice_cmp k l ∙ differ ks k l (bytes_eq k l) other parts.0 refl in
     skipped (slice_cmp nat_cmp k l) (get_member k ms) d apart ∙ absent ks k ms other parts.1
 

@@ -17,6 +17,7 @@ use Rattle.aud_event.specs.declared.fact.FactFault.{FactFault}
 use Rattle.aud_event.specs.declared.fact.FactFault.TheVariants.{LogRange, AtRange, StampRange, TxRange}
 use Rattle.aud_text.specs.FactText.{object_number}
 use Rattle.aud_text.specs.Written.{object_name}
+use Rattle.aud_event.proofs.Bools.{unnegated, and_true}
 
 -- ---- the plan
 
@@ -29,10 +30,6 @@ passed : {E : Type 0} (b : Bool) (x : E) (y : Option E) → cond b (Some x) y �
 passed true x y e = absurd (cc)
 passed false x y e = (refl, e)
 
-held : (b : Bool) → not b ≡ false → b ≡ true
-held true e = refl
-held false e = absurd (cc)
-
 pub sound : (plan : PlanOf) → first_plan_fault plan.logs plan.objects ≡ None → IsSound plan
 sound plan e =
     let a = passed (nat_eq plan.logs 0) NoLogs _ e in
@@ -41,23 +38,19 @@ sound plan e =
     let d = passed (not (names_differ plan.objects)) NameTwice _ c.1 in
     let f = passed (not (list_all is_opening plan.objects)) OpeningRange _ d.1 in
     let g = passed (not (list_all (λ x. is_name x.name) plan.objects)) BadName _ f.1 in
-    record { few = grind (arith, b.0); differ = held (names_differ plan.objects) d.0; named = held (list_all (λ x. is_name x.name) plan.objects) g.0 }
-
-pub both : (a b : Bool) → (a && b) ≡ true → (a ≡ true) × (b ≡ true)
-both true b h = (refl, h)
-both false b h = absurd (cc)
+    record { few = grind (arith, b.0); differ = unnegated (names_differ plan.objects) d.0; named = unnegated (list_all (λ x. is_name x.name) plan.objects) g.0 }
 
 -- an object's name is short
 pub named_at : (ds : List Declared) (i : ℕ) (d : Declared) → list_all (λ x. is_name x.name) ds ≡ true → slice_get ds i ≡ Some d → is_name d.name ≡ true
 named_at [] i d h there = absurd (cc)
 named_at (x ∷ xs) zero d h there =
-    let same : x ≡ d = cc in subst (λ y. is_name y.name ≡ true) same (both (is_name x.name) (list_all (λ y. is_name y.name) xs) h).0
-named_at (x ∷ xs) (suc i) d h there = named_at xs i d (both (is_name x.name) (list_all (λ y. is_name y.name) xs) h).1 there
+    let same : x ≡ d = cc in subst (λ y. is_name y.name ≡ true) same (and_true (is_name x.name) (list_all (λ y. is_name y.name) xs) h).0
+named_at (x ∷ xs) (suc i) d h there = named_at xs i d (and_true (is_name x.name) (list_all (λ y. is_name y.name) xs) h).1 there
 
 name_short : (name : List ℕ) → is_name name ≡ true → length name ≤ 32
 name_short name h =
-    let a = both (nat_le 1 (length name) && nat_le (length name) 32) (list_all is_name_byte name) h in
-    let b = both (nat_le 1 (length name)) (nat_le (length name) 32) a.0 in
+    let a = and_true (nat_le 1 (length name) && nat_le (length name) 32) (list_all is_name_byte name) h in
+    let b = and_true (nat_le 1 (length name)) (nat_le (length name) 32) a.0 in
     grind (arith, b.1)
 
 -- ---- the object of an event

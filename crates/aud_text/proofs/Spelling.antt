@@ -43,7 +43,8 @@ use Rattle.aud_text.specs.FactText.{fact_read}
 use Rattle.aud_text.specs.Spelled.{place_text, log_text, use_text, tail_text, answer_text, called_text, invoked_text, record_text, spelled_text}
 use Rattle.aud_text.specs.Written.{data_of, record_members, end_members, object_name, argument_of, whole_data, answer_data, headed, tailed, operated, with_argument, AnswerFits, EventFits, FactFits}
 use Rattle.aud_text.proofs.Back.{written_reads}
-use Rattle.aud_text.proofs.Sound.{IsSound, sound, named_at, both, RecordInRange, EndInRange, record_in_range, end_in_range}
+use Rattle.aud_text.proofs.Sound.{IsSound, sound, named_at, RecordInRange, EndInRange, record_in_range, end_in_range}
+use Rattle.aud_event.proofs.Bools.{and_true}
 
 -- ---- names and words are not escaped
 
@@ -53,12 +54,12 @@ name_byte b h = (λ e. grind (arith, h, e), λ e. grind (arith, h, e), grind (ar
 plain_bytes : (s : List ℕ) → list_all is_name_byte s ≡ true → escape s ≡ s
 plain_bytes [] h = refl
 plain_bytes (b ∷ bs) h =
-    let parts = both (is_name_byte b) (list_all is_name_byte bs) h in
+    let parts = and_true (is_name_byte b) (list_all is_name_byte bs) h in
     let byte = name_byte b parts.0 in
     rw (escape_byte_plain b byte.0 byte.1 byte.2, plain_bytes bs parts.1) refl
 
 plain_name : (n : List ℕ) → is_name n ≡ true → escape n ≡ n
-plain_name n h = plain_bytes n (both (nat_le 1 (length n) && nat_le (length n) 32) (list_all is_name_byte n) h).1
+plain_name n h = plain_bytes n (and_true (nat_le 1 (length n) && nat_le (length n) 32) (list_all is_name_byte n) h).1
 
 plain_object : (plan : PlanOf) (ob : ℕ) → IsSound plan → escape (object_name plan ob) ≡ object_name plan ob
 plain_object plan ob s = by_get (slice_get plan.objects ob) refl

@@ -11,7 +11,8 @@ use Rattle.aud_text.specs.declared.fault.TextFault.{TextFault}
 use Rattle.aud_text.specs.declared.fault.TextFault.TheVariants as fault
 use Rattle.aud_text.specs.declared.word.WordRead.TheVariants.{Decided, TooGreat, Unknown}
 use Rattle.aud_text.specs.Orders.{word_read, ended_read, id_read, is_plain, all_digits, with_word, decision_text, fate_letter}
-use Rattle.aud_text.proofs.Digits.{both, one_digit}
+use Rattle.aud_text.proofs.Digits.{one_digit}
+use Rattle.aud_event.proofs.Bools.{and_true}
 
 -- ---- one word
 
@@ -68,16 +69,16 @@ own = record { to = λ ds h. h; from = λ ds h. h; same = λ ds h. refl }
 passing_digits : (ds : List ℕ) → all_digits ds ≡ true → AllDigits 10 ds
 passing_digits [] h = tt
 passing_digits (c ∷ cs) h =
-    let b = both (nat_le 48 c && nat_le c 57) (all_digits cs) h in
+    let b = and_true (nat_le 48 c && nat_le c 57) (all_digits cs) h in
     let d = one_digit c b.0 in
-    let t = both (nat_le 48 c) (nat_le c 57) b.0 in
+    let t = and_true (nat_le 48 c) (nat_le c 57) b.0 in
     let high : c ≤ 57 = grind (arith, t.1) in
     (omega (arith, d), passing_digits cs b.1)
 
 pub plain_decimal : (ds : List ℕ) → is_plain ds ≡ true → digits_value 10 ds < 1024 → decimal (digits_value 10 ds) ≡ ds
 plain_decimal ds h v =
-    let a = both (not (length ds == 0)) (all_digits ds && ((length ds == 1) || not (slice_index ds 0 == 48))) h in
-    let b = both (all_digits ds) ((length ds == 1) || not (slice_index ds 0 == 48)) a.1 in
+    let a = and_true (not (length ds == 0)) (all_digits ds && ((length ds == 1) || not (slice_index ds 0 == 48))) h in
+    let b = and_true (all_digits ds) ((length ds == 1) || not (slice_index ds 0 == 48)) a.1 in
     decimal-digits_value own ds (passing_digits ds b.0) (some (length ds) a.0) (λ e. lead (length ds) (get_or ds 0 0) b.1 e) (omega arith)
   where
     some : (n : ℕ) → not (n == 0) ≡ true → 0 < n

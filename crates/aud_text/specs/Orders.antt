@@ -1,5 +1,5 @@
 -- The text of a list of decisions.
-use Rattle.std.specs.Prelude.{ℕ, ◌-◌, ◌==◌, ◌&&◌, ◌||◌, List, [], ◌∷◌, ◌++◌, map, Bool, not, Option, Some, None, Result, Ok, Err, nat_lt, nat_le, if◌then◌else◌, length, take, slice_index, codes, bytes_eq, decimal}
+use Rattle.std.specs.Prelude.{ℕ, ◌-◌, ◌==◌, ◌&&◌, ◌||◌, List, [], ◌∷◌, ◌++◌, map, Bool, not, Option, Some, None, Result, Ok, Err, nat_lt, nat_le, if◌then◌else◌, length, take, slice_index, codes, bytes_eq, decimal, ◌≡◌, ◌<◌, ◌≤◌, All}
 use Rattle.std.specs.List.{list_all, slice_split, join_with_byte}
 use Rattle.std.specs.Str.Parse.{digits_value}
 use Rattle.aud_event.specs.Limits.{transactions}
@@ -70,3 +70,7 @@ order_read text =
 abbrev pub order_text : List Decision → List ℕ
 order_text [] = codes "none"
 order_text (d ∷ ds) = join_with_byte 32 (map decision_text (d ∷ ds))
+
+-- the text reads as the decisions, where their ids and the text are within the limits
+abbrev pub ReadsBackAs : List Decision → List ℕ → Type 0
+ReadsBackAs ds text = All (λ d. d.tx < transactions) ds → length text ≤ 32768 → order_read text ≡ Ok ds

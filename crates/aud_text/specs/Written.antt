@@ -1,5 +1,5 @@
 -- The line that is written for a fact.
-use Rattle.std.specs.Prelude.{ℕ, ℤ, List, [], Option, Some, None, IfSome, codes, unwrap_or, option_map, slice_get, FitsSigned}
+use Rattle.std.specs.Prelude.{ℕ, ℤ, List, [], Option, Some, None, IfSome, codes, unwrap_or, option_map, slice_get, FitsSigned, ◌≡◌}
 use Rattle.std.specs.Int.{w64}
 use Rattle.serde_json.specs.Data.{Data, boolean, number, unsigned, string, object, Members, no_members, member}
 use Rattle.serde_json.specs.Find.{of_integer}
@@ -17,6 +17,8 @@ use Rattle.aud_event.specs.declared.fact.EndMark.{EndMark}
 use Rattle.aud_event.specs.declared.fact.Record.{Record}
 use Rattle.aud_event.specs.declared.fact.Fact.{Fact}
 use Rattle.aud_event.specs.declared.fact.Fact.TheVariants.{Rec, End}
+use Rattle.aud_event.specs.Plans.{first_plan_fault}
+use Rattle.aud_event.specs.Facts.{first_fact_fault}
 
 abbrev pub whole_data : ℤ → Data
 whole_data z = number (of_integer z)
@@ -101,3 +103,9 @@ EventFits event.Abort = Unit {0}
 abbrev pub FactFits : Fact → Type 0
 FactFits (End m) = Unit {0}
 FactFits (Rec r) = EventFits r.event
+
+-- the plan is one, and the fact one of it
+pub record IsFactOf (plan : PlanOf) (f : Fact) : Type 0 where
+  pub plan_is : first_plan_fault plan.logs plan.objects ≡ None
+  pub fits : FactFits f
+  pub taken : first_fact_fault plan f ≡ None

@@ -3,7 +3,7 @@
 ghost use Rattle.std.specs.Prelude.{◌≡◌, ◌<◌, ◌≤◌, ◌==◌, ◌++◌, ◌∷◌, ◌⊎◌, ℕ, List, Ok, Err, All, length, position, IfOk, OnOk, IfSome, MatchResult, option_map, flat_map};
 ghost use Rattle.aud_event.specs.declared.limits.TheConstants.{TRANSACTIONS};
 ghost use Rattle.aud_witness.specs.declared.decision.Decision.{Decision as DecisionOf};
-ghost use Rattle.aud_text.specs.Orders.{words_of, words_left, words_read, order_read, order_text, decision_text, fate_letter};
+ghost use Rattle.aud_text.specs.Orders.{words_of, words_left, words_read, order_read, order_text, decision_text, fate_letter, ReadsBackAs};
 
 use crate::fault::TextFault;
 use crate::word::{WordRead, read_word};
@@ -123,7 +123,7 @@ pub fn write_order<A: Allocator + Drop, B: Allocator>(
     order: &Prefix<B>,
 ) -> Result<Vec<u8, A>, OutOfMemory>
     ensures spelled { IfOk result (λ text. text.items ≡ order_text order.now) }
-    ensures reads_back { IfOk result (λ text. All (λ d. d.tx < TRANSACTIONS) order.now → length text.items ≤ ORDER_MAX → order_read text.items ≡ Ok order.now) }
+    ensures reads_back { IfOk result (λ text. ReadsBackAs order.now text.items) }
 {
     let mut text = Vec::new(alloc);
     let Some((first, rest)) = order.decisions().split_first() else {
@@ -137,7 +137,7 @@ pub fn write_order<A: Allocator + Drop, B: Allocator>(
 
 /// What is written of decisions reads as them, where their ids and the text are within the limits.
 pub fn orders_read_back()
-    ensures { (ds : List DecisionOf) → All (λ d. d.tx < TRANSACTIONS) ds → length (order_text ds) ≤ ORDER_MAX → order_read (order_text ds) ≡ Ok ds }
+    ensures { (ds : List DecisionOf) → ReadsBackAs ds (order_text ds) }
 {}
 
 /// No other text reads as the decisions.

@@ -10,7 +10,7 @@ ghost use Rattle.aud_event.specs.Meanings.{PlanOf};
 ghost use Rattle.aud_event.specs.Plans.{first_plan_fault};
 ghost use Rattle.aud_event.specs.Facts.{first_fact_fault};
 ghost use Rattle.aud_text.specs.FactText.{fact_read, judged};
-ghost use Rattle.aud_text.specs.Written.{data_of, answer_data, argument_of, object_name, small_data, headed, tailed, operated, record_members, end_members, AnswerFits, EventFits, FactFits};
+ghost use Rattle.aud_text.specs.Written.{data_of, answer_data, argument_of, object_name, small_data, headed, tailed, operated, record_members, end_members, AnswerFits, EventFits, FactFits, IsFactOf};
 
 use aud_event::{Answer, EndMark, Event, Fact, Op, OpName, OutOfMemory, Plan, Record};
 use serde_json::{Map, Value};
@@ -192,8 +192,6 @@ pub fn write_fact<A: Allocator>(
 
 /// The value that is written of a fact is judged as that fact, and its text fits a line, whatever the plan.
 pub fn facts_read_back()
-    ensures judged { (plan : PlanOf) (f : FactOf) → first_plan_fault plan.logs plan.objects ≡ None → FactFits f → first_fact_fault plan f ≡ None
-        → judged plan (data_of plan f) ≡ Ok f }
-    ensures short { (plan : PlanOf) (f : FactOf) → first_plan_fault plan.logs plan.objects ≡ None → FactFits f → first_fact_fault plan f ≡ None
-        → length (compact_text (data_of plan f)) ≤ 4096 }
+    ensures judged { (plan : PlanOf) (f : FactOf) → IsFactOf plan f → judged plan (data_of plan f) ≡ Ok f }
+    ensures short { (plan : PlanOf) (f : FactOf) → IsFactOf plan f → length (compact_text (data_of plan f)) ≤ 4096 }
 {}

@@ -10,10 +10,10 @@ use Rattle.aud_witness.specs.Orders.{is_allowed, block, is_kept, is_named, are_n
 use Rattle.aud_witness.specs.Sameness.{without}
 use Rattle.aud_event.proofs.Bools.{or_false, and_true, true_and, not_true, not_false, split, nat_eq-is, nat_eq-sym}
 use Rattle.aud_witness.proofs.Beginnings.{is_named-append, new_at, new_behind, named_at, visible_at}
-use Rattle.aud_witness.proofs.Good.{append_nil}
 use Rattle.aud_witness.proofs.Selected.{differ}
 use Rattle.aud_witness.proofs.FromLetter.{is_in-completed}
 use Rattle.aud_witness.proofs.Interleavings.{is_allowed-same, block-same}
+use Rattle.std.proofs.lemmas.List.{append-nil}
 
 -- the last of the kept blocks, if there is one
 record HasLast (h : History) (p : List Decision) : Type 0 where
@@ -34,7 +34,7 @@ last_kept h (x ∷ p) =
               last = x;
               rest = p;
               whole = refl;
-              kept_is = ap (λ k. cond k (block h x ++ kept h p) (kept h p)) keep ∙ ap (λ l. block h x ++ l) none ∙ append_nil (block h x);
+              kept_is = ap (λ k. cond k (block h x ++ kept h p) (kept h p)) keep ∙ ap (λ l. block h x ++ l) none ∙ append-nil (block h x);
             })
             | inr k ↦ inr (record {
               front = x ∷ k.front;

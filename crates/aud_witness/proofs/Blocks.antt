@@ -10,9 +10,10 @@ use Rattle.aud_witness.specs.Letter.{seen_by}
 use Rattle.aud_event.proofs.Bools.{or_true, or_false, true_and, true_or, or_right, not_false, split, nat_eq-refl, nat_eq-is, nat_eq-sym}
 use Rattle.aud_history.proofs.Events.{events_of-append}
 use Rattle.aud_witness.proofs.Beginnings.{is_named-append, new_at, new_behind, named_at, first_is_named}
-use Rattle.aud_witness.proofs.Good.{append_nil, place_of}
+use Rattle.aud_witness.proofs.Good.{place_of}
 use Rattle.aud_history.proofs.ByPlaces.{from_first-append}
 use Rattle.aud_witness.proofs.Selected.{picked-block, differ}
+use Rattle.std.proofs.lemmas.List.{append-nil}
 
 -- of each element
 abbrev pub Each : {X : Type 0} → (X → Type 0) → List X → Type 0
@@ -82,7 +83,7 @@ events_of-block f a d b once =
     ∙ events_of-append d.tx (map (λ e. (d.tx, e)) (f d)) (joined_by f b)
     ∙ ap (λ l. l ++ events_of d.tx (joined_by f b)) (events_of-own d.tx (f d))
     ∙ ap (λ l. f d ++ l) (events_of-unnamed f b d.tx (new_behind a d b once))
-    ∙ append_nil (f d)
+    ∙ append-nil (f d)
 
 -- a transaction is in H exactly if it has events there
 pub is_in-events_of : (h : History) (t : ℕ) → is_in h t ≡ is_filled (events_of t h)
@@ -178,7 +179,7 @@ picked_by-none f g (d ∷ p) none = ap (λ k. cond k (f d ++ picked_by f g p) (p
 picked_by-place : (f : Decision → List Event) (g : ℕ → Bool) (a : List Decision) (d : Decision) (b : List Decision) →
     Each (λ x. g x.tx ≡ is_kept x) a → g d.tx ≡ true → Each (λ x. g x.tx ≡ false) b → picked_by f g (a ++ d ∷ b) ≡ kept_by f a ++ f d
 picked_by-place f g [] d b front at behind =
-    ap (λ k. cond k (f d ++ picked_by f g b) (picked_by f g b)) at ∙ ap (λ l. f d ++ l) (picked_by-none f g b behind) ∙ append_nil (f d)
+    ap (λ k. cond k (f d ++ picked_by f g b) (picked_by f g b)) at ∙ ap (λ l. f d ++ l) (picked_by-none f g b behind) ∙ append-nil (f d)
 picked_by-place f g (x ∷ a) d b front at behind =
     ap (λ k. cond k (f x ++ picked_by f g (a ++ d ∷ b)) (picked_by f g (a ++ d ∷ b))) front.0
     ∙ ap (λ l. cond (is_kept x) (f x ++ l) l) (picked_by-place f g a d b front.1 at behind)

@@ -17,7 +17,7 @@ use Rattle.aud_history.specs.declared.status.Status.{Status}
 use Rattle.aud_history.specs.declared.status.Status.TheVariants.{Committed, Aborted, CommitPending, Live}
 use Rattle.aud_history.specs.Histories.{History, events_of, is_in, is_commit, is_abort, is_try_commit, is_committed, is_aborted, is_completed, is_live, is_commit_pending, is_before}
 use Rattle.aud_history.specs.WellFormed.{IsWellFormed}
-use Rattle.aud_history.specs.Table.{RowOf, transactions, status_of, block_of, first_stamp, last_stamp, row_of, table_of}
+use Rattle.aud_history.specs.Table.{RowOf, transactions, tx_status, block_of, first_stamp, last_stamp, row_of, table_of}
 use Rattle.aud_history.proofs.Ends.{not_both}
 use Rattle.aud_history.proofs.Tables.{any-transactions}
 use Rattle.aud_history.proofs.RowLaws.{is_before-by_stamps}
@@ -46,7 +46,7 @@ named-at f (t ∷ ts) (suc k) d inside = named-at f ts k d (omega arith)
 
 -- # Statuses
 
-pub ended-status : (es : List Event) → is_ended (status_of es) ≡ (list_any is_commit es || list_any is_abort es)
+pub ended-status : (es : List Event) → is_ended (tx_status es) ≡ (list_any is_commit es || list_any is_abort es)
 ended-status es =
     elim (list_any is_commit es) as (λ c. is_ended (if c then Committed else (if list_any is_abort es then Aborted else (if list_any is_try_commit es then CommitPending else Live))) ≡ (c || list_any is_abort es)) [
       | true ↦ refl
@@ -80,7 +80,7 @@ allowed-by : (h : History) (t : ℕ) (fate : Fate) → is_allowed h t fate ≡ a
 allowed-by h t C = refl
 allowed-by h t A = refl
 
-pub status-allowed : (h : History) (t : ℕ) (fate : Fate) → IsWellFormed h → status_allows (status_of (events_of t h)) fate ≡ is_allowed h t fate
+pub status-allowed : (h : History) (t : ℕ) (fate : Fate) → IsWellFormed h → status_allows (tx_status (events_of t h)) fate ≡ is_allowed h t fate
 status-allowed h t fate fine =
     allows-by (is_committed h t) (is_aborted h t) (list_any is_try_commit (events_of t h)) fate (λ aborts. not_both (events_of t h) (fine t) aborts)
     ∙ sym (allowed-by h t fate)
@@ -93,7 +93,7 @@ earlier-rows : (h : History) (f : ℕ → Bool) (u : ℕ) (ts : List ℕ) → is
 earlier-rows h f u [] there each = refl
 earlier-rows h f u (t ∷ ts) there each =
     let in_h : is_in h t ≡ true = each t (true_or (nat_eq t t) (list_any (nat_eq t) ts) (nat_eq-refl t)) in
-    let late : (is_ended (status_of (events_of t h)) && nat_lt (last_stamp h t) (first_stamp h u)) ≡ is_before h t u =
+    let late : (is_ended (tx_status (events_of t h)) && nat_lt (last_stamp h t) (first_stamp h u)) ≡ is_before h t u =
     ap (λ k. k && nat_lt (last_stamp h t) (first_stamp h u)) (ended-status (events_of t h))
     ∙ sym (is_before-by_stamps h t u in_h ∙ ap (λ k. is_completed h t && k && nat_lt (last_stamp h t) (first_stamp h u)) there ∙ ap (λ k. k && nat_lt (last_stamp h t) (first_stamp h u)) (and_nothing (is_completed h t))) in
     ap (λ k. (not k || f t) && are_earlier_placed (map (row_of h) ts) (map f ts) (first_stamp h u)) late

@@ -28,7 +28,7 @@ use Rattle.aud_history.specs.Histories.{History, events_of, is_in, is_commit, is
 use Rattle.aud_history.specs.WellFormed.{IsWellFormed}
 use Rattle.aud_history.specs.ByState.{is_match, Passes}
 use Rattle.aud_history.specs.FirstFault.{FitsPlan}
-use Rattle.aud_history.specs.Table.{RowOf, transactions, status_of, block_of, first_stamp, row_of, table_of}
+use Rattle.aud_history.specs.Table.{RowOf, transactions, tx_status, block_of, first_stamp, row_of, table_of}
 use Rattle.aud_history.proofs.StateTable.{Passes-from_IsTransaction, matched_passes, matched}
 use Rattle.aud_history.proofs.Tables.{any-transactions, are_different, different-transactions}
 use Rattle.aud_history.proofs.RowLaws.{on_object-block_of, off_objects-tried, off_objects-given_up, nothing_else}
@@ -162,7 +162,7 @@ executions-append : {a b : List Event} → AreExecutions a → AreExecutions b �
 executions-append no_execution more = more
 executions-append (execution are) more = execution (executions-append are more)
 
-asked-from_allowed : (h : History) (t : ℕ) → is_allowed h t C ≡ true → (list_any is_commit (events_of t h) || list_any is_try_commit (events_of t h)) ≡ true
+pub asked-from_allowed : (h : History) (t : ℕ) → is_allowed h t C ≡ true → (list_any is_commit (events_of t h) || list_any is_try_commit (events_of t h)) ≡ true
 asked-from_allowed h t allowed =
     elim (or_true (is_committed h t) (is_commit_pending h t) allowed) [
       | inl commits ↦ true_or (is_committed h t) (list_any is_try_commit (events_of t h)) commits
@@ -216,7 +216,7 @@ Stands-root objects h = record {
   legal = λ ob s at. tt;
 }
 
-lt-any : (q : ℕ → Bool) (ts : List ℕ) → nat_lt (position_or_len q ts) (length ts) ≡ list_any q ts
+pub lt-any : (q : ℕ → Bool) (ts : List ℕ) → nat_lt (position_or_len q ts) (length ts) ≡ list_any q ts
 lt-any q [] = grind (arith, nat_tests)
 lt-any q (t ∷ ts) =
     elim (q t) as (λ k. nat_lt (cond (not k) (1 + position_or_len q ts) 0) (suc (length ts)) ≡ (k || list_any q ts)) [
@@ -224,14 +224,14 @@ lt-any q (t ∷ ts) =
       | false ↦ (let down : nat_lt (1 + position_or_len q ts) (suc (length ts)) ≡ nat_lt (position_or_len q ts) (length ts) = grind (arith, nat_tests) in down) ∙ lt-any q ts
     ]
 
-absent-from_position : (q : ℕ → Bool) (ts : List ℕ) → position q ts ≡ None → list_any q ts ≡ false
+pub absent-from_position : (q : ℕ → Bool) (ts : List ℕ) → position q ts ≡ None → list_any q ts ≡ false
 absent-from_position q ts none = sym (lt-any q ts) ∙ by_test (nat_lt (position_or_len q ts) (length ts)) none
   where
     by_test : (k : Bool) → cond k (Some (position_or_len q ts)) None ≡ None → k ≡ false
     by_test true e = cc
     by_test false e = refl
 
-any-at : (u : ℕ) (ts : List ℕ) (k : ℕ) (d : ℕ) → k < length ts → nat_eq u (get_or ts k d) ≡ true → list_any (nat_eq u) ts ≡ true
+pub any-at : (u : ℕ) (ts : List ℕ) (k : ℕ) (d : ℕ) → k < length ts → nat_eq u (get_or ts k d) ≡ true → list_any (nat_eq u) ts ≡ true
 any-at u [] k d inside same = absurd (omega arith)
 any-at u (t ∷ ts) zero d inside same = true_or (nat_eq u t) (list_any (nat_eq u) ts) same
 any-at u (t ∷ ts) (suc k) d inside same = or_right (nat_eq u t) (list_any (nat_eq u) ts) (any-at u ts k d (omega arith) same)
@@ -377,7 +377,7 @@ told-row objects h p s d k d0 fine fit stands inside at there =
     at_row : slice_index_or s.placed k false ≡ is_named p d.tx
     at_row = ap (λ l. get_or l k false) stands.placed ∙ named-at (is_named p) (transactions h) k d0 inside ∙ ap (is_named p) at
 
-    by_status : status_allows (status_of (events_of d.tx h)) d.fate ≡ is_allowed h d.tx d.fate
+    by_status : status_allows (tx_status (events_of d.tx h)) d.fate ≡ is_allowed h d.tx d.fate
     by_status = status-allowed h d.tx d.fate fine
 
     by_time : are_earlier_placed (table_of h) s.placed (first_stamp h d.tx) ≡ is_enabled h p d.tx

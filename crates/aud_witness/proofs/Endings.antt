@@ -18,11 +18,11 @@ use Rattle.aud_history.specs.WellFormed.{IsEnding, invocation_aborted, aborted_b
 use Rattle.aud_history.specs.ByState.{Passes, is_match}
 use Rattle.aud_witness.specs.Orders.{is_allowed, live_ending, block, is_kept}
 use Rattle.aud_history.specs.Completions.{is_completing}
-use Rattle.aud_event.proofs.Bools.{or_true, or_false, and_true, not_true, split}
+use Rattle.aud_event.proofs.Bools.{or_true, or_false, and_true, not_true, split, unnegated}
 use Rattle.aud_history.proofs.StateTable.{matched_passes, matched, Passes-from_IsTransaction}
-use Rattle.aud_witness.proofs.Good.{append_nil}
 use Rattle.aud_object.proofs.Replays.{on_object-append}
 use Rattle.aud_history.proofs.Ends.{has_end, not_both, has_end-whole}
+use Rattle.std.proofs.lemmas.List.{append-nil}
 
 abbrev pub keeps : Fate → Bool
 keeps fate = elim fate [ C ↦ true | A ↦ false ]
@@ -104,7 +104,7 @@ pub record IsGoodBlock (h : History) (d : Decision) : Type 0 where
   pub commits : list_any is_commit (block h d) ≡ is_kept d
 
 IsTransaction-from_whole : (es : List Event) → IsWhole es → IsTransaction es
-IsTransaction-from_whole es k = ([], subst (λ l. IsWhole l) (sym (append_nil es)) k)
+IsTransaction-from_whole es k = ([], subst (λ l. IsWhole l) (sym (append-nil es)) k)
 
 live_block : (h : History) (t : ℕ) (fate : Fate) → IsWellFormed h → is_allowed h t fate ≡ true → is_live h t ≡ true → IsEnded (events_of t h) fate
 live_block h t C well allowed live =
@@ -129,10 +129,6 @@ completed_fate h t A well allowed ended =
       | inr live ↦ absurd (cc)
     ]
 
-not_live : (k : Bool) → not k ≡ false → k ≡ true
-not_live true e = refl
-not_live false e = sym e
-
 pub IsGoodBlock-from_allowed : (h : History) (d : Decision) → IsWellFormed h → is_allowed h d.tx d.fate ≡ true → IsGoodBlock h d
 IsGoodBlock-from_allowed h d well allowed =
     let es : List Event = events_of d.tx h in
@@ -146,10 +142,10 @@ IsGoodBlock-from_allowed h d well allowed =
             commits = ap (list_any is_commit) e ∙ k.commits;
           }
       | inr ended ↦
-          let e : block h d ≡ es = ap (λ k. es ++ cond k (live_ending es d.fate) []) ended ∙ append_nil es in
+          let e : block h d ≡ es = ap (λ k. es ++ cond k (live_ending es d.fate) []) ended ∙ append-nil es in
           record {
             is_transaction = subst (λ l. IsTransaction l) (sym e) (well d.tx);
-            ended = ap has_end e ∙ not_live (is_completed h d.tx) ended;
+            ended = ap has_end e ∙ unnegated (is_completed h d.tx) ended;
             commits = ap (list_any is_commit) e ∙ completed_fate h d.tx d.fate well allowed ended;
           }
     ]
@@ -193,4 +189,4 @@ pub on_object-block : (ob : ℕ) (h : History) (d : Decision) → on_object ob (
 on_object-block ob h d =
     on_object-append ob (events_of d.tx h) (tail_of h d)
     ∙ ap (λ l. on_object ob (events_of d.tx h) ++ l) (on_object-completing ob (tail_of h d) (AreCompleting-tail_of h d))
-    ∙ append_nil (on_object ob (events_of d.tx h))
+    ∙ append-nil (on_object ob (events_of d.tx h))

@@ -9,12 +9,13 @@ use Rattle.aud_history.specs.Histories.{History, is_in, is_before}
 use Rattle.aud_witness.specs.Orders.{is_allowed, block, kept, is_named, are_named_once, IsFull, Shows, IsGoodNext, IsGood}
 use Rattle.aud_witness.specs.Enumeration.{is_legal_from}
 use Rattle.aud_history.specs.Table.{transactions}
-use Rattle.aud_witness.specs.OrderFaults.{is_enabled, place_fault, least_of, missing_fault, fault_behind, first_order_fault}
-use Rattle.aud_event.proofs.Bools.{same_bools, or_true, or_false, true_and, true_or, or_right, not_false, is_false, nat_eq-refl, nat_eq-is}
+use Rattle.aud_witness.specs.OrderFaults.{is_enabled, place_fault, least_tx, missing_fault, fault_behind, first_order_fault}
+use Rattle.aud_event.proofs.Bools.{same_bools, or_true, or_false, true_and, true_or, or_right, not_false, is_false, nat_eq-refl, nat_eq-is, unnegated}
 use Rattle.aud_witness.proofs.Beginnings.{IsGood-from_Shows}
-use Rattle.aud_witness.proofs.Good.{append_nil, IsGood-empty, IsGood-push, place_of, Shows-from_IsGood}
+use Rattle.aud_witness.proofs.Good.{IsGood-empty, IsGood-push, place_of, Shows-from_IsGood}
 use Rattle.aud_witness.proofs.Tested.{before_in, implied, implies, all_of, each_in, each_named, IsLegal-from_test, test-from_IsLegal}
 use Rattle.aud_witness.proofs.Enumerated.{has, has-transactions}
+use Rattle.std.proofs.lemmas.List.{append-nil}
 
 none_if : (b : Bool) (fault : OrderFault) (r : Option OrderFault) → cond b (Some fault) r ≡ None → (b ≡ false) × (r ≡ None)
 none_if true fault r h = absurd (cc)
@@ -23,10 +24,6 @@ none_if false fault r h = (refl, h)
 if_none : (b : Bool) (fault : OrderFault) (r : Option OrderFault) → b ≡ false → r ≡ None → cond b (Some fault) r ≡ None
 if_none true fault r h k = absurd (cc)
 if_none false fault r h k = k
-
-not_not : (b : Bool) → not b ≡ false → b ≡ true
-not_not true h = refl
-not_not false h = sym h
 
 not_of : (b : Bool) → b ≡ true → not b ≡ false
 not_of true h = refl
@@ -52,11 +49,11 @@ IsGoodNext-from_no_fault objects h p d e =
     let k4 : (not (is_enabled h p d.tx) ≡ false) × (r5 ≡ None) = none_if (not (is_enabled h p d.tx)) (RealTime d.tx) r5 k3.1 in
     let k5 : (not legal ≡ false) × (◌≡◌ {A = Option OrderFault} None None) = none_if (not legal) (Illegal d.tx) None k4.1 in
     record {
-      in_history = not_not (is_in h d.tx) k1.0;
+      in_history = unnegated (is_in h d.tx) k1.0;
       new = k2.0;
-      allowed = not_not (is_allowed h d.tx d.fate) k3.0;
-      enabled = enabled-from_test h p d.tx (not_not (is_enabled h p d.tx) k4.0);
-      legal = IsLegal-from_test objects (kept h p ++ block h d) (not_not legal k5.0);
+      allowed = unnegated (is_allowed h d.tx d.fate) k3.0;
+      enabled = enabled-from_test h p d.tx (unnegated (is_enabled h p d.tx) k4.0);
+      legal = IsLegal-from_test objects (kept h p ++ block h d) (unnegated legal k5.0);
     }
 
 pub no_fault-from_IsGoodNext : (objects : List Declared) (h : History) (p : List Decision) (d : Decision) → IsGoodNext objects h p d → place_fault objects h p d ≡ None
@@ -88,10 +85,10 @@ once_at_places (x ∷ p) each =
     true_and (not (is_named p x.tx)) (are_named_once p) (not_false (is_named p x.tx) alone)
     (once_at_places p (λ before d rest e. (or_false (nat_eq x.tx d.tx) (is_named before d.tx) (each (x ∷ before) d rest (ap (λ l. x ∷ l) e))).1))
 
-none_least : (ts : List ℕ) → least_of ts ≡ None → ts ≡ []
+none_least : (ts : List ℕ) → least_tx ts ≡ None → ts ≡ []
 none_least [] h = refl
 none_least (t ∷ ts) h =
-    elim (least_of ts) as (λ r. (elim r as (λ (_ : Option ℕ). Option ℕ) [ None ↦ Some t | Some u ↦ cond (nat_lt t u) (Some t) (Some u) ]) ≡ None → t ∷ ts ≡ []) [
+    elim (least_tx ts) as (λ r. (elim r as (λ (_ : Option ℕ). Option ℕ) [ None ↦ Some t | Some u ↦ cond (nat_lt t u) (Some t) (Some u) ]) ≡ None → t ∷ ts ≡ []) [
       | None ↦ λ k. absurd (cc)
       | Some u ↦ λ k. elim (nat_lt t u) as (λ b. cond b (Some t) (Some u) ≡ None → t ∷ ts ≡ []) [ true ↦ λ l. absurd (cc) | false ↦ λ l. absurd (cc) ] k
     ] h
@@ -127,8 +124,8 @@ IsFull-from_IsGood objects h p good all = record {
 all_named : (h : History) (p : List Decision) → missing_fault h p ≡ None → (t : ℕ) → is_in h t ≡ true → is_named p t ≡ true
 all_named h p e t there =
     let left : List ℕ = filter (λ n. not (is_named p n)) (transactions h) in
-    let none : least_of left ≡ None =
-    elim (least_of left) as (λ r. (elim r as (λ (_ : Option ℕ). Option OrderFault) [ None ↦ None | Some n ↦ Some (Missing n) ]) ≡ None → r ≡ None) [
+    let none : least_tx left ≡ None =
+    elim (least_tx left) as (λ r. (elim r as (λ (_ : Option ℕ). Option OrderFault) [ None ↦ None | Some n ↦ Some (Missing n) ]) ≡ None → r ≡ None) [
       | None ↦ λ _. refl
       | Some n ↦ λ k. absurd (cc)
     ] e in
@@ -137,11 +134,11 @@ all_named h p e t there =
 missing-from_all : (h : History) (p : List Decision) → ((t : ℕ) → is_in h t ≡ true → is_named p t ≡ true) → missing_fault h p ≡ None
 missing-from_all h p all =
     let none : filter (λ n. not (is_named p n)) (transactions h) ≡ [] = filter_none (is_named p) (transactions h) (λ t n. all t (sym (has-transactions h t) ∙ n)) in
-    subst (λ l. (elim (least_of l) as (λ (_ : Option ℕ). Option OrderFault) [ None ↦ None | Some n ↦ Some (Missing n) ]) ≡ None) (sym none) refl
+    subst (λ l. (elim (least_tx l) as (λ (_ : Option ℕ). Option OrderFault) [ None ↦ None | Some n ↦ Some (Missing n) ]) ≡ None) (sym none) refl
 
 good_behind : (objects : List Declared) (h : History) (before rest : List Decision) → IsGood objects h before → fault_behind objects h before rest ≡ None →
     IsGood objects h (before ++ rest) × (missing_fault h (before ++ rest) ≡ None)
-good_behind objects h before [] good e = rw (append_nil before) (good, e)
+good_behind objects h before [] good e = rw (append-nil before) (good, e)
 good_behind objects h before (d ∷ rest) good e =
     elim (place_fault objects h before d) as (λ r. place_fault objects h before d ≡ r → (elim r as (λ (_ : Option OrderFault). Option OrderFault) [ Some fault ↦ Some fault | None ↦ fault_behind objects h (before ++ d ∷ []) rest ]) ≡ None → IsGood objects h (before ++ d ∷ rest) × (missing_fault h (before ++ d ∷ rest) ≡ None)) [
       | Some fault ↦ λ _ k. absurd (cc)
@@ -158,7 +155,7 @@ Shows-from_no_fault objects h p e =
 
 no_fault_behind : (objects : List Declared) (h : History) (before rest : List Decision) → Shows objects h (before ++ rest) → fault_behind objects h before rest ≡ None
 no_fault_behind objects h before [] s =
-    missing-from_all h before (λ t there. subst (λ l. is_named l t ≡ true) (append_nil before) (s.full.same t ∙ there))
+    missing-from_all h before (λ t there. subst (λ l. is_named l t ≡ true) (append-nil before) (s.full.same t ∙ there))
 no_fault_behind objects h before (d ∷ rest) s =
     let shown : Shows objects h ((before ++ d ∷ []) ++ rest) = subst (λ l. Shows objects h l) (sym (append_assoc before (d ∷ []) rest)) s in
     let next : IsGoodNext objects h before d = IsGood-from_Shows objects h (before ++ d ∷ []) rest shown before d [] refl in

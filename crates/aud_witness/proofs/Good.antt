@@ -8,10 +8,6 @@ use Rattle.aud_witness.specs.Orders.{is_named, stands_before, visible, IsFull, S
 use Rattle.aud_event.proofs.Bools.{or_true, and_true, true_and, true_or, or_right, split, nat_eq-refl, nat_eq-is}
 use Rattle.aud_witness.proofs.Beginnings.{is_named-append, visible_at}
 
-pub append_nil : {X : Type 0} (xs : List X) → xs ++ [] ≡ xs
-append_nil [] = refl
-append_nil (x ∷ xs) = ap (λ l. x ∷ l) (append_nil xs)
-
 not_empty : {X : Type 0} (xs : List X) (x : X) (ys : List X) → [] ≡ xs ++ x ∷ ys → ⊥
 not_empty [] x ys e = cc
 not_empty (y ∷ xs) x ys e = cc

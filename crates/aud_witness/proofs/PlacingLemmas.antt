@@ -121,7 +121,7 @@ earlier-by_end rows ends placed e stamp d are first same inside =
               subst (λ m. (slice_index_or ends j d).last ≤ (slice_index_or ends m d).last) same (omega arith)
         ]
 
-set_true-keeps : (placed : List Bool) (k i : ℕ) → get_or placed i false ≡ true → get_or (set placed k true) i false ≡ true
+pub set_true-keeps : (placed : List Bool) (k i : ℕ) → get_or placed i false ≡ true → get_or (set placed k true) i false ≡ true
 set_true-keeps [] k i h = h
 set_true-keeps (b ∷ bs) zero zero h = refl
 set_true-keeps (b ∷ bs) zero (suc i) h = h

@@ -8,13 +8,13 @@ use Rattle.aud_witness.specs.declared.decision.Decision.{Decision}
 use Rattle.aud_history.specs.Histories.{History, events_of, is_in, is_commit, is_committed, is_completed, is_before, from_first}
 use Rattle.aud_witness.specs.Orders.{is_kept, is_named, are_named_once}
 use Rattle.aud_witness.specs.Letter.{IsSequential}
-use Rattle.aud_event.proofs.Bools.{or_false, and_true, true_and, true_or, or_right, not_true, not_false, split, nat_eq-refl, nat_eq-is, nat_eq-sym}
+use Rattle.aud_event.proofs.Bools.{or_false, and_true, true_and, true_or, or_right, not_true, not_false, split, nat_eq-refl, nat_eq-is, nat_eq-sym, or_again}
 use Rattle.aud_history.proofs.Events.{events_of-append}
 use Rattle.aud_witness.proofs.Beginnings.{named_at}
-use Rattle.aud_witness.proofs.Good.{append_nil}
 use Rattle.aud_history.proofs.ByPlaces.{not_in_rest}
 use Rattle.aud_witness.proofs.Selected.{differ}
 use Rattle.aud_witness.proofs.Blocks.{Each, Each-from_places, is_filled, joined_by, IsOrder, events_of-own, events_of-other, is_in-events_of}
+use Rattle.std.proofs.lemmas.List.{append-nil}
 
 abbrev Runs : Type 0
 Runs = List (ℕ × List Event)
@@ -49,10 +49,6 @@ flat-add e (b ∷ bs) =
 flat-runs : (s : History) → flat (runs s) ≡ s
 flat-runs [] = refl
 flat-runs (e ∷ s) = flat-add e (runs s) ∙ ap (λ l. e ∷ l) (flat-runs s)
-
-or_again : (a b : Bool) → (a || b) ≡ (a || (a || b))
-or_again true b = refl
-or_again false b = refl
 
 is_named-add : (g : ℕ → Fate) (e : ℕ × Event) (bs : Runs) (t : ℕ) → is_named (in_order g (add e bs)) t ≡ (nat_eq e.0 t || is_named (in_order g bs) t)
 is_named-add g e [] t = refl
@@ -166,7 +162,7 @@ joined-flat s g (b ∷ bs) once agree =
     agree b.0 (true_or (nat_eq b.0 b.0) (is_named (in_order g bs) b.0) (nat_eq-refl b.0))
     ∙ events_of-append b.0 (map (λ e. (b.0, e)) b.1) (flat bs)
     ∙ ap (λ l. l ++ events_of b.0 (flat bs)) (events_of-own b.0 b.1)
-    ∙ ap (λ l. b.1 ++ l) (events_of-flat g bs b.0 alone) ∙ append_nil b.1 in
+    ∙ ap (λ l. b.1 ++ l) (events_of-flat g bs b.0 alone) ∙ append-nil b.1 in
     let tail : joined_by (λ d. events_of d.tx s) (in_order g bs) ≡ flat bs =
     joined-flat s g bs parts.1 (λ t there.
     agree t (or_right (nat_eq b.0 t) (is_named (in_order g bs) t) there)

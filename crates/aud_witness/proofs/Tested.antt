@@ -14,12 +14,7 @@ use Rattle.aud_object.specs.Objects.{on_object, ObjState, opening_of, answer_of,
 use Rattle.aud_witness.specs.Orders.{is_allowed, is_named, are_named_once, stands_before, visible, IsFull, Shows}
 use Rattle.aud_witness.specs.Enumeration.{is_same_bool, is_same_answer, is_in_seq, is_legal_from, is_full, keeps_real_time, shows}
 use Rattle.aud_event.proofs.Bools.{same_bools, or_true, and_true, true_and, true_or, or_right, nat_eq-refl, nat_eq-is}
-
-int_eq-is : (v w : ℤ) → int_eq v w ≡ true → v ≡ w
-int_eq-is v w h = grind (arith, nat_tests, Decides-int_eq)
-
-int_eq-refl : (v : ℤ) → int_eq v v ≡ true
-int_eq-refl v = grind (arith, nat_tests, Decides-int_eq)
+use Rattle.aud_object.proofs.Ints.{eq-is, eq-itself}
 
 is_same_bool-is : (a b : Bool) → is_same_bool a b ≡ true → a ≡ b
 is_same_bool-is true b h = sym h
@@ -36,7 +31,7 @@ is_same_answer-is Done (Int _) h = absurd (cc)
 is_same_answer-is Done (Flag _) h = absurd (cc)
 is_same_answer-is Done Empty h = absurd (cc)
 is_same_answer-is (Int v) Done h = absurd (cc)
-is_same_answer-is (Int v) (Int w) h = ap Int (int_eq-is v w h)
+is_same_answer-is (Int v) (Int w) h = ap Int (eq-is v w h)
 is_same_answer-is (Int v) (Flag _) h = absurd (cc)
 is_same_answer-is (Int v) Empty h = absurd (cc)
 is_same_answer-is (Flag a) Done h = absurd (cc)
@@ -50,7 +45,7 @@ is_same_answer-is Empty Empty h = refl
 
 is_same_answer-refl : (a : Answer) → is_same_answer a a ≡ true
 is_same_answer-refl Done = refl
-is_same_answer-refl (Int v) = int_eq-refl v
+is_same_answer-refl (Int v) = eq-itself v
 is_same_answer-refl (Flag a) = is_same_bool-refl a
 is_same_answer-refl Empty = refl
 

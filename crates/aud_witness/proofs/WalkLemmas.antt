@@ -2,7 +2,7 @@
 use Rattle.std.specs.Prelude.{◌≡◌, ◌↔◌, ℕ, suc, zero, ◌+◌, ◌<◌, ◌≤◌, Bool, true, false, not, ◌&&◌, if◌then◌else◌, nat_eq, List, [], ◌∷◌, ◌++◌, map, filter, length, take, drop, Option, Some, None, is_some, Result, Ok, Err, MatchResult, slice_index_or, refl}
 use Rattle.std.specs.List.{list_any, list_all}
 use Rattle.std.proofs.Common.{sym, ◌∙◌, ap, subst, cond, inl, inr, arith, get_or, append_assoc}
-use Rattle.std.proofs.lemmas.List.{take_more, take_all, drop_more, drop_all}
+use Rattle.std.proofs.lemmas.List.{take_more, take_all, drop_more, drop_all, append-nil}
 use Rattle.aud_event.specs.declared.fact.Event.{Event}
 use Rattle.aud_event.specs.Meanings.{Declared, PlanOf}
 use Rattle.aud_event.proofs.Bools.{and_true, true_and, or_true, or_right, true_or, nat_eq-is, nat_eq-refl}
@@ -15,12 +15,12 @@ use Rattle.aud_witness.specs.declared.decision.Decision.{Decision}
 use Rattle.aud_witness.specs.declared.fault.OrderFault.{OrderFault}
 use Rattle.aud_witness.specs.declared.fault.OrderFault.TheVariants.{Missing}
 use Rattle.aud_witness.specs.Orders.{is_named, Shows, IsFull, IsGood}
-use Rattle.aud_witness.specs.OrderFaults.{place_fault, least_of, missing_fault, fault_behind, first_order_fault}
+use Rattle.aud_witness.specs.OrderFaults.{place_fault, least_tx, missing_fault, fault_behind, first_order_fault}
 use Rattle.aud_witness.specs.Spots.{Spot, first_spot, stepped, unplaced}
 use Rattle.aud_witness.specs.Placings.{PlacingOf, Advances}
 use Rattle.aud_witness.specs.Walks.{walked, are_all_placed, WalksSay, WalksAreGood}
 use Rattle.aud_witness.proofs.Beginnings.{IsGood-from_Shows}
-use Rattle.aud_witness.proofs.Good.{append_nil, IsGood-empty, IsGood-push, Shows-from_IsGood}
+use Rattle.aud_witness.proofs.Good.{IsGood-empty, IsGood-push, Shows-from_IsGood}
 use Rattle.aud_witness.proofs.Faults.{IsGoodNext-from_no_fault, no_fault-from_IsGoodNext, IsFull-from_IsGood, Shows-from_no_fault, no_fault-from_Shows}
 use Rattle.aud_witness.proofs.BridgeSteps.{AllFit, fit-from_plan, Stands, Stands-root, Told, stepped-told}
 
@@ -38,7 +38,7 @@ pub walked-good : (objects : List Declared) (h : History) (p rest : List Decisio
     walked (table_of h) s rest ≡ Some t → IsGood objects h (p ++ rest) × Stands objects h (p ++ rest) t
 walked-good objects h p [] s t fine fits stands good led =
     let same : s ≡ t = cc in
-    subst (λ l. IsGood objects h l × Stands objects h l t) (sym (append_nil p)) (good, subst (λ u. Stands objects h p u) same stands)
+    subst (λ l. IsGood objects h l × Stands objects h l t) (sym (append-nil p)) (good, subst (λ u. Stands objects h p u) same stands)
 walked-good objects h p (d ∷ rest) s t fine fits stands good led =
     elim (stepped (table_of h) s d) as (λ (r : Result Spot OrderFault). Told objects h p d r → (elim r as (λ (_ : Result Spot OrderFault). Option Spot) [ Err _ ↦ None | Ok u ↦ walked (table_of h) u rest ]) ≡ Some t → IsGood objects h (p ++ d ∷ rest) × Stands objects h (p ++ d ∷ rest) t) [
       | Err fault ↦ λ told none. absurd (cc)
@@ -72,7 +72,7 @@ all-from f (x ∷ ts) each =
     true_and (f x) (list_all (λ b. b) (map f ts)) (each x (true_or (nat_eq x x) (list_any (nat_eq x) ts) (nat_eq-refl x)))
     (all-from f ts (λ t there. each t (or_right (nat_eq t x) (list_any (nat_eq t) ts) there)))
 
-some-from : {X : Type 0} (o : Option X) → is_some o ≡ true → (x : X) × (o ≡ Some x)
+pub some-from : {X : Type 0} (o : Option X) → is_some o ≡ true → (x : X) × (o ≡ Some x)
 some-from None none = absurd (cc)
 some-from (Some x) there = (x, refl)
 
@@ -96,7 +96,7 @@ walked-Shows objects h p t fine fits led all =
 Shows-walked : (objects : List Declared) (h : History) (p : List Decision) → IsWellFormed h → Fits objects h → Shows objects h p →
     (t : Spot) × ((walked (table_of h) (first_spot (table_of h) objects) p ≡ Some t) × (are_all_placed t ≡ true))
 Shows-walked objects h p fine fits shown =
-    let good : IsGood objects h p = IsGood-from_Shows objects h p [] (subst (λ l. Shows objects h l) (sym (append_nil p)) shown) in
+    let good : IsGood objects h p = IsGood-from_Shows objects h p [] (subst (λ l. Shows objects h l) (sym (append-nil p)) shown) in
     let (t, led) = root-walked objects h p fine fits good in
     let there = root-good objects h p t fine fits led in (
       t,
@@ -167,14 +167,14 @@ missing None = None
 missing (Some t) = Some (Missing t)
 
 pub Goes-out : (objects : List Declared) (h : History) (p : List Decision) (i : ℕ) (s : Spot) → length p ≤ i → Goes objects h p i s →
-    first_order_fault objects h p ≡ missing (least_of (unplaced (table_of h) s.placed))
+    first_order_fault objects h p ≡ missing (least_tx (unplaced (table_of h) s.placed))
 Goes-out objects h p i s past goes =
     let all : take i p ≡ p = take_all i p past in
     let none : drop i p ≡ [] = drop_all i p past in
     sym goes.fault
     ∙ (ap (fault_behind objects h (take i p)) none
-    ∙ (by_least (least_of (filter (λ t. not (is_named (take i p) t)) (transactions h)))
-    ∙ ap (λ l. missing (least_of l)) (sym (unplaced-are_unnamed h (is_named (take i p)) (transactions h)) ∙ ap (unplaced (table_of h)) (sym goes.stands.placed))))
+    ∙ (by_least (least_tx (filter (λ t. not (is_named (take i p) t)) (transactions h)))
+    ∙ ap (λ l. missing (least_tx l)) (sym (unplaced-are_unnamed h (is_named (take i p)) (transactions h)) ∙ ap (unplaced (table_of h)) (sym goes.stands.placed))))
   where
     by_least : (o : Option ℕ) → (elim o as (λ (_ : Option ℕ). Option OrderFault) [ None ↦ None | Some t ↦ Some (Missing t) ]) ≡ missing o
     by_least None = refl

@@ -26,13 +26,13 @@ place_fault objects h p d =
     else None))))
 
 -- the least of some transactions
-abbrev pub least_of : List ℕ → Option ℕ
-least_of [] = None
-least_of (t ∷ ts) = elim (least_of ts) [ None ↦ Some t | Some u ↦ if nat_lt t u then Some t else Some u ]
+abbrev pub least_tx : List ℕ → Option ℕ
+least_tx [] = None
+least_tx (t ∷ ts) = elim (least_tx ts) [ None ↦ Some t | Some u ↦ if nat_lt t u then Some t else Some u ]
 
 -- the least transaction of H that p does not name
 abbrev pub missing_fault : History → List Decision → Option OrderFault
-missing_fault h p = elim (least_of (filter (λ t. not (is_named p t)) (transactions h))) [ None ↦ None | Some t ↦ Some (Missing t) ]
+missing_fault h p = elim (least_tx (filter (λ t. not (is_named p t)) (transactions h))) [ None ↦ None | Some t ↦ Some (Missing t) ]
 
 -- the fault at the first wrong place of `rest` after `before`
 abbrev pub fault_behind : List Declared → History → List Decision → List Decision → Option OrderFault

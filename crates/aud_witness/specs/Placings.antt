@@ -1,5 +1,5 @@
 -- A cursor over lists of decisions: where it is, and the way back.
-use Rattle.std.specs.Prelude.{◌≡◌, ◌≢◌, ℕ, ◌<◌, ◌-◌, Bool, true, false, if◌then◌else◌, List, [], ◌∷◌, ◌++◌, length, take, Result, Ok, slice_set}
+use Rattle.std.specs.Prelude.{◌≡◌, ◌≢◌, ℕ, ◌<◌, ◌-◌, Bool, true, false, if◌then◌else◌, List, [], ◌∷◌, ◌++◌, length, take, Result, Ok, slice_set, MatchOption}
 use Rattle.aud_object.specs.Objects.{ObjState}
 use Rattle.aud_object.specs.Meanings.{StoreOf}
 use Rattle.aud_witness.specs.declared.decision.Fate.{Fate}
@@ -8,8 +8,11 @@ use Rattle.aud_witness.specs.declared.decision.Decision.{Decision}
 use Rattle.aud_witness.specs.declared.fault.OrderFault.{OrderFault}
 use Rattle.aud_witness.specs.declared.end.End.{End}
 use Rattle.aud_witness.specs.declared.step.Step.{Step}
-use Rattle.aud_witness.specs.Spots.{Spot}
+use Rattle.aud_witness.specs.Spots.{Spot, first_spot}
 use Rattle.aud_witness.specs.Agendas.{AgendaOf, IsEarliest}
+use Rattle.aud_object.specs.Blocks.{BlockOf}
+use Rattle.aud_object.specs.Replayed.{replayed}
+use Rattle.aud_event.specs.Meanings.{Declared}
 
 -- how contracts see a placing: its agenda, where it stands, the decisions that led there, and the spots before each, the last first
 pub record PlacingOf : Type 0 where
@@ -63,3 +66,11 @@ pub record GoesBack (old new : PlacingOf) : Type 0 where
   pub agenda : new.agenda ≡ old.agenda
   pub some : 0 < length old.path
   pub path : new.path ≡ take (length old.path - 1) old.path
+
+-- the block was tried, and stays if the fate is C; or some recorded answer is not the object's, and the store is as it was
+abbrev pub Tries : StoreOf → BlockOf → Fate → StoreOf → Bool → Type 0
+Tries old block fate new right = MatchOption (replayed old.now block) ((right ≡ false) × (new ≡ old)) (λ after. (right ≡ true) × (new ≡ store_with fate old after))
+
+-- before any decision
+abbrev pub first_placing : AgendaOf → List Declared → PlacingOf
+first_placing agenda objects = record { agenda = agenda; spot = first_spot agenda.rows objects; path = []; past = [] }

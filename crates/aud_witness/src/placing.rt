@@ -3,9 +3,9 @@
 ghost use Rattle.std.specs.Prelude.{◌≡◌, ◌≢◌, ◌<◌, ◌≤◌, ◌++◌, [], ◌∷◌, None, Some, Ok, Err, length, replicate, true, false, vec_len, vec_capacity, ℕ, IfOk, OnErr, MatchResult, MatchOption, slice_get, slice_index_or, nat_lt, if◌then◌else◌};
 ghost use Rattle.aud_history.specs.Table.{RowOf};
 ghost use Rattle.aud_object.specs.Replayed.{replayed};
-ghost use Rattle.aud_witness.specs.OrderFaults.{least_of};
+ghost use Rattle.aud_witness.specs.OrderFaults.{least_tx};
 ghost use Rattle.aud_witness.specs.Spots.{unplaced, first_spot, stepped, block_stepped, early_fault, are_earlier_placed};
-ghost use Rattle.aud_witness.specs.Placings.{is_kept_fate, store_with, Advances, GoesBack};
+ghost use Rattle.aud_witness.specs.Placings.{is_kept_fate, store_with, Advances, GoesBack, first_placing, Tries};
 ghost use Rattle.aud_witness.specs.declared.end.End.{End};
 ghost use Rattle.aud_witness.specs.Agendas.{IsEarliest, AreEnds};
 
@@ -66,7 +66,7 @@ fn try_block<A: Allocator + Copy>(
     block: &Block<A>,
     fate: Fate,
 ) -> Result<bool, OutOfMemory>
-    ensures right { IfOk result (λ right. MatchOption (replayed store.old.now block.now) ((right ≡ false) × (store.new ≡ store.old)) (λ after. (right ≡ true) × (store.new ≡ store_with fate store.old after))) }
+    ensures right { IfOk result (Tries store.old block.now fate store.new) }
     ensures refused { OnErr result (store.new ≡ store.old) }
 {
     match fate {
@@ -113,7 +113,7 @@ impl<'a, A: Allocator + Copy> Placing<'a, A> {
         plan: &Plan<A>,
         agenda: &'a Agenda<A>,
     ) -> Result<Placing<'a, A>, OutOfMemory>
-        ensures { IfOk result (λ placing. placing ≡ record { agenda = agenda.entry.now; spot = first_spot agenda.entry.now.rows plan.now.objects; path = []; past = [] }) }
+        ensures { IfOk result (λ placing. placing ≡ first_placing agenda.entry.now plan.now.objects) }
     {
         let placed = Marks::none(alloc, agenda.table().rows().len())?;
         let store = Store::opening(alloc, plan)?;
@@ -157,7 +157,7 @@ impl<'a, A: Allocator + Copy> Placing<'a, A> {
 
     /// The least transaction that is not placed.
     pub fn least_unplaced(&self) -> Option<u32>
-        ensures { result ≡ least_of (unplaced self.now.agenda.rows self.now.spot.placed) }
+        ensures { result ≡ least_tx (unplaced self.now.agenda.rows self.now.spot.placed) }
     {
         let rows = self.agenda.table().rows();
         let mut least = None;

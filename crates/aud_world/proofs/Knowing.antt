@@ -16,13 +16,13 @@ use Rattle.aud_event.specs.contracts.fact.FactOrd.TheImpl as fact_order
 use Rattle.aud_event.specs.contracts.fact.FactOrd.TheImpl.Laws as fact_laws
 use Rattle.aud_lattice.specs.Sets.{by_order}
 use Rattle.aud_lattice.specs.Sorted.{sorted_union}
-use Rattle.aud_lattice.specs.Members.{contains_union}
+use Rattle.aud_lattice.proofs.Members.{contains_union}
 use Rattle.aud_lattice.specs.Covers.{IsCover}
 use Rattle.aud_lattice.specs.Covering.{cover_cover_union}
-use Rattle.aud_lattice.specs.Minimal.{kept}
+use Rattle.aud_lattice.proofs.Minimal.{kept}
 use Rattle.aud_lattice.specs.Least.{least_of}
 use Rattle.aud_facts.specs.Sets.{AreSound}
-use Rattle.aud_facts.specs.Status.{status_of}
+use Rattle.aud_facts.specs.Status.{fact_status}
 use Rattle.aud_facts.specs.declared.status.FactStatus.TheVariants.{Sealed}
 use Rattle.aud_facts.specs.Quiet.{AreQuiet, SealedIsAll}
 use Rattle.aud_facts.specs.Order.{AreOrdered}
@@ -32,9 +32,8 @@ use Rattle.aud_know.specs.Norms.{fact, refuted, shown, facts_of, refuted_of, sho
 use Rattle.aud_know.specs.Known.{KnownAtom, norm_of}
 use Rattle.aud_know.specs.Truth.{AreWhole, IsKnowledge}
 use Rattle.aud_know.specs.Findings.{FindingOf, Holds, IsTrueFinding}
-
-fact_total : IsTotalOrder fact_order.ghosts.cmp
-fact_total = fact_laws.total-law
+use Rattle.aud_know.proofs.Keeping.{fact_total}
+use Rattle.aud_lattice.proofs.Tries.{same_some}
 
 -- an element further on
 pub later : {A : Type 0} (x : A) (xs : List A) (y : A) → Contains xs y → Contains (x ∷ xs) y
@@ -86,10 +85,6 @@ there_shown [] p h = absurd (nowhere p h)
 there_shown (shown e ∷ xs) p h = elim (head_or_later e (shown_of xs) p h) [ inl same ↦ subst (λ a. Contains (shown e ∷ xs) (shown a)) (sym same) (first (shown e) xs) | inr rest ↦ later (shown e) xs (shown p) (there_shown xs p rest) ]
 there_shown (fact f ∷ xs) p h = later (fact f) xs (shown p) (there_shown xs p h)
 there_shown (refuted q ∷ xs) p h = later (refuted q) xs (shown p) (there_shown xs p h)
-
--- the least of a list is in it
-same_some : {T : Type 0} (a b : T) → Some a ≡ Some b → a ≡ b
-same_some a b e = cc
 
 lesser_there : {T : Type 0} (y : T) (ys : List T) (x z : T) (o : Ordering) → (Some z ≡ Some x → Contains ys x) → by_order o (Some y) (Some y) (Some z) ≡ Some x → Contains (y ∷ ys) x
 lesser_there y ys x z Less rest e = subst (Contains (y ∷ ys)) (same_some y x e) (first y ys)
@@ -162,7 +157,7 @@ module _ (all : SealedIsAll) (plan : PlanOf) (xs : List KnownAtom) (backed : Are
   all_found : (a : KnownAtom) (t : IsFoundIn plan xs a) → AreQuiet (norm_of xs).facts → (norm_of xs).facts ≡ t.finding.facts.facts
   all_found a t quiet =
       all plan t.finding.facts.facts (norm_of xs).facts t.is_true.ordered (norm_ordered xs) (norm_sound plan xs backed)
-      (subst (λ (p : PlanOf). status_of p.logs t.finding.facts.facts ≡ Sealed) t.of_plan t.is_true.whole.sealed) (λ f h. (norm_facts xs f).1 (t.among f h)) quiet
+      (subst (λ (p : PlanOf). fact_status p.logs t.finding.facts.facts ≡ Sealed) t.of_plan t.is_true.whole.sealed) (λ f h. (norm_facts xs f).1 (t.among f h)) quiet
 
   found_whole : (a : KnownAtom) (t : IsFoundIn plan xs a) → AreQuiet (norm_of xs).facts → AreWhole plan (norm_of xs).facts × Holds (record { plan = plan; facts = (norm_of xs).facts }) a
   found_whole a t quiet =

@@ -1,5 +1,5 @@
 -- What the program says and gives back.
-use Rattle.std.specs.Prelude.{◌≡◌, ◌⊎◌, ℕ, List, Option, Result, Ok, Err, ⊤}
+use Rattle.std.specs.Prelude.{◌≡◌, ◌⊎◌, ℕ, List, Option, Result, Ok, Err, ⊤, Some}
 use Rattle.std.specs.Io.KnownBytes.{Appends}
 use Rattle.aud_cli.specs.declared.ended.Cause.{Cause}
 use Rattle.aud_cli.specs.declared.ended.Cause.TheVariants.{Memory, Input, Output, Thread}
@@ -51,6 +51,10 @@ HasSaid job input = HasWritten (IsLine job input) IsOfReading
 -- what is written by an audit of the input that ends so
 abbrev pub HasAudited : AuditJob → List ℕ → Option (List ℕ) → Option (List ℕ) → Ended → Type 0
 HasAudited job input = HasWritten (IsAuditLine job.budget input) IsOfAuditing
+
+-- what is said of the bytes of an input, where they are known
+abbrev pub WhereKnown : Option (List ℕ) → (List ℕ → Type 0) → Type 0
+WhereKnown bytes P = (input : List ℕ) → bytes ≡ Some input → P input
 
 -- # The exit status
 

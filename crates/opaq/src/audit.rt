@@ -2,7 +2,7 @@
 
 ghost use Rattle.std.specs.Prelude.{◌≡◌, ℕ, List, Some};
 ghost use Rattle.aud_cli.specs.Words.{IsAuditJob};
-ghost use Rattle.opaq.specs.Jobs.{HasAudited};
+ghost use Rattle.opaq.specs.Jobs.{HasAudited, WhereKnown};
 
 use crate::job::cause_of;
 use aud_audit::{NoGate, audit_said};
@@ -22,7 +22,7 @@ pub fn run_audit_job<R: Read, W: Write, T: Threads + Wait + Sync>(
     writer: &mut W,
 ) -> Ended
     requires { IsAuditJob job.now }
-    ensures { (input : List ℕ) → R.remaining reader.old ≡ Some input → HasAudited job.now input (W.contents writer.old) (W.contents writer.new) result }
+    ensures { WhereKnown (R.remaining reader.old) (λ input. HasAudited job.now input (W.contents writer.old) (W.contents writer.new) result) }
 {
     let mut bytes = Vec::new(alloc);
     if let Err(error) = reader.read_to_end(&mut bytes) {

@@ -1,7 +1,7 @@
 //! A job over standard input, or over any reader.
 
 ghost use Rattle.std.specs.Prelude.{◌≡◌, ℕ, List, Some};
-ghost use Rattle.opaq.specs.Jobs.{HasSaid, IsOfReading, exit_status};
+ghost use Rattle.opaq.specs.Jobs.{HasSaid, IsOfReading, exit_status, WhereKnown};
 
 use aud_cli::{Cause, Ended, Job, Usage, line_said};
 use std::alloc::Global;
@@ -21,7 +21,7 @@ pub fn cause_of(kind: ErrorKind) -> Cause
 /// Reads the reader to its end, and writes the line that the job says of its bytes. Where it fails, what was read stays read,
 /// and nothing went out, unless it was the writer that failed: then a beginning of the line may have.
 pub fn run_job<R: Read, W: Write>(alloc: Global, job: &Job, reader: &mut R, writer: &mut W) -> Ended
-    ensures { (input : List ℕ) → R.remaining reader.old ≡ Some input → HasSaid job.now input (W.contents writer.old) (W.contents writer.new) result }
+    ensures { WhereKnown (R.remaining reader.old) (λ input. HasSaid job.now input (W.contents writer.old) (W.contents writer.new) result) }
 {
     let mut bytes = Vec::new(alloc);
     if let Err(error) = reader.read_to_end(&mut bytes) {

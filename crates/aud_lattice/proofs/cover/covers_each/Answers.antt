@@ -1,4 +1,4 @@
-use Rattle.aud_lattice.specs.Pathed.{all_within}
+use Rattle.aud_lattice.proofs.Pathed.{all_within}
 use Rattle.aud_lattice.proofs.cover.covers_each.Goals as goal
 
 pub returns : goal.returns

@@ -1,8 +1,8 @@
 use Rattle.std.proofs.Common.{◌≡◌, ◌∙◌, subst}
 use Rattle.aud_lattice.specs.Sets.{either}
 use Rattle.aud_lattice.specs.Walks.{walk, now_of, IsTrie}
-use Rattle.aud_lattice.specs.Tries.{either_swap}
-use Rattle.aud_lattice.specs.Pathed.{join_paths, cover-paths}
+use Rattle.aud_lattice.proofs.Tries.{either_swap}
+use Rattle.aud_lattice.proofs.Pathed.{join_paths, cover-paths}
 use Rattle.aud_lattice.proofs.cover.join_with.Goals as goal
 
 pub returns-in_err-joined-clause-cover : goal.returns-in_err-joined-clause-cover

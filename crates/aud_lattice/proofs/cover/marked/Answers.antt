@@ -1,5 +1,5 @@
 use Rattle.std.proofs.Common.{◌∙◌}
-use Rattle.aud_lattice.specs.Pathed.{marks}
+use Rattle.aud_lattice.proofs.Pathed.{marks}
 use Rattle.aud_lattice.proofs.cover.marked.Goals as goal
 
 pub returns : goal.returns

@@ -1,7 +1,7 @@
 use Rattle.std.proofs.Common.{◌∙◌, sym, ap}
 use mathlib.Core.Bool.{true≢false}
 use Rattle.aud_lattice.specs.Covers.{covers}
-use Rattle.aud_lattice.specs.Pathed.{both_within, paths_within, same_covered}
+use Rattle.aud_lattice.proofs.Pathed.{both_within, paths_within, same_covered}
 use Rattle.aud_lattice.proofs.cover.same_tries.Goals as goal
 
 pub returns-then-is_within-clause-same : goal.returns-then-is_within-clause-same

@@ -1,5 +1,5 @@
 use Rattle.std.proofs.Common.{arith}
-use Rattle.aud_lattice.specs.Parts.{part_left, part_right}
+use Rattle.aud_lattice.proofs.Parts.{part_left, part_right}
 use Rattle.aud_lattice.proofs.iter.+part_at.Goals as goal
 
 pub returns-then-place-before-2-clause-part : goal.returns-then-place-before-2-clause-part

@@ -1,4 +1,4 @@
-use Rattle.aud_lattice.specs.Norms.{norm_of_firsts}
+use Rattle.aud_lattice.proofs.Normed.{norm_of_firsts}
 use Rattle.aud_lattice.proofs.laws.norm_of_firsts.Goals as goal
 
 pub returns : goal.returns

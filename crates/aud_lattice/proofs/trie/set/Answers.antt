@@ -1,7 +1,7 @@
 use Rattle.std.proofs.Common.{ap, ◌∙◌, Some, cond}
 use Rattle.std.specs.BTreeMap.{get}
 use Rattle.std.specs.Ordering.{is_eq}
-use Rattle.aud_lattice.specs.Tries.{set_nodes}
+use Rattle.aud_lattice.proofs.Tries.{set_nodes}
 use Rattle.aud_lattice.proofs.trie.set.Goals as goal
 
 pub returns-clause-ok : goal.returns-clause-ok

@@ -5,7 +5,7 @@ use Rattle.std.specs.Ordering.{is_eq}
 use Rattle.std.specs.Arc.{arc_value}
 use Rattle.std.specs.List.Sorted.{IsStrictlySortedBy}
 use Rattle.aud_lattice.specs.Walks.{nodes_of, node_of}
-use Rattle.aud_lattice.specs.Tries.{moved, first_of, none_first, sorted_nodes}
+use Rattle.aud_lattice.proofs.Tries.{moved, first_of, none_first, sorted_nodes}
 use Rattle.aud_lattice.proofs.trie.shared_nodes.Goals as goal
 
 pub loop-first-init : goal.loop-first-init

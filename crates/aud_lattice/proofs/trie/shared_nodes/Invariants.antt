@@ -3,7 +3,7 @@ use Rattle.std.specs.BTreeMap.{IsOrdered, is_at}
 use Rattle.std.specs.Map.{lookup, keys_of}
 use Rattle.std.specs.List.Sorted.{IsStrictlySortedBy}
 use Rattle.aud_lattice.specs.Walks.{nodes_of, node_of}
-use Rattle.aud_lattice.specs.Tries.{first_of}
+use Rattle.aud_lattice.proofs.Tries.{first_of}
 use Rattle.aud_lattice.proofs.trie.shared_nodes.Given as goal
 
 abbrev pub invariant-loop-first : goal.invariant-loop-first

@@ -4,13 +4,13 @@ use Rattle.aud_history.specs.WellFormed.{IsWellFormed}
 use Rattle.aud_history.specs.FirstFault.{IsWithinLimits}
 use Rattle.aud_order.specs.Shapes.{objects_of, plan_of, history_of}
 use Rattle.aud_order.specs.Cursors.{CursorOf}
-use Rattle.aud_search.proofs.Refuting.{refuted-unless_good}
 use Rattle.aud_search.proofs.Steps.{whole-witness, whole-spent, whole-told}
 use Rattle.aud_search.proofs.search.search.Goals as goal
+use Rattle.aud_witness.proofs.Beginnings.{Refuted-from_bad}
 
 pub returns-in_default-clause-told : goal.returns-in_default-clause-told
 returns-in_default-clause-told g c =
-    refuted-unless_good (objects_of c.args.shape.now) (history_of c.args.shape.now) c.args.prefix.now (rw c.in_default.is at c.in_ok-cursor.ensures)
+    Refuted-from_bad (objects_of c.args.shape.now) (history_of c.args.shape.now) c.args.prefix.now (rw c.in_default.is at c.in_ok-cursor.ensures)
 
 pub returns-then-full-clause-told : goal.returns-then-full-clause-told
 returns-then-full-clause-told g c =

@@ -4,7 +4,7 @@ use Rattle.aud_text.proofs.Sound.{sound}
 use Rattle.aud_text.proofs.write.facts_read_back.Goals as goal
 
 pub returns-clause-judged : goal.returns-clause-judged
-returns-clause-judged c plan f s fits e = (back plan f (sound plan s) number_of-own fits e).judges
+returns-clause-judged c plan f is = (back plan f (sound plan is.plan_is) number_of-own is.fits is.taken).judges
 
 pub returns-clause-short : goal.returns-clause-short
-returns-clause-short c plan f s fits e = (back plan f (sound plan s) number_of-own fits e).short
+returns-clause-short c plan f is = (back plan f (sound plan is.plan_is) number_of-own is.fits is.taken).short

@@ -1,7 +1,7 @@
 use Rattle.std.proofs.Common.{◌≡◌, ◌≤◌, length, refl, sym, ◌∙◌, ap, subst}
 use Rattle.aud_history.specs.Table.{table_of}
 use Rattle.aud_witness.specs.Spots.{first_spot, unplaced}
-use Rattle.aud_witness.specs.OrderFaults.{least_of, first_order_fault}
+use Rattle.aud_witness.specs.OrderFaults.{least_tx, first_order_fault}
 use Rattle.aud_witness.specs.declared.fault.OrderFault.TheVariants.{Missing}
 use Rattle.aud_witness.proofs.WalkLemmas.{Goes, Goes-root, Goes-on-here, Goes-wrong-here, Goes-out, missing, fits-from_limits, not-shown, is-shown, step-refused, step-taken}
 use Rattle.aud_witness.proofs.showing.shows.Goals as goal
@@ -35,14 +35,14 @@ returns-in-Some-clause-fault g c =
     let h = c.args.history.now.events in
     Goes-out c.args.history.now.plan.objects h c.args.order.now c.loop-decision.decision-index c.loop-decision.placing.spot
     (subst (λ l. length l ≤ c.loop-decision.decision-index) c.decisions-decision-items.ensures c.loop-decision-test.false) c.loop-decision.invariant.0
-    ∙ ap missing (ap (λ rows. least_of (unplaced rows c.loop-decision.placing.spot.placed)) (sym c.loop-decision.invariant.1) ∙ (sym c.least_unplaced.ensures ∙ c.in-Some.is))
+    ∙ ap missing (ap (λ rows. least_tx (unplaced rows c.loop-decision.placing.spot.placed)) (sym c.loop-decision.invariant.1) ∙ (sym c.least_unplaced.ensures ∙ c.in-Some.is))
 
 pub returns-clause-fault : goal.returns-clause-fault
 returns-clause-fault g c =
     let h = c.args.history.now.events in
     Goes-out c.args.history.now.plan.objects h c.args.order.now c.loop-decision.decision-index c.loop-decision.placing.spot
     (subst (λ l. length l ≤ c.loop-decision.decision-index) c.decisions-decision-items.ensures c.loop-decision-test.false) c.loop-decision.invariant.0
-    ∙ ap missing (ap (λ rows. least_of (unplaced rows c.loop-decision.placing.spot.placed)) (sym c.loop-decision.invariant.1) ∙ (sym c.least_unplaced.ensures ∙ c.in-None.is))
+    ∙ ap missing (ap (λ rows. least_tx (unplaced rows c.loop-decision.placing.spot.placed)) (sym c.loop-decision.invariant.1) ∙ (sym c.least_unplaced.ensures ∙ c.in-None.is))
 
 pub returns-in-Err-clause-shown : goal.returns-in-Err-clause-shown
 returns-in-Err-clause-shown g c = not-shown c.args.history.now.plan.objects c.args.history.now.events c.args.order.now c.in-Err.fault (returns-in-Err-clause-fault g c)

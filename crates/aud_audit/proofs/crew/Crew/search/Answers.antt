@@ -1,9 +1,10 @@
 use Rattle.std.proofs.Common.{◌≡◌, ◌∙◌, false, true, true≢false, rules, sym, subst}
 use Rattle.aud_audit.specs.Seats.{AreLater, CrewOf, IsCrewAt}
 use Rattle.aud_audit.proofs.Seating.{crew_later}
-use Rattle.aud_audit.proofs.Ending.{share_later, unnegated}
+use Rattle.aud_audit.proofs.Ending.{share_later}
 use Rattle.aud_audit.proofs.crew.Crew.search.Goals as goal
 use Rattle.aud_audit.proofs.crew.Crew.search.Goals.{then-self, else-self}
+use Rattle.aud_event.proofs.Bools.{unnegated}
 
 pub post_news-requires : goal.post_news-requires
 post_news-requires g c =

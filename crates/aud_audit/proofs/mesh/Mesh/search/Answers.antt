@@ -1,11 +1,11 @@
 use Rattle.std.proofs.Common.{◌≡◌, ◌<◌, false, List, All, length, subst, rules}
 use Rattle.aud_order.specs.Shapes.{plan_of}
-use Rattle.aud_split.proofs.Tasks.{on_ok}
 use Rattle.aud_audit.specs.Seats.{CrewOf}
 use Rattle.aud_audit.specs.Meshes.{IsMesh}
 use Rattle.aud_audit.specs.Searches.{SharesHaveEnded}
 use Rattle.aud_audit.proofs.Meshing.{all_ended}
 use Rattle.aud_audit.proofs.mesh.Mesh.search.Goals as goal
+use Rattle.aud_lattice.proofs.Tries.{on_ok}
 
 pub returns-clause-ended : goal.returns-clause-ended
 returns-clause-ended g c =

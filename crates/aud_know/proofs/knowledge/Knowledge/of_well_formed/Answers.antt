@@ -2,7 +2,7 @@ use Rattle.std.specs.Prelude.{◌≡◌}
 use Rattle.std.proofs.Common.{ap, subst, ◌∙◌}
 use Rattle.aud_history.specs.WellFormed.{IsWellFormed}
 use Rattle.aud_facts.specs.Sets.{FactsOf, SealedOf, IsSealedWith}
-use Rattle.aud_facts.specs.Status.{status_of, hist}
+use Rattle.aud_facts.specs.Status.{fact_status, hist}
 use Rattle.aud_facts.specs.declared.status.FactStatus.TheVariants.{Sealed}
 use Rattle.aud_know.specs.Known.{KnowledgeOf}
 use Rattle.aud_know.proofs.Judging.{says_not_opaque, says_unfinished, closed_same}
@@ -11,7 +11,7 @@ use Rattle.aud_know.proofs.knowledge.Knowledge.of_well_formed.Goals as goal
 pub returns-then-branch : goal.returns-then-branch
 returns-then-branch g c =
     let with_history : IsSealedWith c.args.sealed.value.facts c.args.sealed.value.history = subst (λ (s : SealedOf). IsSealedWith s.facts s.history) c.deref.ensures c.facts-facts.ensures.sealed in
-    let sealed : status_of c.args.self.now.plan.logs c.args.self.now.held.facts ≡ Sealed = subst (λ (f : FactsOf). status_of f.plan.logs f.facts ≡ Sealed) c.requires.facts with_history.sealed in
+    let sealed : fact_status c.args.self.now.plan.logs c.args.self.now.held.facts ≡ Sealed = subst (λ (f : FactsOf). fact_status f.plan.logs f.facts ≡ Sealed) c.requires.facts with_history.sealed in
     let events : c.args.sealed.value.history ≡ hist c.args.self.now.held.facts = with_history.events ∙ ap (λ (f : FactsOf). hist f.facts) c.requires.facts in
     let covers = c.deref-2.ensures ∙ ap (λ (k : KnowledgeOf). k.held.cover) c.self.view_is in
     let closed = closed_same c.in_ok-shape.shape c.args.sealed.value c.args.self.now c.deref-2.result.now c.empty-empty.result c.in_ok-shape.ensures c.requires.facts events covers c.empty-empty.ensures in
@@ -20,7 +20,7 @@ returns-then-branch g c =
 pub returns : goal.returns
 returns g c =
     let with_history : IsSealedWith c.args.sealed.value.facts c.args.sealed.value.history = subst (λ (s : SealedOf). IsSealedWith s.facts s.history) c.deref.ensures c.facts-facts.ensures.sealed in
-    let sealed : status_of c.args.self.now.plan.logs c.args.self.now.held.facts ≡ Sealed = subst (λ (f : FactsOf). status_of f.plan.logs f.facts ≡ Sealed) c.requires.facts with_history.sealed in
+    let sealed : fact_status c.args.self.now.plan.logs c.args.self.now.held.facts ≡ Sealed = subst (λ (f : FactsOf). fact_status f.plan.logs f.facts ≡ Sealed) c.requires.facts with_history.sealed in
     let events : c.args.sealed.value.history ≡ hist c.args.self.now.held.facts = with_history.events ∙ ap (λ (f : FactsOf). hist f.facts) c.requires.facts in
     let covers = c.deref-2.ensures ∙ ap (λ (k : KnowledgeOf). k.held.cover) c.self.view_is in
     let closed = closed_same c.in_ok-shape.shape c.args.sealed.value c.args.self.now c.deref-2.result.now c.empty-empty.result c.in_ok-shape.ensures c.requires.facts events covers c.empty-empty.ensures in

@@ -2,7 +2,7 @@ use Rattle.std.proofs.Common.{◌++◌, map, ◌∙◌, subst}
 use Rattle.aud_lattice.specs.Covers.{IsCover}
 use Rattle.aud_lattice.specs.Covering.{cover_sorted}
 use Rattle.aud_lattice.specs.Paths.{paths}
-use Rattle.aud_lattice.specs.Pathed.{cover-paths, no_path}
+use Rattle.aud_lattice.proofs.Pathed.{cover-paths, no_path}
 use Rattle.aud_lattice.proofs.cover.Cover.lists.Goals as goal
 
 pub returns-clause-lists : goal.returns-clause-lists

@@ -4,7 +4,7 @@ use Rattle.std.specs.BTreeMap.{is_at}
 use Rattle.aud_lattice.specs.Covers.{begins}
 use Rattle.aud_lattice.specs.Walks.{nodes_of}
 use Rattle.aud_lattice.specs.declared.trie.Trie.TheVariants.{Fork, outs-Fork}
-use Rattle.aud_lattice.specs.Tries.{member_is_good, nil_begins, added, begins_live, empty_good, empty_walk, alone}
+use Rattle.aud_lattice.proofs.Tries.{member_is_good, nil_begins, added, begins_live, empty_good, empty_walk, alone}
 use Rattle.aud_lattice.proofs.trie.Trie.+chain.Goals as goal
 
 pub returns-in-None-clause-good : goal.returns-in-None-clause-good

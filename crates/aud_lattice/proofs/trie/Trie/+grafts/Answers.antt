@@ -7,7 +7,7 @@ use Rattle.aud_lattice.specs.declared.trie.Trie.TheVariants.{Fork, outs-Fork}
 use Rattle.aud_lattice.specs.declared.trie.Trie.{Trie, out-Trie}
 use Rattle.aud_lattice.specs.Walks.{walk, child, starts, nodes_of, node_of, now_of, IsTrie, IsLive, IsMet}
 use Rattle.aud_lattice.specs.Sets.{either}
-use Rattle.aud_lattice.specs.Tries.{member_joins, member_keeps, found_kids, child_size, any_starts, any_starts-walk, shift, good_child, live_child, fork_good_at, fork_ordered, found_node, gone_node, met_there, met_good, met_walk, met_gone, met_found}
+use Rattle.aud_lattice.proofs.Tries.{member_joins, member_keeps, found_kids, child_size, any_starts, any_starts-walk, shift, good_child, live_child, fork_good_at, fork_ordered, found_node, gone_node, met_there, met_good, met_walk, met_gone, met_found}
 use Rattle.aud_lattice.proofs.trie.Trie.+grafts.Goals as goal
 
 pub grafted-own_nodes-requires : goal.grafted-own_nodes-requires

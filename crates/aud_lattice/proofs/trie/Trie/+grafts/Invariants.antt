@@ -5,7 +5,7 @@ use Rattle.aud_lattice.specs.Walks.{walk, child, nodes_of, now_of, IsTrie}
 use Rattle.aud_lattice.specs.declared.trie.Trie.TheVariants.{Fork}
 use Rattle.aud_lattice.specs.declared.trie.Trie.{size-Trie}
 use Rattle.std.specs.Arc.{arc_value}
-use Rattle.aud_lattice.specs.Tries.{any_starts}
+use Rattle.aud_lattice.proofs.Tries.{any_starts}
 use Rattle.aud_lattice.proofs.trie.Trie.+grafts.Given as goal
 
 abbrev pub invariant-joined-loop-first : goal.invariant-joined-loop-first

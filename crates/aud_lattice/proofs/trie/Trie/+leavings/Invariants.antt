@@ -7,7 +7,7 @@ use Rattle.aud_lattice.specs.Sets.{either}
 use Rattle.aud_lattice.specs.Walks.{leads, but, child, nodes_of, node_of, IsTrie}
 use Rattle.aud_lattice.specs.declared.trie.Trie.TheVariants.{Fork}
 use Rattle.aud_lattice.specs.declared.trie.Trie.{size-Trie}
-use Rattle.aud_lattice.specs.Tries.{any_by}
+use Rattle.aud_lattice.proofs.Tries.{any_by}
 use Rattle.aud_lattice.proofs.trie.Trie.+leavings.Given as goal
 
 abbrev pub invariant-without-loop-first : goal.invariant-without-loop-first

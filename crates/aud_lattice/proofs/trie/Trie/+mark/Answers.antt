@@ -2,11 +2,11 @@ use Rattle.std.proofs.Common.{◌∙◌, ap, sym}
 use mathlib.Core.Bool.{true≢false}
 use Rattle.aud_lattice.specs.declared.trie.Trie.{out-Trie}
 use Rattle.aud_lattice.specs.declared.trie.Trie.TheVariants.{outs-Member, outs-Fork}
-use Rattle.aud_lattice.specs.Pathed.{member_mark, fork_mark, bare_end, full_end, gone_mark, known_mark}
+use Rattle.aud_lattice.proofs.Pathed.{member_mark, fork_mark, bare_end, full_end, gone_mark, known_mark}
 use Rattle.std.specs.Option.{option_copied}
 use Rattle.std.specs.Arc.{arc_value}
 use Rattle.aud_lattice.specs.Walks.{walk_mark}
-use Rattle.aud_lattice.specs.Tries.{found_node, gone_node}
+use Rattle.aud_lattice.proofs.Tries.{found_node, gone_node}
 use Rattle.aud_lattice.proofs.trie.Trie.+mark.Goals as goal
 
 pub returns-in-Member : goal.returns-in-Member

@@ -3,8 +3,8 @@ use Rattle.std.specs.Arc.{arc_value}
 use Rattle.std.specs.Option.{option_copied}
 use Rattle.aud_lattice.specs.declared.trie.Trie.{out-Trie}
 use Rattle.aud_lattice.specs.declared.trie.Trie.TheVariants.{outs-Fork}
-use Rattle.aud_lattice.specs.Pathed.{gone_at, known_at}
-use Rattle.aud_lattice.specs.Tries.{found_node, gone_node}
+use Rattle.aud_lattice.proofs.Pathed.{gone_at, known_at}
+use Rattle.aud_lattice.proofs.Tries.{found_node, gone_node}
 use Rattle.aud_lattice.specs.Walks.{node_at}
 use Rattle.aud_lattice.proofs.trie.Trie.+node.Goals as goal
 

@@ -3,8 +3,8 @@ use Rattle.std.specs.List.{AllByRecursion}
 use Rattle.std.specs.Arc.{arc_value}
 use Rattle.aud_lattice.specs.Walks.{nodes_of}
 use Rattle.aud_lattice.specs.Paths.{paths}
-use Rattle.aud_lattice.specs.Pathed.{pathed, pushed, paths_fork}
-use Rattle.aud_lattice.specs.Tries.{nodes_small}
+use Rattle.aud_lattice.proofs.Pathed.{pathed, pushed, paths_fork}
+use Rattle.aud_lattice.proofs.Tries.{nodes_small}
 use Rattle.aud_lattice.specs.declared.trie.Trie.{out-Trie, size-Trie}
 use Rattle.aud_lattice.specs.declared.trie.Trie.TheVariants.{outs-Fork}
 use Rattle.aud_lattice.proofs.trie.Trie.+pushes.Goals as goal

@@ -2,7 +2,7 @@ use Rattle.std.proofs.Common.{◌≡◌, ◌++◌, map, ◌+◌, ◌*◌, ◌<�
 use Rattle.std.specs.List.{AllByRecursion}
 use Rattle.aud_lattice.specs.Walks.{nodes_of}
 use Rattle.aud_lattice.specs.Paths.{paths}
-use Rattle.aud_lattice.specs.Pathed.{pathed}
+use Rattle.aud_lattice.proofs.Pathed.{pathed}
 use Rattle.aud_lattice.specs.declared.trie.Trie.{size-Trie}
 use Rattle.aud_lattice.proofs.trie.Trie.+pushes.Given as goal
 

@@ -7,7 +7,7 @@ use Rattle.aud_lattice.specs.declared.trie.Trie.{out-Trie}
 use Rattle.aud_lattice.specs.declared.trie.Trie.TheVariants.{outs-Member, outs-Fork}
 use Rattle.aud_lattice.specs.declared.trie.Trie.TheViews.{the_lemmas}
 use Rattle.aud_lattice.specs.Walks.{ends, walk, child, nodes_of, IsTrie, IsLive, IsWithin}
-use Rattle.aud_lattice.specs.Tries.{any_starts, any_starts-walk, found_kids, child_size, good_child, live_child, good_behind, found_node, gone_node, member_holds, member_not_within, gone_not_within, known_within, within_known}
+use Rattle.aud_lattice.proofs.Tries.{any_starts, any_starts-walk, found_kids, child_size, good_child, live_child, good_behind, found_node, gone_node, member_holds, member_not_within, gone_not_within, known_within, within_known}
 use Rattle.aud_lattice.proofs.trie.Trie.+withins.Goals as goal
 
 pub is_within-loop-first-init : goal.is_within-loop-first-init

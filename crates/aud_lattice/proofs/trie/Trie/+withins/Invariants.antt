@@ -2,7 +2,7 @@ use Rattle.std.proofs.Common.{◌≡◌, ◌+◌, ◌*◌, Some}
 use Rattle.std.specs.List.{AllByRecursion}
 use Rattle.aud_lattice.specs.declared.trie.Trie.{size-Trie}
 use Rattle.aud_lattice.specs.Walks.{walk, child, nodes_of, IsWithin}
-use Rattle.aud_lattice.specs.Tries.{any_starts}
+use Rattle.aud_lattice.proofs.Tries.{any_starts}
 use Rattle.aud_lattice.proofs.trie.Trie.+withins.Given as goal
 
 abbrev pub invariant-is_within-loop-first : goal.invariant-is_within-loop-first

@@ -1,6 +1,6 @@
 use Rattle.std.proofs.Common.{ap, ◌∙◌, sym, subst}
 use Rattle.aud_lattice.specs.Walks.{walk, IsTrie}
-use Rattle.aud_lattice.specs.Tries.{alike_good, alike_walk}
+use Rattle.aud_lattice.proofs.Tries.{alike_good, alike_walk}
 use Rattle.aud_lattice.proofs.trie.Trie.copied.Goals as goal
 
 pub returns-in_ok-all-in-Fork-clause-good : goal.returns-in_ok-all-in-Fork-clause-good

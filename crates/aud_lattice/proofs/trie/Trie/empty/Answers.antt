@@ -1,4 +1,4 @@
-use Rattle.aud_lattice.specs.Tries.{pointwise, empty_walk, empty_good}
+use Rattle.aud_lattice.proofs.Tries.{pointwise, empty_walk, empty_good}
 use Rattle.aud_lattice.specs.declared.trie.Trie.TheVariants.{outs-Fork}
 use Rattle.aud_lattice.proofs.trie.Trie.empty.Goals as goal
 

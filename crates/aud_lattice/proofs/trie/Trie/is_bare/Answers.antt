@@ -3,7 +3,7 @@ use mathlib.Core.Bool.{true≢false}
 use Rattle.aud_lattice.specs.declared.trie.Trie.{out-Trie}
 use Rattle.aud_lattice.specs.declared.trie.Trie.TheVariants.{outs-Fork, outs-Member}
 use Rattle.aud_lattice.specs.Walks.{ends, IsLayer}
-use Rattle.aud_lattice.specs.Tries.{good_here}
+use Rattle.aud_lattice.proofs.Tries.{good_here}
 use Rattle.aud_lattice.proofs.Leads.{told, full_live, empty_leads}
 use Rattle.aud_lattice.proofs.trie.Trie.is_bare.Goals as goal
 

@@ -2,7 +2,7 @@ use Rattle.std.proofs.Common.{ap, ◌∙◌, sym, subst}
 use Rattle.aud_lattice.specs.Covers.{begins}
 use Rattle.aud_lattice.specs.Sets.{either}
 use Rattle.aud_lattice.specs.Walks.{walk, IsTrie}
-use Rattle.aud_lattice.specs.Tries.{member_is_good, member_keeps, nil_covers, on_ok, on_err}
+use Rattle.aud_lattice.proofs.Tries.{member_is_good, member_keeps, nil_covers, on_ok, on_err}
 use Rattle.aud_lattice.proofs.trie.Trie.put.Goals as goal
 
 pub returns-in-Member-clause-ok : goal.returns-in-Member-clause-ok

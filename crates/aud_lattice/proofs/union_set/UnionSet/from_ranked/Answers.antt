@@ -1,4 +1,4 @@
-use Rattle.aud_lattice.specs.Members.{inserted_is}
+use Rattle.aud_lattice.proofs.Members.{inserted_is}
 use Rattle.aud_lattice.proofs.union_set.UnionSet.from_ranked.Goals as goal
 
 pub returns-clause-each : goal.returns-clause-each

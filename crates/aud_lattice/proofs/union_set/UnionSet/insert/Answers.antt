@@ -1,7 +1,7 @@
 use Rattle.std.proofs.Common.{sym}
 use Rattle.std.proofs.lemmas.Option.{MatchOption-at_some, MatchOption-at_none}
-use Rattle.aud_lattice.specs.Members.{contains_grown}
-use Rattle.aud_lattice.specs.Splits.{with_there}
+use Rattle.aud_lattice.proofs.Members.{contains_grown}
+use Rattle.aud_lattice.proofs.Splits.{with_there}
 use Rattle.aud_lattice.proofs.union_set.UnionSet.insert.Goals as goal
 
 -- an item that is there changes nothing

@@ -9,6 +9,8 @@ use Rattle.std.specs.List.{AllByRecursion}
 use Rattle.std.specs.List.Sorted.{IsStrictlySortedBy}
 use Rattle.aud_lattice.specs.Sets.{by_order, has, with_item}
 use Rattle.aud_lattice.specs.Sorted.{Below-less, absent_below}
+use Rattle.aud_lattice.specs.Trees.{Found}
+use Rattle.aud_event.proofs.Bools.{or_always}
 
 pub drop_right : {T : Type 0} (l : List T) (k : T) (r : List T) (m n : ℕ) → m ≡ length l + n + 1 → drop m (l ++ k ∷ r) ≡ drop n r
 drop_right [] k r zero n e = absurd (omega (arith, e))
@@ -27,11 +29,6 @@ drop_left l k r zero e = refl
 drop_left [] k r (suc m) e = absurd (omega (arith, e))
 drop_left (x ∷ l) k r (suc m) e = drop_left l k r m (omega (arith, e))
 
--- what stands at place n
-abbrev pub Found : {T : Type 0} → List T → ℕ → Option T → Type 0
-Found xs n None = drop n xs ≡ []
-Found xs n (Some x) = drop n xs ≡ x ∷ drop (n + 1) xs
-
 pub found_left : {T : Type 0} (l : List T) (k : T) (r : List T) (n : ℕ) (o : Option T) → n < length l → Found l n o → Found (l ++ k ∷ r) n o
 found_left l k r n None lt f = absurd (drop_short l n lt f)
   where
@@ -47,10 +44,6 @@ found_middle l k r n e = drop_middle l k r n e ∙ sym (ap (λ z. k ∷ z) (drop
 pub found_right : {T : Type 0} (l : List T) (k : T) (r : List T) (m n : ℕ) (o : Option T) → m ≡ length l + n + 1 → Found r n o → Found (l ++ k ∷ r) m o
 found_right l k r m n None e f = drop_right l k r m n e ∙ f
 found_right l k r m n (Some x) e f = drop_right l k r m n e ∙ f ∙ sym (ap (λ z. x ∷ z) (drop_right l k r (m + 1) (n + 1) (omega (arith, e))))
-
-or_true : (a : Bool) → (a || true) ≡ true
-or_true true = refl
-or_true false = refl
 
 module _ {T : Type 0} {R : T → T → Ordering} (o : IsTotalOrder R) where
   pub sorted_left : (l : List T) (k : T) (r : List T) → IsStrictlySortedBy R (l ++ k ∷ r) → IsStrictlySortedBy R l
@@ -109,7 +102,7 @@ module _ {T : Type 0} {R : T → T → Ordering} (o : IsTotalOrder R) where
 
   pub has_middle : (x : T) (l : List T) (k : T) (r : List T) → R x k ≡ Equal → has R (l ++ k ∷ r) x ≡ true
   has_middle x [] k r e = ap (λ c. is_eq c || has R r x) e
-  has_middle x (y ∷ l) k r e = ap (λ b. eq_by_cmp R x y || b) (has_middle x l k r e) ∙ or_true (eq_by_cmp R x y)
+  has_middle x (y ∷ l) k r e = ap (λ b. eq_by_cmp R x y || b) (has_middle x l k r e) ∙ or_always (eq_by_cmp R x y)
 
   pub has_right : (x : T) (l : List T) (k : T) (r : List T) → R x k ≡ Greater → IsStrictlySortedBy R (l ++ k ∷ r) → has R (l ++ k ∷ r) x ≡ has R r x
   unfolding IsStrictlySortedBy

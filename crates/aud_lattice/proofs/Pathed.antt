@@ -13,7 +13,7 @@ use Rattle.std.specs.declared.collections.BTreeMap.{BTreeMap}
 use Rattle.aud_event.specs.Exact.{IsExact}
 use Rattle.aud_lattice.specs.Sets.{either}
 use Rattle.aud_lattice.specs.Covers.{cover_cmp, begins, covers, extends, IsCover, with_list, cover_union, HasBeginning}
-use Rattle.aud_lattice.specs.Strict.{any_at, some_passes, one_passes}
+use Rattle.aud_lattice.proofs.Strict.{any_at, some_passes, one_passes}
 use Rattle.aud_lattice.specs.Covering.{begins_itself, begins_trans, same_cover, cover_with_list, covers-with_list, cover_cover_union, covers-cover_union}
 use Rattle.aud_lattice.specs.declared.trie.Trie.{Trie, out-Trie, roll-Trie, out-roll-Trie}
 use Rattle.aud_lattice.specs.declared.trie.Trie.TheOpen.{Trie-F, Member, Fork}
@@ -23,17 +23,17 @@ use Rattle.aud_lattice.specs.declared.trie.Trie.TheShapes.{former-Trie-Fork-0}
 use Rattle.aud_lattice.specs.Marks.{mark_of}
 use Rattle.aud_lattice.specs.declared.mark.Mark.TheVariants.{Covered, Inner, Outside}
 use Rattle.aud_lattice.specs.Paths.{below, layer_paths, paths}
-use Rattle.aud_lattice.specs.Tries.{none≢some, same_some, gone_on, any_by, any_by-get, good_here, good_child, live_child, fork_child, pointwise, found_kids, sorted_nodes}
+use Rattle.aud_lattice.proofs.Tries.{none≢some, same_some, gone_on, any_by, any_by-get, good_here, good_child, live_child, fork_child, pointwise, found_kids, sorted_nodes}
 
-on_found : {X : Type 0} (f g : X → Bool) (o : Option X) → ((u : X) → o ≡ Some u → f u ≡ g u) → walk_on f o ≡ walk_on g o
+pub on_found : {X : Type 0} (f g : X → Bool) (o : Option X) → ((u : X) → o ≡ Some u → f u ≡ g u) → walk_on f o ≡ walk_on g o
 on_found f g None h = refl
 on_found f g (Some u) h = h u refl
 
-and_none : (b c : Bool) → c ≡ ((b && false) || c)
+pub and_none : (b c : Bool) → c ≡ ((b && false) || c)
 and_none true c = refl
 and_none false c = refl
 
-and_more : (b x y z : Bool) → ((b && x) || ((b && y) || z)) ≡ ((b && (x || y)) || z)
+pub and_more : (b x y z : Bool) → ((b && x) || ((b && y) || z)) ≡ ((b && (x || y)) || z)
 and_more true true y z = refl
 and_more true false y z = refl
 and_more false x y z = refl

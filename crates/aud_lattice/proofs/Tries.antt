@@ -23,6 +23,7 @@ use Rattle.aud_lattice.specs.declared.trie.Trie.TheVariants.{Fork as made, outs-
 use Rattle.aud_lattice.specs.Sets.{either}
 use Rattle.aud_lattice.specs.declared.trie.Trie.TheOpen.{Trie-F, Member, Fork}
 use Rattle.aud_lattice.specs.Walks.{nodes_of, node_of, ends, behind, IsLayer, is_member, child, walk_on, walk, nothing, go_on, node_at, starts, IsLive, IsTrie, IsMet, IsWithin}
+use Rattle.aud_event.proofs.Bools.{or_nothing, is_false, or_always}
 
 pub none≢some : {X : Type 0} (x : X) → None ≡ Some x → ⊥
 none≢some x e = cc
@@ -76,22 +77,6 @@ more≢none x q e = cc
 pub gone_on : {X Y : Type 0} (f : X → Option Y) (o : Option X) (y : Y) → go_on f o ≡ Some y → (x : X) × (o ≡ Some x) × (f x ≡ Some y)
 gone_on f None y e = absurd (none≢some y e)
 gone_on f (Some x) y e = (x, refl, e)
-
-or_true : (b : Bool) → (b || true) ≡ true
-or_true true = refl
-or_true false = refl
-
-or-false : (b : Bool) → (b || false) ≡ b
-or-false true = refl
-or-false false = refl
-
-or_of : (a b : Bool) → b ≡ true → (a || b) ≡ true
-or_of a true e = or_true a
-or_of a false e = absurd (true≢false (sym e))
-
-pub not_true : (b : Bool) → (b ≡ true → ⊥) → b ≡ false
-not_true true h = absurd (h refl)
-not_true false h = refl
 
 or_left : (a b : Bool) → (a || b) ≡ false → a ≡ false
 or_left true b e = e
@@ -343,7 +328,7 @@ module _ {D A : Type 0} (R : D → D → Ordering) where
   live_as u f e live none = live (λ q. (λ i. sym e i q) ∙ none q)
 
   pub member_keeps : (f : List D → Bool) → walk {A = A} R made_member ≡ either f (walk {A = A} R made_member)
-  member_keeps f = pointwise (λ q. member_walk made_member (ap ends outs-Member) q ∙ sym (or_true (f q)) ∙ (λ i. f q || sym (member_walk made_member (ap ends outs-Member) q) i))
+  member_keeps f = pointwise (λ q. member_walk made_member (ap ends outs-Member) q ∙ sym (or_always (f q)) ∙ (λ i. f q || sym (member_walk made_member (ap ends outs-Member) q) i))
 
   -- the empty list begins all
   pub nil_covers : (l : List D) (f : List D → Bool) → length l ≡ 0 → walk {A = A} R made_member ≡ either (begins R l) f
@@ -358,7 +343,7 @@ module _ {D A : Type 0} (R : D → D → Ordering) where
   nil_begins (x ∷ l) e = absurd (omega (arith, e))
 
   pub alone : (x : D) (p l : List D) (t s : Trie D A) → l ≡ x ∷ p → walk R t ≡ either (starts R x (begins R p)) (walk R s) → ((q : List D) → walk R s q ≡ false) → walk R t ≡ begins R l
-  alone x p l t s e h none = h ∙ pointwise (λ q. (λ i. starts R x (begins R p) q || none q i) ∙ or-false (starts R x (begins R p) q)) ∙ (λ i. sym (begins-starts R x p) i) ∙ (λ i. begins R (sym e i))
+  alone x p l t s e h none = h ∙ pointwise (λ q. (λ i. starts R x (begins R p) q || none q i) ∙ or_nothing (starts R x (begins R p) q)) ∙ (λ i. sym (begins-starts R x p) i) ∙ (λ i. begins R (sym e i))
 
   module _ (o : IsTotalOrder R) (ex : IsExact R) (m n : BTreeMap D (Arc (Trie D A) A) A) (x : D) (u : Trie D A) (s : IsOrdered R n) (kids : (y : D) → node_of R n y ≡ cond (is_eq (R x y)) (Some u) (node_of R m y)) where
     pub fork_set_good : IsTrie R (made m) → IsTrie R u → IsLive R u → IsTrie R (made n)
@@ -410,7 +395,7 @@ module _ {D A : Type 0} (R : D → D → Ordering) where
       met_walk = fork_set_walk o ex m n x (arc_value a) s kids f old_walk (λ q. refl) is.1
 
     pub met_gone : (u : Trie D A) → node_of R m x ≡ None → walk R u ≡ f → walk R u ≡ either f old_walk
-    met_gone u gone e = e ∙ pointwise (λ q. sym (or-false (f q)) ∙ (λ i. f q || walk_on (λ w. walk R w q) (sym gone i)))
+    met_gone u gone e = e ∙ pointwise (λ q. sym (or_nothing (f q)) ∙ (λ i. f q || walk_on (λ w. walk R w q) (sym gone i)))
 
     pub met_found : (u w : Trie D A) → node_of R m x ≡ Some w → walk R u ≡ either f (walk R w) → walk R u ≡ either f old_walk
     met_found u w found e = e ∙ pointwise (λ q i. f q || walk_on (λ v. walk R v q) (sym found i))
@@ -539,7 +524,7 @@ module _ {D A : Type 0} (R : D → D → Ordering) where
     starts_here q = ap (λ r. is_eq r && walk R n q) (tied_itself o x)
 
     pub gone_not_within : node_of R m x ≡ None → IsLive R n → IsWithin (starts R x (walk R n)) (walk R t) → ⊥
-    gone_not_within gone live w = live (λ q. not_true (walk R n q) (λ e. true≢false (sym (w.at (x ∷ q) (starts_here q ∙ e)) ∙ there_walk q ∙ ap (walk_on (λ w. walk R w q)) gone)))
+    gone_not_within gone live w = live (λ q. is_false (walk R n q) (λ e. true≢false (sym (w.at (x ∷ q) (starts_here q ∙ e)) ∙ there_walk q ∙ ap (walk_on (λ w. walk R w q)) gone)))
 
     module _ (k : Trie D A) (found : node_of R m x ≡ Some k) where
       pub known_within : IsWithin (walk R n) (walk R k) → IsWithin (starts R x (walk R n)) (walk R t)

@@ -1,11 +1,7 @@
 -- Parts of a list, and what stands at a place of them.
 use Rattle.std.proofs.Common.{◌≡◌, ℕ, ◌+◌, ◌-◌, ◌<◌, ◌≤◌, List, ◌∷◌, ◌++◌, length, length-append, Option, refl, subst, arith}
-use Rattle.aud_lattice.specs.Splits.{Found, found_left, found_right}
-
--- a part of a list that begins at a place
-pub record IsPart {T : Type 0} (all : List T) (skip : ℕ) (part : List T) : Type 0 where
-  pub fits : skip + length part ≤ length all
-  pub found : (n m : ℕ) (x : Option T) → m ≡ skip + n → n < length part → Found part n x → Found all m x
+use Rattle.aud_lattice.specs.Trees.{Found, IsPart}
+use Rattle.aud_lattice.proofs.Splits.{found_left, found_right}
 
 pub part_all : {T : Type 0} (xs : List T) → IsPart xs 0 xs
 part_all xs = record {

@@ -6,14 +6,9 @@ use Rattle.std.specs.Cmp.{IsTotalOrder}
 use Rattle.std.proofs.lemmas.Bool.{cases_lt, or_cases}
 use Rattle.std.proofs.lemmas.List.{get_or_default}
 use Rattle.aud_event.specs.Exact.{IsExact}
-use Rattle.aud_lattice.specs.Covers.{cover_cmp, begins, IsCover, covers, cover_union, HasBeginning}
+use Rattle.aud_lattice.specs.Covers.{cover_cmp, begins, IsCover, covers, cover_union, HasBeginning, IsKept}
 use Rattle.aud_lattice.specs.Covering.{begins_itself, begins_trans, begins_ties, begun_ties, same_list, covers-cover_union, cover_cover_union, Less≢Equal}
-use Rattle.aud_lattice.specs.Strict.{strict_at, some_passes, one_passes}
-
--- p is in either, and nothing in either is a proper beginning of it
-pub record IsKept {D : Type 0} (cmp : D → D → Ordering) (ps qs : List (List D)) (p : List D) : Type 0 where
-  pub there : Contains ps p ⊎ Contains qs p
-  pub least : (q : List D) → Contains ps q ⊎ Contains qs q → begins cmp q p ≡ true → q ≡ p
+use Rattle.aud_lattice.proofs.Strict.{strict_at, some_passes, one_passes}
 
 module _ {D : Type 0} {R : D → D → Ordering} (o : IsTotalOrder R) (ex : IsExact R) where
   -- what covers is a member

@@ -10,22 +10,9 @@ use Rattle.std.proofs.lemmas.Bool.{or_cases}
 use Rattle.aud_event.specs.Exact.{IsExact}
 use Rattle.aud_lattice.specs.Sets.{has, with_item, union, inserted}
 use Rattle.aud_lattice.specs.Sorted.{has-with_item, has-union, same_sorted}
-use Rattle.aud_lattice.specs.Strict.{some_passes, one_passes}
-use Rattle.aud_lattice.specs.Pours.{has-inserted, sorted_inserted}
-
-or_first : (a b : Bool) → a ≡ true → (a || b) ≡ true
-or_first a b e = ap (λ c. c || b) e
-
-or_second : (a b : Bool) → b ≡ true → (a || b) ≡ true
-or_second true b e = refl
-or_second false b e = e
-
--- two tests that pass together are one
-same_test : (a b : Bool) → (a ≡ true → b ≡ true) → (b ≡ true → a ≡ true) → a ≡ b
-same_test true true f g = refl
-same_test true false f g = absurd (true≢false (sym (f refl)))
-same_test false true f g = absurd (true≢false (sym (g refl)))
-same_test false false f g = refl
+use Rattle.aud_lattice.proofs.Strict.{some_passes, one_passes}
+use Rattle.aud_lattice.proofs.Pours.{has-inserted, sorted_inserted}
+use Rattle.aud_event.proofs.Bools.{or_right, same_bools, true_or}
 
 module _ {T : Type 0} {R : T → T → Ordering} (o : IsTotalOrder R) (ex : IsExact R) where
   pub has_member : (xs : List T) (x : T) → Contains xs x → has R xs x ≡ true
@@ -49,8 +36,8 @@ module _ {T : Type 0} {R : T → T → Ordering} (o : IsTotalOrder R) (ex : IsEx
 
       to : Contains ys q ⊎ (q ≡ x) → Contains (with_item R x ys) q
       to h = member_of (with_item R x ys) q (has-with_item o x ys q ∙ elim h [
-        | inl there ↦ or_second (eq_by_cmp R q x) (has R ys q) (has_member ys q there)
-        | inr new ↦ or_first (eq_by_cmp R q x) (has R ys q) (ap (λ z. is_eq (R q z)) (sym new) ∙ ap is_eq (tied_itself o q))
+        | inl there ↦ or_right (eq_by_cmp R q x) (has R ys q) (has_member ys q there)
+        | inr new ↦ true_or (eq_by_cmp R q x) (has R ys q) (ap (λ z. is_eq (R q z)) (sym new) ∙ ap is_eq (tied_itself o q))
       ])
 
   pub contains_union : (xs ys : List T) (q : T) → Contains (union R xs ys) q ↔ (Contains xs q ⊎ Contains ys q)
@@ -64,15 +51,15 @@ module _ {T : Type 0} {R : T → T → Ordering} (o : IsTotalOrder R) (ex : IsEx
 
       to : Contains xs q ⊎ Contains ys q → Contains (union R xs ys) q
       to h = member_of (union R xs ys) q (has-union o xs ys q ∙ elim h [
-        | inl first ↦ or_first (has R xs q) (has R ys q) (has_member xs q first)
-        | inr second ↦ or_second (has R xs q) (has R ys q) (has_member ys q second)
+        | inl first ↦ true_or (has R xs q) (has R ys q) (has_member xs q first)
+        | inr second ↦ or_right (has R xs q) (has R ys q) (has_member ys q second)
       ])
 
   -- sorted lists with the same members are one
   pub same_members : (xs ys : List T) → IsStrictlySortedBy R xs → IsStrictlySortedBy R ys → ((x : T) → Contains xs x ↔ Contains ys x) → xs ≡ ys
   same_members xs ys s t same =
       same_sorted o ex xs ys s t
-      (λ q. same_test (has R xs q) (has R ys q) (λ e. has_member ys q ((same q).0 (member_of xs q e))) (λ e. has_member xs q ((same q).1 (member_of ys q e))))
+      (λ q. same_bools (has R xs q) (has R ys q) (λ e. has_member ys q ((same q).0 (member_of xs q e))) (λ e. has_member xs q ((same q).1 (member_of ys q e))))
 
   or_none : (a : Bool) → (a || false) ≡ a
   or_none true = refl
@@ -83,7 +70,7 @@ module _ {T : Type 0} {R : T → T → Ordering} (o : IsTotalOrder R) (ex : IsEx
   unfolding IsStrictlySortedBy
   inserted_is xs ys s same =
       same_sorted o ex ys (inserted R xs []) s (sorted_inserted o ex xs [] tt)
-      (λ q. same_test (has R ys q) (has R xs q) (λ e. has_member xs q ((same q).0 (member_of ys q e))) (λ e. has_member ys q ((same q).1 (member_of xs q e)))
+      (λ q. same_bools (has R ys q) (has R xs q) (λ e. has_member xs q ((same q).0 (member_of ys q e))) (λ e. has_member ys q ((same q).1 (member_of xs q e)))
       ∙ sym (has-inserted o ex xs [] q ∙ or_none (has R xs q)))
 
   -- the members once x is put in, whether x was there or not
