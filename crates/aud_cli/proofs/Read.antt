@@ -24,15 +24,15 @@ module _ (plan : PlanOf) (test : Filled → Bool) where
   -- one line more
   pub one_more : (fs : List Fact) (f : Fact) (ls more : List Filled) (l : Filled) → ls ≡ l ∷ more → test l ≡ true → fact_at plan l.number l.line ≡ Ok f
       → onto fs (facts_read plan (filter test ls)) ≡ onto (fs ++ f ∷ []) (facts_read plan (filter test more))
-  one_more fs f ls more l is behind read =
-      ap (λ xs. onto fs (facts_read plan (filter test xs))) is ∙ (ap (onto fs) (taken (test l) l (filter test more) behind)
+  one_more fs f ls more l is after read =
+      ap (λ xs. onto fs (facts_read plan (filter test xs))) is ∙ (ap (onto fs) (taken (test l) l (filter test more) after)
       ∙ (ap (λ r. onto fs (with_fact r (facts_read plan (filter test more)))) read ∙ onto-with fs f (facts_read plan (filter test more))))
 
   -- a line that is refused
   pub refused : (fs : List Fact) (e : InputFault) (ls more : List Filled) (l : Filled) → ls ≡ l ∷ more → test l ≡ true → fact_at plan l.number l.line ≡ Err e
       → onto fs (facts_read plan (filter test ls)) ≡ Err e
-  refused fs e ls more l is behind read =
-      ap (λ xs. onto fs (facts_read plan (filter test xs))) is ∙ (ap (onto fs) (taken (test l) l (filter test more) behind)
+  refused fs e ls more l is after read =
+      ap (λ xs. onto fs (facts_read plan (filter test xs))) is ∙ (ap (onto fs) (taken (test l) l (filter test more) after)
       ∙ ap (λ r. onto fs (with_fact r (facts_read plan (filter test more)))) read)
 
   left_out : (b : Bool) (l : Filled) (ls : List Filled) → b ≡ false → facts_read plan (cond b (l ∷ ls) ls) ≡ facts_read plan ls

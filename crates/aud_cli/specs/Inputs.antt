@@ -15,8 +15,8 @@ pub record InputOf : Type 0 where
   pub facts : List Fact
 
 -- the lines that are not empty and end after the first `used` bytes
-abbrev pub lines_behind : ℕ → List ℕ → List Filled
-lines_behind used text = filter (λ l. nat_lt used l.ends) (filled_lines text)
+abbrev pub lines_after : ℕ → List ℕ → List Filled
+lines_after used text = filter (λ l. nat_lt used l.ends) (filled_lines text)
 
 -- what a line says, with the number of the line where it is refused
 abbrev pub told_at : ℕ → Result Fact TextFault → Result Fact InputFault
@@ -41,10 +41,10 @@ abbrev pub with_plan : PlanOf → Result (List Fact) InputFault → Result Input
 with_plan plan (Err e) = Err e
 with_plan plan (Ok fs) = Ok (record { plan = plan; facts = fs })
 
-abbrev pub behind_plan : List ℕ → Result (PlanOf × ℕ) PlanTextFault → Result InputOf InputFault
-behind_plan text (Err e) = Err (Plan e)
-behind_plan text (Ok p) = with_plan p.0 (facts_read p.0 (lines_behind p.1 text))
+abbrev pub after_plan : List ℕ → Result (PlanOf × ℕ) PlanTextFault → Result InputOf InputFault
+after_plan text (Err e) = Err (Plan e)
+after_plan text (Ok p) = with_plan p.0 (facts_read p.0 (lines_after p.1 text))
 
 -- what a text says: a plan and facts, or the first line that is refused
 abbrev pub input_read : List ℕ → Result InputOf InputFault
-input_read text = behind_plan text (plan_read text)
+input_read text = after_plan text (plan_read text)

@@ -2,7 +2,7 @@
 
 ghost use Rattle.std.specs.Prelude.{◌≡◌, ◌⊎◌, All, None, Ok, Err, IfOk, MatchResult};
 ghost use Rattle.aud_event.specs.Facts.{first_fact_fault};
-ghost use Rattle.aud_cli.specs.Inputs.{fact_at, facts_read, input_read, lines_behind};
+ghost use Rattle.aud_cli.specs.Inputs.{fact_at, facts_read, input_read, lines_after};
 
 use aud_event::{Fact, Plan};
 use aud_text::{PlanTextFault, TextFault, next_filled, read_fact, read_plan};
@@ -53,8 +53,8 @@ fn fact_of(alloc: Global, plan: &Plan, number: usize, line: &[u8]) -> Result<Fac
 
 /// The facts of the lines that end after the first `used` bytes, in one pass and with no copy of a line.
 fn read_facts(alloc: Global, plan: &Plan, text: &[u8], used: usize) -> Result<Vec<Fact>, InputFault>
-    ensures read { MatchResult result (λ facts. facts_read plan.now (lines_behind used text.now) ≡ Ok facts.items)
-        (λ e. (e ≡ InputFault.OutOfMemory) ⊎ (facts_read plan.now (lines_behind used text.now) ≡ Err e)) }
+    ensures read { MatchResult result (λ facts. facts_read plan.now (lines_after used text.now) ≡ Ok facts.items)
+        (λ e. (e ≡ InputFault.OutOfMemory) ⊎ (facts_read plan.now (lines_after used text.now) ≡ Err e)) }
     ensures sound { IfOk result (λ facts. All (λ f. first_fact_fault plan.now f ≡ None) facts.items) }
 {
     let mut facts = Vec::new(alloc);

@@ -12,7 +12,7 @@ use Rattle.aud_lattice.specs.declared.trie.Trie.TheOpen.{Member, Fork}
 use Rattle.aud_lattice.specs.Marks.{mark_of}
 use Rattle.aud_lattice.proofs.Marked.{covered_is, inner_is}
 use Rattle.aud_lattice.specs.Paths.{paths}
-use Rattle.aud_lattice.proofs.Pathed.{marks, member_mark, fork_mark, bare_end, full_end, gone_mark, known_mark, mark_behind, mark_nowhere}
+use Rattle.aud_lattice.proofs.Pathed.{marks, member_mark, fork_mark, bare_end, full_end, gone_mark, known_mark, mark_under, mark_nowhere}
 use Rattle.aud_lattice.proofs.Tries.{child_size, fork_child, found_node, gone_node}
 use Rattle.aud_lattice.specs.Walks.{node_of, node_at, walk_mark, IsTrie}
 use Rattle.aud_witness.specs.declared.decision.Decision.{Decision}
@@ -64,7 +64,7 @@ module _ {A : Type 0} (cover : List (List Decision)) (root : Trie Decision A) (g
   root-leads q = root_mark q
 
   pub node-leads : (p : List Decision) (u : Trie Decision A) → node_at decision_cmp p root ≡ Some u → LeadsTo cover p u
-  node-leads p u found q = root_mark (p ++ q) ∙ mark_behind decision_cmp p root u found q
+  node-leads p u found q = root_mark (p ++ q) ∙ mark_under decision_cmp p root u found q
 
   pub nowhere-outside : (p : List Decision) → node_at decision_cmp p root ≡ None → (mark_of decision_cmp cover p ≡ Covered → ⊥) → (IsCovered cover p → ⊥) × (IsInside cover p → ⊥)
   nowhere-outside p none apart = is-outside cover p (root_mark p ∙ mark_nowhere decision_cmp p root none (λ c. apart (root_mark p ∙ c)))

@@ -59,7 +59,7 @@ pub fn closed<A: Allocator + Copy>(
     if let Mark::Covered = cover.mark(prefix.decisions()) {
         return Ok(true);
     }
-    let Some(mut cursor) = Cursor::behind(alloc, shape, prefix.decisions())? else {
+    let Some(mut cursor) = Cursor::after(alloc, shape, prefix.decisions())? else {
         return Ok(true);
     };
     match cover.trie().node(prefix.decisions()) {

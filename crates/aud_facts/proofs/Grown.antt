@@ -29,9 +29,9 @@ use Rattle.aud_facts.proofs.Sealing.{not_first, IsSealed, sealed_says, none_belo
 use Rattle.aud_event.proofs.Bools.{unnegated, or_right, true_or, or_false}
 
 -- a conflict of some kind is reported
-told_behind : (k : Kind) (o : Option Place) (s : FactStatus) → IsConflict s → IsConflict (told k o s)
-told_behind k None s c = c
-told_behind k (Some p) s c = tt
+told_after : (k : Kind) (o : Option Place) (s : FactStatus) → IsConflict s → IsConflict (told k o s)
+told_after k None s c = c
+told_after k (Some p) s c = tt
 
 told_here : (k : Kind) (o : Option Place) (s : FactStatus) → (o ≡ None → ⊥) → IsConflict (told k o s)
 told_here k None s c = absurd (c refl)
@@ -39,14 +39,14 @@ told_here k (Some p) s c = tt
 
 pub in_conflict : (k : Kind) (logs : ℕ) (facts : List Fact) → (conflict k facts ≡ None → ⊥) → IsConflict (fact_status logs facts)
 in_conflict TwoRecords logs facts c = told_here TwoRecords (conflict TwoRecords facts) _ c
-in_conflict StampTwice logs facts c = told_behind TwoRecords (conflict TwoRecords facts) _ (told_here StampTwice (conflict StampTwice facts) _ c)
-in_conflict TwoCounts logs facts c = told_behind TwoRecords (conflict TwoRecords facts) _ (told_behind StampTwice (conflict StampTwice facts) _ (told_here TwoCounts (conflict TwoCounts facts) _ c))
+in_conflict StampTwice logs facts c = told_after TwoRecords (conflict TwoRecords facts) _ (told_here StampTwice (conflict StampTwice facts) _ c)
+in_conflict TwoCounts logs facts c = told_after TwoRecords (conflict TwoRecords facts) _ (told_after StampTwice (conflict StampTwice facts) _ (told_here TwoCounts (conflict TwoCounts facts) _ c))
 in_conflict PastCount logs facts c =
-    told_behind TwoRecords (conflict TwoRecords facts) _ (told_behind StampTwice (conflict StampTwice facts) _ (told_behind TwoCounts (conflict TwoCounts facts) _
+    told_after TwoRecords (conflict TwoRecords facts) _ (told_after StampTwice (conflict StampTwice facts) _ (told_after TwoCounts (conflict TwoCounts facts) _
     (told_here PastCount (conflict PastCount facts) _ c)))
 in_conflict StampOrder logs facts c =
-    told_behind TwoRecords (conflict TwoRecords facts) _ (told_behind StampTwice (conflict StampTwice facts) _ (told_behind TwoCounts (conflict TwoCounts facts) _
-    (told_behind PastCount (conflict PastCount facts) _ (told_here StampOrder (conflict StampOrder facts) _ c))))
+    told_after TwoRecords (conflict TwoRecords facts) _ (told_after StampTwice (conflict StampTwice facts) _ (told_after TwoCounts (conflict TwoCounts facts) _
+    (told_after PastCount (conflict PastCount facts) _ (told_here StampOrder (conflict StampOrder facts) _ c))))
 
 least_some : (p : Place) (o : Option Place) → least_with p o ≡ None → ⊥
 least_some p None e = cc

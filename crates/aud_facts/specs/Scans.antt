@@ -62,14 +62,14 @@ abbrev pub AreWithin : List Fact → Type 0
 AreWithin facts = AllByRecursion IsWithin facts
 
 -- a search that found something goes no further
-abbrev pub twins_behind : Search → List Fact → Option Place
-twins_behind s rest = option_or s.found (twins s.last rest)
+abbrev pub twins_after : Search → List Fact → Option Place
+twins_after s rest = option_or s.found (twins s.last rest)
 
-abbrev pub counts_behind : Search → List Fact → Option Place
-counts_behind s rest = option_or s.found (marks_twice s.last rest)
+abbrev pub counts_after : Search → List Fact → Option Place
+counts_after s rest = option_or s.found (marks_twice s.last rest)
 
-abbrev pub falls_behind : Search → List Fact → Option Place
-falls_behind s rest = option_or s.found (falls s.last rest)
+abbrev pub falls_after : Search → List Fact → Option Place
+falls_after s rest = option_or s.found (falls s.last rest)
 
 -- a count that is there, and is at most n
 abbrev pub is_bounded : Option ℕ → ℕ → Bool

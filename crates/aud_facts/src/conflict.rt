@@ -206,7 +206,7 @@ fn missing<A: Allocator + Copy>(set: &UnionSet<Fact, A>, marks: &[u8], n: usize)
 }
 
 // The status after conflicts of records at one place and of stamps at two.
-fn status_behind<A: Allocator + Copy>(
+fn status_after<A: Allocator + Copy>(
     set: &UnionSet<Fact, A>,
     survey: &Survey,
     marks: &[u8],
@@ -262,7 +262,7 @@ fn status_by<A: Allocator + Copy>(
     if let Some((log, at)) = first_stamp_twice(set, survey, marks) {
         return FactStatus::Conflict(Kind::StampTwice, log, at);
     }
-    status_behind(set, survey, marks, logs)
+    status_after(set, survey, marks, logs)
 }
 
 /// The status, and how many records there are. It does not allocate, but takes 256 KiB of the stack, and walks over the facts

@@ -2,7 +2,7 @@
 
 ghost use Rattle.std.specs.Prelude.{◌≡◌, ◌∷◌, List, None};
 ghost use Rattle.aud_event.specs.declared.fact.Fact.{Fact};
-ghost use Rattle.aud_facts.specs.Scans.{is_at, is_in, is_fall, twins_behind, counts_behind, falls_behind};
+ghost use Rattle.aud_facts.specs.Scans.{is_at, is_in, is_fall, twins_after, counts_after, falls_after};
 
 use aud_event::{EndMark, Record};
 
@@ -53,7 +53,7 @@ impl Search {
 
     /// Goes on to a record, in search of one at the place of the one before it.
     pub fn see_place(&mut self, seen: &Record)
-        ensures { (rest : List Fact) → twins_behind self.new rest ≡ twins_behind self.old (Fact.Rec seen.now ∷ rest) }
+        ensures { (rest : List Fact) → twins_after self.new rest ≡ twins_after self.old (Fact.Rec seen.now ∷ rest) }
     {
         if self.found.is_none() && stands_at(self.last, seen.log, seen.at) {
             self.found = Some((seen.log, seen.at));
@@ -63,7 +63,7 @@ impl Search {
 
     /// Goes on to a record, in search of one whose stamp is not above that of the one before it in its log.
     pub fn see_stamp(&mut self, seen: &Record)
-        ensures { (rest : List Fact) → falls_behind self.new rest ≡ falls_behind self.old (Fact.Rec seen.now ∷ rest) }
+        ensures { (rest : List Fact) → falls_after self.new rest ≡ falls_after self.old (Fact.Rec seen.now ∷ rest) }
     {
         if self.found.is_none() && falls_from(self.last, seen.log, seen.stamp) {
             self.found = Some((seen.log, seen.at));
@@ -73,7 +73,7 @@ impl Search {
 
     /// Goes on to an end mark, in search of one of the log of the next.
     pub fn see_count(&mut self, seen: &EndMark)
-        ensures { (rest : List Fact) → counts_behind self.new rest ≡ counts_behind self.old (Fact.End seen.now ∷ rest) }
+        ensures { (rest : List Fact) → counts_after self.new rest ≡ counts_after self.old (Fact.End seen.now ∷ rest) }
     {
         if self.found.is_none() && stands_in(self.last, seen.log) {
             self.found = self.last;

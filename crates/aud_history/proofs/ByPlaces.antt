@@ -36,7 +36,7 @@ IsBefore-from_test h t u b =
     (inner.0, inner.1, (a, (from_first u h, (is, not_true (is_in (from_first u h) t) outer.1, none))))
 
 pub test-from_IsBefore : (h : History) (t u : ℕ) → IsBefore h t u → is_before h t u ≡ true
-test-from_IsBefore h t u (done, there, (a, (b, (is, behind, front)))) =
+test-from_IsBefore h t u (done, there, (a, (b, (is, after, front)))) =
     let rest : from_first u h ≡ from_first u b = ap (from_first u) is ∙ from_first-append u a b front in
-    let none : is_in (from_first u h) t ≡ false = ap (λ l. is_in l t) rest ∙ not_in_rest u t b behind in
+    let none : is_in (from_first u h) t ≡ false = ap (λ l. is_in l t) rest ∙ not_in_rest u t b after in
     true_and (is_completed h t && is_in h u) (not (is_in (from_first u h) t)) (true_and (is_completed h t) (is_in h u) done there) (not_false (is_in (from_first u h) t) none)

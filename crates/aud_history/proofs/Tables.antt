@@ -182,9 +182,9 @@ last_stamp-absent (x ∷ h) t none =
 
 -- # What a transaction did
 
-nothing_behind : (es : List Event) (x : Event) → Passes Ended (es ++ x ∷ []) → ⊥
-nothing_behind [] x p = p
-nothing_behind (e ∷ es) x p = p
+nothing_after : (es : List Event) (x : Event) → Passes Ended (es ++ x ∷ []) → ⊥
+nothing_after [] x p = p
+nothing_after (e ∷ es) x p = p
 
 -- what stands before another event is no end
 no_end : (s : TxState) (e : Event) (es : List Event) (x : Event) → Passes s (e ∷ (es ++ x ∷ [])) → (is_commit e ≡ false) × (is_abort e ≡ false)
@@ -194,13 +194,13 @@ no_end s TryC es x p = (refl, refl)
 no_end s TryA es x p = (refl, refl)
 no_end Idle Commit es x p = absurd p
 no_end (Pending _ _) Commit es x p = absurd p
-no_end TriedCommit Commit es x p = absurd (nothing_behind es x p)
+no_end TriedCommit Commit es x p = absurd (nothing_after es x p)
 no_end TriedAbort Commit es x p = absurd p
 no_end Ended Commit es x p = absurd p
 no_end Idle Abort es x p = absurd p
-no_end (Pending _ _) Abort es x p = absurd (nothing_behind es x p)
-no_end TriedCommit Abort es x p = absurd (nothing_behind es x p)
-no_end TriedAbort Abort es x p = absurd (nothing_behind es x p)
+no_end (Pending _ _) Abort es x p = absurd (nothing_after es x p)
+no_end TriedCommit Abort es x p = absurd (nothing_after es x p)
+no_end TriedAbort Abort es x p = absurd (nothing_after es x p)
 no_end Ended Abort es x p = absurd p
 
 no_end-before : (s : TxState) (es : List Event) (x : Event) → Passes s (es ++ x ∷ []) → (list_any is_commit es ≡ false) × (list_any is_abort es ≡ false)
@@ -270,8 +270,8 @@ no_invocation-tried (Inv _ _ ∷ es) ob op p = p
 no_invocation-tried (Ret _ _ _ ∷ es) ob op p = p
 no_invocation-tried (TryC ∷ es) ob op p = p
 no_invocation-tried (TryA ∷ es) ob op p = p
-no_invocation-tried (Commit ∷ es) ob op p = nothing_behind es (Inv ob op) p
-no_invocation-tried (Abort ∷ es) ob op p = nothing_behind es (Inv ob op) p
+no_invocation-tried (Commit ∷ es) ob op p = nothing_after es (Inv ob op) p
+no_invocation-tried (Abort ∷ es) ob op p = nothing_after es (Inv ob op) p
 
 no_invocation-given_up : (es : List Event) (ob : ℕ) (op : Op) → Passes TriedAbort (es ++ Inv ob op ∷ []) → ⊥
 no_invocation-given_up [] ob op p = p
@@ -280,7 +280,7 @@ no_invocation-given_up (Ret _ _ _ ∷ es) ob op p = p
 no_invocation-given_up (TryC ∷ es) ob op p = p
 no_invocation-given_up (TryA ∷ es) ob op p = p
 no_invocation-given_up (Commit ∷ es) ob op p = p
-no_invocation-given_up (Abort ∷ es) ob op p = nothing_behind es (Inv ob op) p
+no_invocation-given_up (Abort ∷ es) ob op p = nothing_after es (Inv ob op) p
 
 abbrev empty_block : BlockOf
 empty_block = record { executions = []; trailing = None }
@@ -322,7 +322,7 @@ block-push (Inv ob op ∷ Inv _ _ ∷ es) x p = absurd p
 block-push (Inv ob op ∷ TryC ∷ es) x p = absurd p
 block-push (Inv ob op ∷ TryA ∷ es) x p = absurd p
 block-push (Inv ob op ∷ Commit ∷ es) x p = absurd p
-block-push (Inv ob op ∷ Abort ∷ es) x p = absurd (nothing_behind es x p)
+block-push (Inv ob op ∷ Abort ∷ es) x p = absurd (nothing_after es x p)
 block-push (Ret _ _ _ ∷ es) x p = absurd p
 block-push (TryC ∷ es) (Inv ob op) p = absurd (no_invocation-tried es ob op p)
 block-push (TryC ∷ es) (Ret _ _ _) p = refl

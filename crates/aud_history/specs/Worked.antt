@@ -56,8 +56,8 @@ abbrev pub one_is_written : History
 one_is_written = executed 1 0 (Write (pos 1)) Done
 
 -- T2 reads what T1 committed, and commits
-abbrev pub reader_behind_commit : History
-reader_behind_commit = one_is_written ++ commits 1 ++ executed 2 0 Read (Int (pos 1)) ++ commits 2
+abbrev pub reader_after_commit : History
+reader_after_commit = one_is_written ++ commits 1 ++ executed 2 0 Read (Int (pos 1)) ++ commits 2
 
 -- T2 sees x from before T1 and y from after it. That it aborts does not excuse it
 abbrev pub torn_read_then_abort : History
@@ -74,8 +74,8 @@ abbrev pub pending_commit_is_unseen : History
 pending_commit_is_unseen = one_is_written ++ (1, TryC) ∷ [] ++ executed 2 0 Read (Int (pos 0)) ++ commits 2
 
 -- T2 begins after the commit of T1 and misses what it wrote
-abbrev pub stale_read_behind_commit : History
-stale_read_behind_commit = one_is_written ++ commits 1 ++ executed 2 0 Read (Int (pos 0)) ++ commits 2
+abbrev pub stale_read_after_commit : History
+stale_read_after_commit = one_is_written ++ commits 1 ++ executed 2 0 Read (Int (pos 0)) ++ commits 2
 
 -- T2 sees what T1 wrote, which never asked to commit
 abbrev pub live_write_is_seen : History

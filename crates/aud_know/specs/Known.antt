@@ -34,7 +34,7 @@ knowing plan xs = record { plan = plan; held = norm_of xs }
 abbrev pub Takes : Held → Held → List KnownAtom → Type 0
 Takes old new atoms = (xs : List KnownAtom) → old ≡ norm_of xs → new ≡ norm_of (xs ++ atoms)
 
--- the list behind a link, if there is one
+-- the list after a link, if there is one
 abbrev pub linked : {T Z : Type 0} → Option (Arc T Z) → Option T
 linked None = None
 linked (Some a) = Some (arc_value a)

@@ -17,7 +17,7 @@ use Rattle.aud_lattice.proofs.Strict.{some_passes, one_passes}
 use Rattle.aud_lattice.specs.declared.trie.Trie.{Trie, out-Trie}
 use Rattle.aud_lattice.specs.declared.trie.Trie.TheVariants.{Fork as made, outs-Fork}
 use Rattle.aud_lattice.specs.declared.trie.Trie.TheOpen.{Trie-F, Member, Fork}
-use Rattle.aud_lattice.specs.Walks.{nodes_of, node_of, ends, behind, IsLayer, is_member, child, walk_on, walk, leads, nothing, but, after, starts, IsLive, IsTrie, AreAlikeBut}
+use Rattle.aud_lattice.specs.Walks.{nodes_of, node_of, ends, under, IsLayer, is_member, child, walk_on, walk, leads, nothing, but, after, starts, IsLive, IsTrie, AreAlikeBut}
 use Rattle.aud_lattice.specs.Paths.{paths}
 use Rattle.aud_lattice.proofs.Pathed.{pathed, paths_member, paths_fork, same_paths, none_paths, and_none, and_more, on_found}
 use Rattle.aud_lattice.proofs.Tries.{pointwise, any_by, any_by-get, good_here, good_child, live_child, fork_child, fork_member, found_kids, sorted_nodes}
@@ -99,7 +99,7 @@ module _ {D A : Type 0} (R : D → D → Ordering) where
     held-paths (y ∷ q) t h = cases (λ u g. held-paths q u g) (out-Trie D A t) refl
       where
         cases : ((u : Trie D A) → IsTrie R u → held R (paths u) q ≡ leads R u q) → (l : Trie-F D A (Trie D A)) → out-Trie D A t ≡ l → held R (paths t) (y ∷ q) ≡ leads R t (y ∷ q)
-        cases further Member e = ap (λ ps. held R ps (y ∷ q)) (paths_member R t e) ∙ sym (ap (λ l. walk_on (λ u. leads R u q) (behind R l y)) e)
+        cases further Member e = ap (λ ps. held R ps (y ∷ q)) (paths_member R t e) ∙ sym (ap (λ l. walk_on (λ u. leads R u q) (under R l y)) e)
         cases further (Fork m) e =
             ap (λ ps. held R ps (y ∷ q)) (paths_fork R t m e)
             ∙ pathed_more (nodes_of m.entries) y q
@@ -173,7 +173,7 @@ module _ {D A : Type 0} (R : D → D → Ordering) where
               or_last true b e = absurd (true≢false e)
               or_last false b e = e
 
-    -- a node put behind x, where none was
+    -- a node put under x, where none was
     pub set_leads : (m n : BTreeMap D (Arc (Trie D A) A) A) (x : D) (u : Trie D A) → ((y : D) → node_of R n y ≡ cond (is_eq (R x y)) (Some u) (node_of R m y)) → node_of R m x ≡ None →
         leads R (made n) ≡ either (starts R x (leads R u)) (leads R (made m))
     set_leads m n x u kids absent = pointwise each
@@ -189,7 +189,7 @@ module _ {D A : Type 0} (R : D → D → Ordering) where
             ∙ cases y q (is_eq (R x y)) refl
             ∙ (λ i. (is_eq (R x y) && leads R u q) || walk_on (λ w. leads R w q) (sym (fork_child R (made m) m (outs-Fork m) y) i))
 
-  -- what is left behind x
+  -- what is left under x
   there_leads : (m : BTreeMap D (Arc (Trie D A) A) A) (x : D) (q : List D) → leads R (made m) (x ∷ q) ≡ walk_on (λ w. leads R w q) (node_of R m x)
   there_leads m x q = ap (walk_on (λ w. leads R w q)) (fork_child R (made m) m (outs-Fork m) x)
 
@@ -201,7 +201,7 @@ module _ {D A : Type 0} (R : D → D → Ordering) where
 
   -- members
   pub member_leads : (t : Trie D A) → out-Trie D A t ≡ Member → (x : D) (q : List D) → leads R t (x ∷ q) ≡ false
-  member_leads t e x q = ap (λ l. walk_on (λ u. leads R u q) (behind R l x)) e
+  member_leads t e x q = ap (λ l. walk_on (λ u. leads R u q) (under R l x)) e
 
   pub member_from_member : (t u : Trie D A) → out-Trie D A t ≡ Member → out-Trie D A u ≡ Member → nothing ≡ but (leads R t) (leads R u)
   member_from_member t u e f = pointwise each

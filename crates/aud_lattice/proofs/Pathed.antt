@@ -18,12 +18,13 @@ use Rattle.aud_lattice.specs.Covering.{begins_itself, begins_trans, same_cover, 
 use Rattle.aud_lattice.specs.declared.trie.Trie.{Trie, out-Trie, roll-Trie, out-roll-Trie}
 use Rattle.aud_lattice.specs.declared.trie.Trie.TheOpen.{Trie-F, Member, Fork}
 use Rattle.aud_lattice.specs.declared.trie.Trie.TheFolds.{fold_out-Trie, map-Trie, ind-Trie}
-use Rattle.aud_lattice.specs.Walks.{nodes_of, node_of, ends, IsLayer, is_member, child, walk_on, walk, walk_mark, mark_here, mark_there, mark_on, end_mark, go_on, node_at, behind, nothing, IsLive, IsTrie, IsWithin}
+use Rattle.aud_lattice.specs.Walks.{nodes_of, node_of, ends, IsLayer, is_member, child, walk_on, walk, walk_mark, mark_here, mark_there, mark_on, end_mark, go_on, node_at, under, nothing, IsLive, IsTrie, IsWithin}
 use Rattle.aud_lattice.specs.declared.trie.Trie.TheShapes.{former-Trie-Fork-0}
 use Rattle.aud_lattice.specs.Marks.{mark_of}
 use Rattle.aud_lattice.specs.declared.mark.Mark.TheVariants.{Covered, Inner, Outside}
 use Rattle.aud_lattice.specs.Paths.{below, layer_paths, paths}
-use Rattle.aud_lattice.proofs.Tries.{none≢some, same_some, gone_on, any_by, any_by-get, good_here, good_child, live_child, fork_child, pointwise, found_kids, sorted_nodes}
+use Rattle.aud_lattice.proofs.Tries.{same_some, gone_on, any_by, any_by-get, good_here, good_child, live_child, fork_child, pointwise, found_kids, sorted_nodes}
+use Rattle.aud_event.proofs.Results.{none≢some}
 
 pub on_found : {X : Type 0} (f g : X → Bool) (o : Option X) → ((u : X) → o ≡ Some u → f u ≡ g u) → walk_on f o ≡ walk_on g o
 on_found f g None h = refl
@@ -138,7 +139,7 @@ module _ {D A : Type 0} (R : D → D → Ordering) where
             ∙ on_found (λ u. covers R (paths u) q) (λ u. walk R u q) (node_of R m y) (λ u found. further u (good_child R t y u (fork_child R t m e y ∙ found) h))
             ∙ (λ i. ends (sym e i) || walk_on (λ u. walk R u q) (sym (fork_child R t m e y) i))
 
-  -- the lists behind one element, and then those behind greater ones
+  -- the lists under one element, and then those under greater ones
   over_pathed : (j : D) (es : List (D × Trie D A)) → AllByRecursion (λ k. R j k ≡ Less) (keys_of es) → AllByRecursion (λ p. (q : List D) → cover_cmp R (j ∷ q) p ≡ Less) (pathed es)
   over_pathed j [] b = tt
   over_pathed j (e ∷ es) b = over_headed R j e.0 (paths e.1) (pathed es) b.0 (over_pathed j es b.1)
@@ -271,14 +272,14 @@ module _ {D A : Type 0} (R : D → D → Ordering) where
   known_at t m l x q u e at found = sym (ap (λ l. node_at R l t) at ∙ ap (go_on (λ u. node_at R q u)) (fork_child R t m e x ∙ found))
 
   -- what begins with a list stands to the trie as the rest of it stands to the node that the list leads to
-  pub mark_behind : (p : List D) (t u : Trie D A) → node_at R p t ≡ Some u → (q : List D) → walk_mark R t (p ++ q) ≡ walk_mark R u q
-  mark_behind [] t u e q = ap (λ w. walk_mark R w q) (same_some t u e)
-  mark_behind (x ∷ p) t u e q = cases (λ w found. mark_behind p w u found q) (out-Trie D A t) refl
+  pub mark_under : (p : List D) (t u : Trie D A) → node_at R p t ≡ Some u → (q : List D) → walk_mark R t (p ++ q) ≡ walk_mark R u q
+  mark_under [] t u e q = ap (λ w. walk_mark R w q) (same_some t u e)
+  mark_under (x ∷ p) t u e q = cases (λ w found. mark_under p w u found q) (out-Trie D A t) refl
     where
       cases : ((w : Trie D A) → node_at R p w ≡ Some u → walk_mark R w (p ++ q) ≡ walk_mark R u q) → (l : Trie-F D A (Trie D A)) → out-Trie D A t ≡ l → walk_mark R t (x ∷ (p ++ q)) ≡ walk_mark R u q
-      cases further Member is = absurd (none≢some u (sym (ap (λ l. go_on (λ w. node_at R p w) (behind R l x)) is) ∙ e))
+      cases further Member is = absurd (none≢some u (sym (ap (λ l. go_on (λ w. node_at R p w) (under R l x)) is) ∙ e))
       cases further (Fork m) is =
-          let step = gone_on (λ w. node_at R p w) (node_of R m x) u (sym (ap (λ l. go_on (λ w. node_at R p w) (behind R l x)) is) ∙ e) in
+          let step = gone_on (λ w. node_at R p w) (node_of R m x) u (sym (ap (λ l. go_on (λ w. node_at R p w) (under R l x)) is) ∙ e) in
           sym (known_mark t m (x ∷ (p ++ q)) x (p ++ q) step.0 is refl step.1) ∙ further step.0 step.2
 
   -- where a list leads nowhere, it has a beginning in the trie or stands outside
@@ -295,4 +296,4 @@ module _ {D A : Type 0} (R : D → D → Ordering) where
 
       cases : ((w : Trie D A) → node_at R p w ≡ None → (walk_mark R w p ≡ Covered → ⊥) → walk_mark R w p ≡ Outside) → (l : Trie-F D A (Trie D A)) → out-Trie D A t ≡ l → walk_mark R t (x ∷ p) ≡ Outside
       cases further Member is = absurd (apart (sym (member_mark t (x ∷ p) is)))
-      cases further (Fork m) is = step further m is (node_of R m x) refl (sym (ap (λ l. go_on (λ w. node_at R p w) (behind R l x)) is) ∙ e)
+      cases further (Fork m) is = step further m is (node_of R m x) refl (sym (ap (λ l. go_on (λ w. node_at R p w) (under R l x)) is) ∙ e)

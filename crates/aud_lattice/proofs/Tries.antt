@@ -1,5 +1,5 @@
 -- One layer of a trie, and all below it.
-use Rattle.std.proofs.Common.{◌≡◌, ◌≢◌, ℕ, ◌<◌, ◌≤◌, Bool, true, false, cond, ◌||◌, ◌&&◌, List, [], ◌∷◌, Option, Some, None, refl, sym, ap, subst, ◌∙◌, length, arith, Result, Ok, Err, IfOk, OnOk, OnErr}
+use Rattle.std.proofs.Common.{◌≡◌, ℕ, ◌<◌, ◌≤◌, Bool, true, false, cond, ◌||◌, ◌&&◌, List, [], ◌∷◌, Option, Some, None, refl, sym, ap, subst, ◌∙◌, length, arith}
 use mathlib.Core.Bool.{true≢false}
 use Rattle.std.specs.declared.cmp.Ordering.{Ordering}
 use Rattle.std.specs.declared.cmp.Ordering.TheVariants.{Less, Equal, Greater}
@@ -22,42 +22,9 @@ use denote.Hole.Carrier.{Values}
 use Rattle.aud_lattice.specs.declared.trie.Trie.TheVariants.{Fork as made, outs-Fork, Member as made_member, outs-Member}
 use Rattle.aud_lattice.specs.Sets.{either}
 use Rattle.aud_lattice.specs.declared.trie.Trie.TheOpen.{Trie-F, Member, Fork}
-use Rattle.aud_lattice.specs.Walks.{nodes_of, node_of, ends, behind, IsLayer, is_member, child, walk_on, walk, nothing, go_on, node_at, starts, IsLive, IsTrie, IsMet, IsWithin}
+use Rattle.aud_lattice.specs.Walks.{nodes_of, node_of, ends, under, IsLayer, is_member, child, walk_on, walk, nothing, go_on, node_at, starts, IsLive, IsTrie, IsMet, IsWithin}
 use Rattle.aud_event.proofs.Bools.{or_nothing, is_false, or_always}
-
-pub none≢some : {X : Type 0} (x : X) → None ≡ Some x → ⊥
-none≢some x e = cc
-
-ok≢err : {X Y : Type 0} (x : X) (y : Y) → Ok x ≡ Err y → ⊥
-ok≢err x y e = cc
-
-pub err_of : {X Y : Type 0} (r : Result X Y) (y : Y) (Q : Type 0) → r ≡ Err y → OnErr r Q → Q
-err_of (Ok x) y Q e h = absurd (ok≢err x y e)
-err_of (Err z) y Q e h = h
-
-pub ok_of : {X Y : Type 0} (r : Result X Y) (x : X) (Q : Type 0) → r ≡ Ok x → OnOk r Q → Q
-ok_of (Ok z) x Q e h = h
-ok_of (Err y) x Q e h = absurd (ok≢err x y (sym e))
-
-pub on_ok : {X Y : Type 0} (r : Result X Y) (P Q : Type 0) → (P → Q) → OnOk r P → OnOk r Q
-on_ok (Ok x) P Q f h = f h
-on_ok (Err y) P Q f h = h
-
-pub on_err : {X Y : Type 0} (r : Result X Y) (P Q : Type 0) → (P → Q) → OnErr r P → OnErr r Q
-on_err (Ok x) P Q f h = h
-on_err (Err y) P Q f h = f h
-
-pub err_anyway : {X Y : Type 0} (r : Result X Y) (Q : Type 0) → Q → OnErr r Q
-err_anyway (Ok x) Q q = tt
-err_anyway (Err y) Q q = q
-
-pub if_both : {X Y : Type 0} (r : Result X Y) (P Q S : X → Type 0) → ((x : X) → P x → Q x → S x) → IfOk r P → IfOk r Q → IfOk r S
-if_both (Ok x) P Q S f h k = f x h k
-if_both (Err y) P Q S f h k = tt
-
-pub both_ways_out : {X Y : Type 0} (r : Result X Y) (P Q S : Type 0) → (P → S) → (Q → S) → OnOk r P → OnErr r Q → S
-both_ways_out (Ok x) P Q S f g h k = f h
-both_ways_out (Err y) P Q S f g h k = g k
+use Rattle.aud_event.proofs.Results.{none≢some}
 
 pub pointwise : {X Y : Type 0} {f g : X → Y} → ((x : X) → f x ≡ g x) → f ≡ g
 pointwise h i x = h x i
@@ -179,7 +146,7 @@ module _ {D X : Type 0} {R : D → D → Ordering} (o : IsTotalOrder R) where
       cases true e = ap (λ l. first_of l (Some u)) (absent x y es s.0 e) ∙ ap (λ t. first_of (cond t (Some u) (lookup (is_at (R y)) es)) old) (sym (sym (level o x y) ∙ e))
       cases false e = ap (λ t. first_of (cond t (Some u) (lookup (is_at (R y)) es)) old) (sym (sym (level o x y) ∙ e))
 
--- the walks behind any of the entries
+-- the walks under any of the entries
 abbrev pub any_by : {D A : Type 0} → (D → D → Ordering) → (Trie D A → List D → Bool) → List (D × Trie D A) → List D → Bool
 any_by cmp F [] = nothing
 any_by cmp F (e ∷ es) = either (starts cmp e.0 (F e.1)) (any_by cmp F es)
@@ -216,7 +183,7 @@ module _ {D A : Type 0} (R : D → D → Ordering) where
   member_walk t e [] = e
   member_walk t e (x ∷ q) = ap (λ b. b || walk_on (λ u. walk R u q) (child R t x)) e
 
-  member_child : (f : Trie-F D A (Trie D A)) (x : D) (u : Trie D A) → ends f ≡ true → behind R f x ≡ Some u → ⊥
+  member_child : (f : Trie-F D A (Trie D A)) (x : D) (u : Trie D A) → ends f ≡ true → under R f x ≡ Some u → ⊥
   member_child Member x u e c = none≢some u c
   member_child (Fork m) x u e c = true≢false (sym e)
 
@@ -235,7 +202,7 @@ module _ {D A : Type 0} (R : D → D → Ordering) where
   pub bare_good : (t : Trie D A) → IsLayer R (out-Trie D A t) → ((x : D) → child R t x ≡ None) → IsTrie R t
   bare_good t layer none = good_from t layer (λ x u c. absurd (none≢some u (sym (none x) ∙ c)))
 
-  -- t' is t with the node u behind x
+  -- t' is t with the node u under x
   pub record IsSet (t : Trie D A) (x : D) (u : Trie D A) (t' : Trie D A) : Type 0 where
     pub opened : is_member t ≡ false
     pub stays : is_member t' ≡ false
@@ -266,16 +233,16 @@ module _ {D A : Type 0} (R : D → D → Ordering) where
     fork_member = ap ends at
 
     pub fork_child : (x : D) → child R t x ≡ node_of R m x
-    fork_child x = ap (λ f. behind R f x) at
+    fork_child x = ap (λ f. under R f x) at
 
     pub fork_layer : IsOrdered R m → IsLayer R (out-Trie D A t)
     fork_layer s = subst (IsLayer R) (sym at) s
 
-    pub good_behind : (x : D) (u : Trie D A) → node_of R m x ≡ Some u → IsTrie R t → IsTrie R u
-    good_behind x u e h = good_child t x u (fork_child x ∙ e) h
+    pub good_under : (x : D) (u : Trie D A) → node_of R m x ≡ Some u → IsTrie R t → IsTrie R u
+    good_under x u e h = good_child t x u (fork_child x ∙ e) h
 
-    pub live_behind : (x : D) (u : Trie D A) → node_of R m x ≡ Some u → IsTrie R t → IsLive R u
-    live_behind x u e h = live_child t x u (fork_child x ∙ e) h
+    pub live_under : (x : D) (u : Trie D A) → node_of R m x ≡ Some u → IsTrie R t → IsLive R u
+    live_under x u e h = live_child t x u (fork_child x ∙ e) h
 
     none_in : (x : D) → IsEmpty m → node_of R m x ≡ None
     none_in x e = ap (λ es. lookup (is_at (R x)) (nodes_of es)) e
@@ -292,15 +259,15 @@ module _ {D A : Type 0} (R : D → D → Ordering) where
       opened = fork_member;
       stays = ap ends to;
       layer = subst (IsLayer R) (sym to) s;
-      kids = λ y. ap (λ f. behind R f y) to ∙ kids y ∙ (λ i. cond (is_eq (R x y)) (Some u) (sym (fork_child y) i));
+      kids = λ y. ap (λ f. under R f y) to ∙ kids y ∙ (λ i. cond (is_eq (R x y)) (Some u) (sym (fork_child y) i));
     }
 
   -- the same, for nodes with a map
   pub fork_good_at : (m : BTreeMap D (Arc (Trie D A) A) A) (x : D) (u : Trie D A) → node_of R m x ≡ Some u → IsTrie R (made m) → IsTrie R u
-  fork_good_at m x u e h = good_behind (made m) m (outs-Fork m) x u e h
+  fork_good_at m x u e h = good_under (made m) m (outs-Fork m) x u e h
 
   pub fork_live_at : (m : BTreeMap D (Arc (Trie D A) A) A) (x : D) (u : Trie D A) → node_of R m x ≡ Some u → IsTrie R (made m) → IsLive R u
-  fork_live_at m x u e h = live_behind (made m) m (outs-Fork m) x u e h
+  fork_live_at m x u e h = live_under (made m) m (outs-Fork m) x u e h
 
   fork_set : (m n : BTreeMap D (Arc (Trie D A) A) A) (x : D) (u : Trie D A) → IsOrdered R n → ((y : D) → node_of R n y ≡ cond (is_eq (R x y)) (Some u) (node_of R m y)) → IsSet (made m) x u (made n)
   fork_set m n x u s kids = set_of (made m) m (outs-Fork m) (made n) n x u (outs-Fork n) s kids
@@ -371,7 +338,7 @@ module _ {D A : Type 0} (R : D → D → Ordering) where
   pub fork_ordered : (m : BTreeMap D (Arc (Trie D A) A) A) → IsTrie R (made m) → IsOrdered R m
   fork_ordered m h = subst (IsLayer R) (outs-Fork m) (good_here (made m) h)
 
-  -- behind x there is to be all that f passes
+  -- under x there is to be all that f passes
   module _ (o : IsTotalOrder R) (ex : IsExact R) (m : BTreeMap D (Arc (Trie D A) A) A) (h : IsTrie R (made m)) (x : D) (f : List D → Bool) where
     abbrev old_walk : List D → Bool
     old_walk q = walk_on (λ w. walk R w q) (node_of R m x)
@@ -400,7 +367,7 @@ module _ {D A : Type 0} (R : D → D → Ordering) where
     pub met_found : (u w : Trie D A) → node_of R m x ≡ Some w → walk R u ≡ either f (walk R w) → walk R u ≡ either f old_walk
     met_found u w found e = e ∙ pointwise (λ q i. f q || walk_on (λ v. walk R v q) (sym found i))
 
-  -- the node v put behind x, where the walks from x grow by f
+  -- the node v put under x, where the walks from x grow by f
   module _ (o : IsTotalOrder R) (ex : IsExact R) (m n : BTreeMap D (Arc (Trie D A) A) A) (x : D) (a : Arc (Trie D A) A) (s : IsOrdered R n) (kids : (y : D) → node_of R n y ≡ cond (is_eq (R x y)) (Some (arc_value a)) (node_of R m y)) (h : IsTrie R (made m)) (v : Trie D A) (is : arc_value a ≡ v) (g : IsTrie R v) (f : List D → Bool) (live : ((q : List D) → f q ≡ false) → ⊥) where
     pub wrote : (w : Trie D A) → node_of R m x ≡ Some w → walk R v ≡ either f (walk R w) → IsTrie R (made n) × (walk R (made n) ≡ either (starts R x f) (walk R (made m)))
     wrote w found e = (
@@ -487,7 +454,7 @@ module _ {D A : Type 0} (R : D → D → Ordering) where
       cases later true h = let same : f (arc_value d.1) ≡ f u = ap f (same_some (arc_value d.1) u h) in omega (arith, same)
       cases later false h = let small : f u ≤ most (λ a. f (arc_value a)) (values_of es) = later h in omega (arith, small)
 
-  layer_size : (o : Trie-F D A (Trie D A)) (x : D) (u : Trie D A) → behind R o x ≡ Some u → size-Trie D A u ≤ (weighs-Trie D A).weight (Values (the_members D A) (the_sigs D A) (the_carrier D A)) (the_depth D A) o
+  layer_size : (o : Trie-F D A (Trie D A)) (x : D) (u : Trie D A) → under R o x ≡ Some u → size-Trie D A u ≤ (weighs-Trie D A).weight (Values (the_members D A) (the_sigs D A) (the_carrier D A)) (the_depth D A) o
   layer_size Member x u e = absurd (none≢some u e)
   layer_size (Fork m) x u e = let h = most_found (size-Trie D A) (is_at (R x)) m.entries u e in omega (arith, h)
 

@@ -5,12 +5,12 @@ use Rattle.aud_lattice.specs.declared.trie.Trie.TheOpen.{Trie-F, Member, Fork}
 use Rattle.aud_lattice.specs.declared.trie.Trie.TheFolds.{fold-Trie}
 use Rattle.aud_lattice.specs.Walks.{nodes_of}
 
--- the lists behind each element, the element first
+-- the lists under each element, the element first
 abbrev pub below : {D : Type 0} → List (D × List (List D)) → List (List D)
 below [] = []
 below (e ∷ es) = map (λ p. e.0 ∷ p) e.1 ++ below es
 
--- one layer, with the lists of each node behind it
+-- one layer, with the lists of each node under it
 abbrev pub layer_paths : {D A : Type 0} → Trie-F D A (List (List D)) → List (List D)
 layer_paths Member = [] ∷ []
 layer_paths (Fork next) = below (nodes_of next.entries)

@@ -3,7 +3,7 @@ use Rattle.std.proofs.Common.{◌≡◌, ℕ, ◌+◌, ◌*◌, ◌<◌, ◌≤�
 use Rattle.std.specs.Arc.{arc_value}
 use Rattle.std.specs.declared.sync.Arc.{Arc}
 
--- the items of the tree behind a link, least first
+-- the items of the tree under a link, least first
 abbrev pub items_of : {T Z : Type 0} → Option (Arc (List T) Z) → List T
 items_of None = []
 items_of (Some a) = arc_value a

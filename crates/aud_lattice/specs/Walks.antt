@@ -19,18 +19,18 @@ abbrev pub nodes_of : {D X A : Type 0} → List (D × Arc X A) → List (D × X)
 nodes_of [] = []
 nodes_of (e ∷ es) = (e.0, arc_value e.1) ∷ nodes_of es
 
--- the node behind the element
+-- the node under the element
 abbrev pub node_of : {D X A : Type 0} → (D → D → Ordering) → BTreeMap D (Arc X A) A → D → Option X
 node_of cmp next x = lookup (is_at (cmp x)) (nodes_of next.entries)
 
--- one layer, with any kind of nodes behind it
+-- one layer, with any kind of nodes under it
 abbrev pub ends : {D A X : Type 0} → Trie-F D A X → Bool
 ends Member = true
 ends (Fork next) = false
 
-abbrev pub behind : {D A X : Type 0} → (D → D → Ordering) → Trie-F D A X → D → Option X
-behind cmp Member x = None
-behind cmp (Fork next) x = node_of cmp next x
+abbrev pub under : {D A X : Type 0} → (D → D → Ordering) → Trie-F D A X → D → Option X
+under cmp Member x = None
+under cmp (Fork next) x = node_of cmp next x
 
 abbrev pub IsLayer : {D A X : Type 0} → (D → D → Ordering) → Trie-F D A X → Type 0
 IsLayer cmp Member = ⊤
@@ -41,7 +41,7 @@ abbrev pub is_member : {D A : Type 0} → Trie D A → Bool
 is_member {D} {A} t = ends (out-Trie D A t)
 
 abbrev pub child : {D A : Type 0} → (D → D → Ordering) → Trie D A → D → Option (Trie D A)
-child {D} {A} cmp t x = behind cmp (out-Trie D A t) x
+child {D} {A} cmp t x = under cmp (out-Trie D A t) x
 
 abbrev pub walk_on : {X : Type 0} → (X → Bool) → Option X → Bool
 walk_on f None = false
@@ -130,23 +130,23 @@ IsLeft cmp f (Some a) = IsTrie cmp (arc_value a) × IsLive cmp (arc_value a) × 
 abbrev pub TellsWhetherBare : {D A : Type 0} → (D → D → Ordering) → Bool → Trie D A → Type 0
 TellsWhetherBare cmp test t = MatchBool test (leads cmp t ≡ nothing) (IsLive cmp t)
 
--- behind x all that f passes passes in the node found there; or a new node is to stand there, in which it does, and what passed
+-- under x all that f passes passes in the node found there; or a new node is to stand there, in which it does, and what passed
 abbrev pub IsMet : {D A : Type 0} → (D → D → Ordering) → BTreeMap D (Arc (Trie D A) A) A → D → (List D → Bool) → Option (Arc (Trie D A) A) → Type 0
 IsMet {D} {A} cmp next x f None = (w : Trie D A) × ((node_of cmp next x ≡ Some w) × (walk cmp w ≡ either f (walk cmp w)))
 IsMet cmp next x f (Some a) = IsTrie cmp (arc_value a) × (walk cmp (arc_value a) ≡ either f (λ q. walk_on (λ w. walk cmp w q) (node_of cmp next x)))
 
--- the nodes are what they were, but that all that f passes passes behind x too
-abbrev pub PassesBehind : {D A : Type 0} → (D → D → Ordering) → D → (List D → Bool) → BTreeMap D (Arc (Trie D A) A) A → BTreeMap D (Arc (Trie D A) A) A → Type 0
-PassesBehind cmp x f old new = walk cmp (fork new) ≡ either (starts cmp x f) (walk cmp (fork old))
+-- the nodes are what they were, but that all that f passes passes under x too
+abbrev pub PassesUnder : {D A : Type 0} → (D → D → Ordering) → D → (List D → Bool) → BTreeMap D (Arc (Trie D A) A) A → BTreeMap D (Arc (Trie D A) A) A → Type 0
+PassesUnder cmp x f old new = walk cmp (fork new) ≡ either (starts cmp x f) (walk cmp (fork old))
 
--- the node stands behind x, and behind all else what stood there
-abbrev pub StandsBehind : {D A : Type 0} → (D → D → Ordering) → D → Arc (Trie D A) A → BTreeMap D (Arc (Trie D A) A) A → BTreeMap D (Arc (Trie D A) A) A → Type 0
-StandsBehind {D} cmp x node old new = (y : D) → node_of cmp new y ≡ cond (is_eq (cmp x y)) (Some (arc_value node)) (node_of cmp old y)
+-- the node stands under x, and under all else what stood there
+abbrev pub StandsUnder : {D A : Type 0} → (D → D → Ordering) → D → Arc (Trie D A) A → BTreeMap D (Arc (Trie D A) A) A → BTreeMap D (Arc (Trie D A) A) A → Type 0
+StandsUnder {D} cmp x node old new = (y : D) → node_of cmp new y ≡ cond (is_eq (cmp x y)) (Some (arc_value node)) (node_of cmp old y)
 
--- the same nodes stand behind the same elements
+-- the same nodes stand under the same elements
 abbrev pub AreAlike : {D A : Type 0} → (D → D → Ordering) → BTreeMap D (Arc (Trie D A) A) A → BTreeMap D (Arc (Trie D A) A) A → Type 0
 AreAlike {D} cmp old new = (y : D) → node_of cmp new y ≡ node_of cmp old y
 
--- the same nodes stand behind all elements but x
+-- the same nodes stand under all elements but x
 abbrev pub AreAlikeBut : {D A : Type 0} → (D → D → Ordering) → D → BTreeMap D (Arc (Trie D A) A) A → BTreeMap D (Arc (Trie D A) A) A → Type 0
 AreAlikeBut {D} cmp x old new = (y : D) → is_eq (cmp x y) ≡ false → node_of cmp new y ≡ node_of cmp old y

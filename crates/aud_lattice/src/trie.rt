@@ -4,7 +4,7 @@ ghost use Rattle.std.specs.Prelude.{None, ◌≡◌, ◌++◌, OnOk, OnErr, IfOk
 ghost use Rattle.std.specs.Option.{option_copied};
 ghost use Rattle.std.specs.Arc.{arc_value};
 ghost use Rattle.std.specs.BTreeMap.{IsOrdered};
-ghost use Rattle.aud_lattice.specs.Walks.{walk, walk_mark, leads, nothing, but, after, starts, node_at, node_of, now_of, AreAlike, AreAlikeBut, IsTrie, IsLeft, IsLive, IsMet, IsWithin, PassesBehind, StandsBehind, TellsWhetherBare};
+ghost use Rattle.aud_lattice.specs.Walks.{walk, walk_mark, leads, nothing, but, after, starts, node_at, node_of, now_of, AreAlike, AreAlikeBut, IsTrie, IsLeft, IsLive, IsMet, IsWithin, PassesUnder, StandsUnder, TellsWhetherBare};
 ghost use Rattle.aud_lattice.specs.Paths.{paths};
 ghost use Rattle.aud_lattice.specs.Covers.{begins};
 ghost use Rattle.aud_lattice.specs.Sets.{either};
@@ -23,18 +23,18 @@ use std::sync::Arc;
 pub enum Trie<D: Key + Dup, A: Allocator + Copy = Global> {
     /// The end of a list.
     Member,
-    /// The nodes behind each element.
+    /// The nodes under each element.
     Fork(BTreeMap<D, Arc<Trie<D, A>, A>, A>),
 }
 
-// Puts the node behind the element.
+// Puts the node under the element.
 fn set<D: Key + Dup, A: Allocator + Copy>(
     next: &mut BTreeMap<D, Arc<Trie<D, A>, A>, A>,
     first: &D,
     node: Arc<Trie<D, A>, A>,
 ) -> Result<(), OutOfMemory>
     requires { IsOrdered D.Ord.cmp next.old }
-    ensures ok { OnOk result (StandsBehind D.Ord.cmp first.now node next.old next.new) }
+    ensures ok { OnOk result (StandsUnder D.Ord.cmp first.now node next.old next.new) }
     ensures err { OnErr result (AreAlike D.Ord.cmp next.old next.new) }
     ensures ordered { IsOrdered D.Ord.cmp next.new }
 {
@@ -177,7 +177,7 @@ impl<D: Key + Dup, A: Allocator + Copy> Trie<D, A> {
             Trie::Fork(mut next) => match list.split_first() {
                 None => Ok(()),
                 Some((first, rest)) => {
-                    let done = Trie::put_behind(&mut next, alloc, first, rest);
+                    let done = Trie::put_under(&mut next, alloc, first, rest);
                     *self = Trie::Fork(next);
                     done
                 }
@@ -186,7 +186,7 @@ impl<D: Key + Dup, A: Allocator + Copy> Trie<D, A> {
     }
 
     #[cycle(puts)]
-    fn put_behind(
+    fn put_under(
         next: &mut BTreeMap<D, Arc<Trie<D, A>, A>, A>,
         alloc: &A,
         first: &D,
@@ -224,7 +224,7 @@ impl<D: Key + Dup, A: Allocator + Copy> Trie<D, A> {
                 None => Ok(Trie::Member),
                 Some((first, rest)) => {
                     let mut all = shared_nodes(next, alloc)?;
-                    Trie::put_behind(&mut all, alloc, first, rest)?;
+                    Trie::put_under(&mut all, alloc, first, rest)?;
                     Ok(Trie::Fork(all))
                 }
             },
@@ -262,7 +262,7 @@ impl<D: Key + Dup, A: Allocator + Copy> Trie<D, A> {
         }
     }
 
-    // The nodes with all that the node has, behind the element. They are copied where the first of them changes.
+    // The nodes with all that the node has, under the element. They are copied where the first of them changes.
     #[cycle(grafts)]
     fn grafted(
         ours: &BTreeMap<D, Arc<Trie<D, A>, A>, A>,
@@ -275,7 +275,7 @@ impl<D: Key + Dup, A: Allocator + Copy> Trie<D, A> {
         requires live { IsLive D.Ord.cmp (arc_value node.now) }
         requires into { IsTrie D.Ord.cmp (Fork (now_of ours.now all)) }
         ensures good { IfOk result (λ nodes. IsTrie D.Ord.cmp (Fork (now_of ours.now nodes))) }
-        ensures both { IfOk result (λ nodes. PassesBehind D.Ord.cmp first.now (walk D.Ord.cmp (arc_value node.now)) (now_of ours.now all) (now_of ours.now nodes)) }
+        ensures both { IfOk result (λ nodes. PassesUnder D.Ord.cmp first.now (walk D.Ord.cmp (arc_value node.now)) (now_of ours.now all) (now_of ours.now nodes)) }
     {
         match Trie::met(nodes_now(ours, &all), first, node, alloc)? {
             None => Ok(all),
@@ -287,7 +287,7 @@ impl<D: Key + Dup, A: Allocator + Copy> Trie<D, A> {
         }
     }
 
-    // What is to stand behind the element for all that the node has; nothing where that is there already.
+    // What is to stand under the element for all that the node has; nothing where that is there already.
     #[cycle(grafts)]
     fn met(
         next: &BTreeMap<D, Arc<Trie<D, A>, A>, A>,
@@ -384,7 +384,7 @@ impl<D: Key + Dup, A: Allocator + Copy> Trie<D, A> {
         }
     }
 
-    // Puts behind the element the lists of the node that they have not there.
+    // Puts under the element the lists of the node that they have not there.
     #[cycle(leavings)]
     fn leave(
         all: &mut BTreeMap<D, Arc<Trie<D, A>, A>, A>,
@@ -408,7 +408,7 @@ impl<D: Key + Dup, A: Allocator + Copy> Trie<D, A> {
         }
     }
 
-    // A node of the lists that they have not behind the element, if there are any.
+    // A node of the lists that they have not under the element, if there are any.
     #[cycle(leavings)]
     fn left(
         first: &D,
@@ -453,7 +453,7 @@ impl<D: Key + Dup, A: Allocator + Copy> Trie<D, A> {
             }
             Trie::Fork(nodes) => {
                 for (first, node) in nodes {
-                    Trie::push_behind(node, first, alloc, path, all)?;
+                    Trie::push_under(node, first, alloc, path, all)?;
                 }
                 Ok(())
             }
@@ -461,7 +461,7 @@ impl<D: Key + Dup, A: Allocator + Copy> Trie<D, A> {
     }
 
     #[cycle(pushes)]
-    fn push_behind(
+    fn push_under(
         node: &Trie<D, A>,
         first: &D,
         alloc: &A,

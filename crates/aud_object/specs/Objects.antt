@@ -49,9 +49,9 @@ front_of [] = Empty
 front_of (v ∷ q) = Int v
 
 -- the items after the front one
-abbrev pub behind_front : List ℤ → List ℤ
-behind_front [] = []
-behind_front (v ∷ q) = q
+abbrev pub after_front : List ℤ → List ℤ
+after_front [] = []
+after_front (v ∷ q) = q
 
 -- the greatest i64
 abbrev pub greatest : ℤ
@@ -83,7 +83,7 @@ after_op (counter n) Dec = counter (if int_eq n least then n else n -ℤ pos 1)
 after_op (set_of s) (Add v) = set_of (with_member s v)
 after_op (set_of s) (Remove v) = set_of (without_member s v)
 after_op (queue q) (Enq v) = queue (q ++ v ∷ [])
-after_op (queue q) Deq = queue (behind_front q)
+after_op (queue q) Deq = queue (after_front q)
 after_op state _ = state
 
 -- the operations that leave every state as it is

@@ -13,7 +13,7 @@ use Rattle.aud_witness.specs.Placings.{PlacingOf}
 use Rattle.aud_order.specs.Shapes.{ShapeOf, objects_of, history_of}
 use Rattle.aud_order.specs.Cursors.{IsAt}
 use Rattle.aud_order.specs.Kids.{goods}
-use Rattle.aud_order.proofs.KidLemmas.{IsBarren, barren-named, barren-late, goods-barren, goods-append, late-behind}
+use Rattle.aud_order.proofs.KidLemmas.{IsBarren, barren-named, barren-late, goods-barren, goods-append, late-after}
 use Rattle.aud_order.proofs.Standing.{placed-there}
 
 get_or-take : (ts : List ℕ) (n k d e : ℕ) → k < length (take n ts) → (k < n) × ((k < length ts) × (get_or (take n ts) k d ≡ get_or ts k e))
@@ -79,8 +79,8 @@ pub gathered-late : (objects : List Declared) (h : History) (p : List Decision) 
 gathered-late objects h p i ks late so_far =
     let none : goods objects h p (drop i (transactions h)) ≡ [] = goods-barren objects h p (drop i (transactions h)) (λ k d inside.
     let (within, is) = get_or-dropped (transactions h) i k d 0 inside in
-    let behind : is_enabled h p (get_or (transactions h) (i + k) 0) ≡ false = late-behind h p i (i + k) 0 (omega arith) within (sym late) in
-    subst (λ t. IsBarren objects h p t) (sym is) (barren-late objects h p (get_or (transactions h) (i + k) 0) behind)) in
+    let after : is_enabled h p (get_or (transactions h) (i + k) 0) ≡ false = late-after h p i (i + k) 0 (omega arith) within (sym late) in
+    subst (λ t. IsBarren objects h p t) (sym is) (barren-late objects h p (get_or (transactions h) (i + k) 0) after)) in
     so_far ∙ sym (append-nil (goods objects h p (take i (transactions h)))) ∙ ap (λ l. goods objects h p (take i (transactions h)) ++ l) (sym none)
     ∙ sym (goods-append objects h p (take i (transactions h)) (drop i (transactions h))) ∙ ap (goods objects h p) (take-append-drop i (transactions h))
 

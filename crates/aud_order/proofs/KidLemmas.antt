@@ -195,8 +195,8 @@ in-transactions h k d inside = sym (any-transactions h (get_or (transactions h) 
     at (t ∷ ts) (suc k) inside = or_right (nat_eq (get_or ts k d) t) (list_any (nat_eq (get_or ts k d)) ts) (at ts k (omega arith))
 
 -- what began no earlier than one that is not enabled is not enabled
-pub late-behind : (h : History) (p : List Decision) (j k d : ℕ) → j ≤ k → k < length (transactions h) → is_enabled h p (get_or (transactions h) j d) ≡ false → is_enabled h p (get_or (transactions h) k d) ≡ false
-late-behind h p j k d le inside late =
+pub late-after : (h : History) (p : List Decision) (j k d : ℕ) → j ≤ k → k < length (transactions h) → is_enabled h p (get_or (transactions h) j d) ≡ false → is_enabled h p (get_or (transactions h) k d) ≡ false
+late-after h p j k d le inside late =
     is_false (is_enabled h p u) (λ enabled.
     let wide : are_earlier_placed (table_of h) (map (is_named p) (transactions h)) (first_stamp h u) ≡ true = enabled-by_rows h p u (in-transactions h k d inside) ∙ enabled in
     let up : first_stamp h t ≤ first_stamp h u = rise-at (first_stamp h) (transactions h) (stamps-rise h) j k d le inside in
@@ -216,8 +216,8 @@ contains_cases : (x : Decision) (xs : List Decision) (y : Decision) → Contains
 contains_cases x xs y (zero, inside, is) = inl is
 contains_cases x xs y (suc k, inside, is) = inr (k, omega arith, is)
 
-contains_behind : (x : Decision) (xs : List Decision) (y : Decision) → Contains xs y → Contains (x ∷ xs) y
-contains_behind x xs y (k, inside, is) = (suc k, omega arith, is)
+contains_after : (x : Decision) (xs : List Decision) (y : Decision) → Contains xs y → Contains (x ∷ xs) y
+contains_after x xs y (k, inside, is) = (suc k, omega arith, is)
 
 passes-filter : (g : Decision → Bool) (xs : List Decision) (d : Decision) → Contains (filter g xs) d → g d ≡ true
 passes-filter g [] d (k, inside, is) = absurd (omega arith)
@@ -233,7 +233,7 @@ filter-passed g (x ∷ xs) d member passes = go (g x) refl (λ later. filter-pas
   where
     go : (b : Bool) → g x ≡ b → (Contains xs d → Contains (filter g xs) d) → (x ≡ d) ⊎ Contains xs d → Contains (cond b (x ∷ filter g xs) (filter g xs)) d
     go true is rest (inl same) = (0, omega arith, same)
-    go true is rest (inr later) = contains_behind x (filter g xs) d (rest later)
+    go true is rest (inr later) = contains_after x (filter g xs) d (rest later)
     go false is rest (inl same) = let bad : g d ≡ false = subst (λ (y : Decision). g y ≡ false) same is in absurd (cc)
     go false is rest (inr later) = rest later
 
@@ -242,7 +242,7 @@ fates-there [] d there = absurd (cc)
 fates-there (t ∷ ts) d there =
     elim (or_true (nat_eq d.tx t) (list_any (nat_eq d.tx) ts) there) [
       | inl same ↦ subst (λ n. Contains (record { tx = n; fate = C } ∷ record { tx = n; fate = A } ∷ flat_map both_fates ts) d) (nat_eq-is d.tx t same) (own d.fate refl)
-      | inr later ↦ contains_behind (record { tx = t; fate = C }) (record { tx = t; fate = A } ∷ flat_map both_fates ts) d (contains_behind (record { tx = t; fate = A }) (flat_map both_fates ts) d (fates-there ts d later))
+      | inr later ↦ contains_after (record { tx = t; fate = C }) (record { tx = t; fate = A } ∷ flat_map both_fates ts) d (contains_after (record { tx = t; fate = A }) (flat_map both_fates ts) d (fates-there ts d later))
     ]
   where
     own : (f : Fate) → d.fate ≡ f → Contains (record { tx = d.tx; fate = C } ∷ record { tx = d.tx; fate = A } ∷ flat_map both_fates ts) d

@@ -25,8 +25,8 @@ use Rattle.aud_order.specs.Moves.{without}
 -- # One step
 
 -- the spot after a decision on the row at the place
-abbrev pub spot_behind : Spot → Fate → ℕ → List ObjState → Spot
-spot_behind s f k after = record { placed = slice_set s.placed k true; states = states_with f s.states after }
+abbrev pub spot_after : Spot → Fate → ℕ → List ObjState → Spot
+spot_after s f k after = record { placed = slice_set s.placed k true; states = states_with f s.states after }
 
 pub record Steps (rows : List RowOf) (s : Spot) (d : Decision) (u : Spot) : Type 0 where
   pub place : ℕ
@@ -38,7 +38,7 @@ pub record Steps (rows : List RowOf) (s : Spot) (d : Decision) (u : Spot) : Type
   pub ready : are_earlier_placed rows s.placed row.first ≡ true
   pub after : List ObjState
   pub ran : replayed s.states row.block ≡ Some after
-  pub leads : u ≡ spot_behind s d.fate place after
+  pub leads : u ≡ spot_after s d.fate place after
 
 early-none : (named allowed ready : Bool) (t : ℕ) →
     cond named (Some (Twice t)) (cond (not allowed) (Some (FateNotAllowed t)) (cond (not ready) (Some (RealTime t)) None)) ≡ None → (named ≡ false) × (allowed ≡ true) × (ready ≡ true)
@@ -56,7 +56,7 @@ steps-from rows s u d = go (position (nat_eq d.tx) (map (λ (r : RowOf). r.tx) r
     ran k r found at early None is e = absurd (cc)
     ran k r found at early (Some after) is e =
         let tests = early-none (slice_index_or s.placed k false) (status_allows r.status d.fate) (are_earlier_placed rows s.placed r.first) d.tx early in
-        let leads : u ≡ spot_behind s d.fate k after = cc in
+        let leads : u ≡ spot_after s d.fate k after = cc in
         record { place = k; found = found; row = r; at = at; fresh = tests.0; allowed = tests.1; ready = tests.2; after = after; ran = is; leads = leads }
 
     tested : (k : ℕ) (r : RowOf) → position (nat_eq d.tx) (map (λ (x : RowOf). x.tx) rows) ≡ Some k → slice_get rows k ≡ Some r → (o : Option OrderFault) → early_fault rows s d k r ≡ o →

@@ -20,9 +20,9 @@ pub record CursorOf : Type 0 where
   pub path : List Decision
 
 -- a cursor at the list, which is good; or none, and it is not
-abbrev pub IsBehind : ShapeOf → List Decision → Option CursorOf → Type 0
-IsBehind shape p None = IsGood (objects_of shape) (history_of shape) p → ⊥
-IsBehind shape p (Some c) = (c ≡ record { shape = shape; path = p }) × IsGood (objects_of shape) (history_of shape) p
+abbrev pub IsCursorAfter : ShapeOf → List Decision → Option CursorOf → Type 0
+IsCursorAfter shape p None = IsGood (objects_of shape) (history_of shape) p → ⊥
+IsCursorAfter shape p (Some c) = (c ≡ record { shape = shape; path = p }) × IsGood (objects_of shape) (history_of shape) p
 
 -- the decision is good after those of the cursor
 abbrev pub IsGoodAt : CursorOf → Decision → Type 0

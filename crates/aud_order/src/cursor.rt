@@ -7,7 +7,7 @@ ghost use Rattle.aud_history.specs.Table.{table_of, transactions};
 ghost use Rattle.aud_witness.specs.Orders.{is_named, kept, IsFull, IsGood};
 ghost use Rattle.aud_witness.specs.OrderFaults.{is_enabled};
 ghost use Rattle.aud_order.specs.Shapes.{objects_of, history_of};
-ghost use Rattle.aud_order.specs.Cursors.{cursor_back, cursor_with, is_good_at, pushed_at, transaction_at, ArePlaced, IsBehind, IsGoodAt};
+ghost use Rattle.aud_order.specs.Cursors.{cursor_back, cursor_with, is_good_at, pushed_at, transaction_at, ArePlaced, IsCursorAfter, IsGoodAt};
 ghost use Rattle.aud_order.specs.Kids.{AreKids, goods_at};
 
 use crate::pushed::Pushed;
@@ -66,12 +66,12 @@ impl<'a, A: Allocator + Copy> Cursor<'a, A> {
     }
 
     /// A cursor at the list of decisions, where it is good.
-    pub fn behind(
+    pub fn after(
         alloc: A,
         shape: &'a Shape<A>,
         decisions: &[Decision],
     ) -> Result<Option<Cursor<'a, A>>, OutOfMemory>
-        ensures { IfOk result (IsBehind shape.entry.now decisions.now) }
+        ensures { IfOk result (IsCursorAfter shape.entry.now decisions.now) }
     {
         let mut cursor = Cursor::root(alloc, shape)?;
         for decision in decisions {

@@ -9,7 +9,7 @@ use Rattle.aud_object.specs.Replayed.{replayed}
 use Rattle.aud_history.specs.Histories.{History}
 use Rattle.aud_history.specs.Table.{row_of}
 use Rattle.aud_search.specs.declared.kept.Kept.{Kept}
-use Rattle.aud_search.specs.declared.kept.Kept.TheVariants.{Whole, Behind}
+use Rattle.aud_search.specs.declared.kept.Kept.TheVariants.{Whole, After}
 use Rattle.aud_search.specs.declared.kept.Step.{Step}
 use Rattle.aud_search.specs.declared.kept.Cost.{Cost}
 use Rattle.aud_search.specs.Kept.{state_from, states_on, states_of, run_way, IsWay, LeadsFrom, IsMoreOf}
@@ -71,9 +71,9 @@ get-take (x ∷ xs) (suc n) zero d inside = refl
 get-take (x ∷ xs) (suc n) (suc k) d inside = get-take xs n k d (omega arith)
 
 -- what is kept after others
-behind-at : {A : Type 0} (h : History) (ks : List (Kept A)) (k : ℕ) (d kept : Kept A) (step : Step) (cost : Cost) → k < length ks → kept ≡ get_or ks k d → kept ≡ Behind step cost → step.from < k →
+after-at : {A : Type 0} (h : History) (ks : List (Kept A)) (k : ℕ) (d kept : Kept A) (step : Step) (cost : Cost) → k < length ks → kept ≡ get_or ks k d → kept ≡ After step cost → step.from < k →
     slice_get (states_of h ks) k ≡ Some (unwrap_or (replayed (get_or (states_of h ks) step.from []) (row_of h step.tx).block) [])
-behind-at h ks k d kept step cost inside is behind before =
+after-at h ks k d kept step cost inside is behind before =
     states-at h ks k d inside ∙ ap (λ (x : Kept _). Some (state_from h (take k (states_of h ks)) x)) (sym is ∙ behind)
     ∙ ap (λ l. Some (unwrap_or (replayed l (row_of h step.tx).block) [])) (get-take (states_of h ks) k step.from [] before)
 
@@ -93,13 +93,13 @@ ran-first : (h : History) (way : List ℕ) (o : Option (List ObjState)) (states 
 ran-first h way None states is = absurd (cc)
 ran-first h way (Some next) states is = (next, (refl, is))
 
-pub way-back : {A : Type 0} (h : History) (ks : List (Kept A)) (at last : ℕ) (d kept : Kept A) (step : Step) (cost : Cost) (way more : List ℕ) → at < length ks → kept ≡ get_or ks at d → kept ≡ Behind step cost → step.from < at → more ≡ way ++ step.tx ∷ [] →
+pub way-back : {A : Type 0} (h : History) (ks : List (Kept A)) (at last : ℕ) (d kept : Kept A) (step : Step) (cost : Cost) (way more : List ℕ) → at < length ks → kept ≡ get_or ks at d → kept ≡ After step cost → step.from < at → more ≡ way ++ step.tx ∷ [] →
     IsWayFrom h ks at way last → IsWayFrom h ks step.from more last
 way-back h ks at last d kept step cost way more inside is behind before grown known earlier states ran =
     let turned : reverse more ≡ step.tx ∷ reverse way = ap reverse grown ∙ reverse-append way (step.tx ∷ []) in
     let (next, (first, rest)) = ran-first h (reverse way) (replayed (get_or (states_of h ks) step.from []) (row_of h step.tx).block) states (ap (run_way h (get_or (states_of h ks) step.from [])) (sym turned) ∙ ran) in
     let own : get_or (states_of h ks) at [] ≡ next =
-    get_or_from_slice_get (states_of h ks) at next [] (behind-at h ks at d kept step cost inside is behind before ∙ ap (λ (o : Option (List ObjState)). Some (unwrap_or o [])) first) in
+    get_or_from_slice_get (states_of h ks) at next [] (after-at h ks at d kept step cost inside is behind before ∙ ap (λ (o : Option (List ObjState)). Some (unwrap_or o [])) first) in
     known inside states (ap (λ l. run_way h l (reverse way)) own ∙ rest)
 
 -- where the blocks lead from whole states that a way begins with
@@ -109,7 +109,7 @@ leads-way h ks first last d (Whole s) way states inside is leads known =
     let own : get_or (states_of h ks) first [] ≡ s.now =
     get_or_from_slice_get (states_of h ks) first s.now [] (states-at h ks first d inside ∙ ap (λ (x : Kept _). Some (state_from h (take first (states_of h ks)) x)) (sym is)) in
     known states (ap (λ l. run_way h l way) own ∙ leads)
-leads-way h ks first last d (Behind step cost) way states inside is leads known = absurd leads
+leads-way h ks first last d (After step cost) way states inside is leads known = absurd leads
 
 -- an element is put where it was
 pub put-itself : {X : Type 0} (xs : List X) (i : ℕ) (x y : X) → x ≡ get_or xs i x → y ≡ x → set xs i y ≡ xs

@@ -20,7 +20,7 @@ use Rattle.aud_search.specs.declared.choice.Choice.{Choice}
 use Rattle.aud_search.specs.Choices.{AreChoices}
 use Rattle.aud_search.specs.Searches.{IsExpandable, SpentBy}
 use Rattle.aud_search.specs.Levels.{AreTried, AreBelow, IsSearching}
-use Rattle.aud_search.specs.Tried.{IsBehind}
+use Rattle.aud_search.specs.Tried.{IsNextPlace}
 use Rattle.aud_search.proofs.Refuting.{refuted-bad, refuted-by_kids}
 use Rattle.aud_witness.proofs.Beginnings.{Refuted-append}
 
@@ -38,8 +38,8 @@ contains_cases : (x : List Decision) (xs : Lists) (y : List Decision) → Contai
 contains_cases x xs y (zero, inside, is) = inl is
 contains_cases x xs y (suc k, inside, is) = inr (k, omega arith, is)
 
-contains_behind : (x : List Decision) (xs : Lists) (y : List Decision) → Contains xs y → Contains (x ∷ xs) y
-contains_behind x xs y (k, inside, is) = (suc k, omega arith, is)
+contains_after : (x : List Decision) (xs : Lists) (y : List Decision) → Contains xs y → Contains (x ∷ xs) y
+contains_after x xs y (k, inside, is) = (suc k, omega arith, is)
 
 contains_none : (y : List Decision) → Contains [] y → ⊥
 contains_none y (k, inside, is) = absurd (omega arith)
@@ -92,7 +92,7 @@ search-start objects h p cs good unfull = record {
       let same : p ≡ p ++ c.decision ∷ [] = only (p ++ c.decision ∷ []) member in
       let clash : length p ≡ length p + 1 = ap length same ∙ length-push p c.decision in
       absurd (omega arith);
-  behind = refl;
+  levels = refl;
 }
   where
     only : (e : List Decision) → Contains (p ∷ []) e → p ≡ e
@@ -129,9 +129,9 @@ not_full objects h path c d good unfull other full =
     unfull (full-from_length objects h (path ++ c ∷ []) good (length-push path c ∙ sym (length-push path d) ∙ length-full objects h (path ++ d ∷ []) other full))
 
 -- and so are those after it, where it is of a silent transaction
-pub tried-behind : (plan : PlanOf) (h : History) (cs : List Choice) (path : List Decision) (k g : ℕ) (c : Choice) → IsWellFormed h → IsWithinLimits plan h → AreChoices h cs → IsBehind cs k g →
+pub tried-after : (plan : PlanOf) (h : History) (cs : List Choice) (path : List Decision) (k g : ℕ) (c : Choice) → IsWellFormed h → IsWithinLimits plan h → AreChoices h cs → IsNextPlace cs k g →
     slice_get cs k ≡ Some c → AreTried plan.objects h cs path k → IsGoodNext plan.objects h path c.decision → Refuted plan.objects h (path ++ c.decision ∷ []) → AreTried plan.objects h cs path g
-tried-behind plan h cs path k g c fine within choices behind at tried good refuted =
+tried-after plan h cs path k g c fine within choices behind at tried good refuted =
     elim (behind.silent c at) [
       | inl next ↦ subst (λ n. AreTried plan.objects h cs path n) (sym next) (tried-next plan.objects h cs path k c at tried refuted)
       | inr silent ↦
@@ -153,7 +153,7 @@ search-on objects h p cs used path next gs g s past tried = record {
   here = s.here;
   tried = tried;
   fresh = λ k c behind at. s.fresh k c (omega arith) at;
-  behind = s.behind;
+  levels = s.levels;
 }
 
 -- a good choice is followed, and its list expanded
@@ -167,8 +167,8 @@ search-deeper objects h p cs used path next gs k g c choices s past behind at tr
   opens = λ e member. elim (contains_cases new s.es e member) [ inl same ↦ subst (λ l. IsExpandable objects h l) same (good, unfull) | inr old ↦ s.opens e old ];
   extend = λ e member. elim (contains_cases new s.es e member) [ inl same ↦ subst (λ l. (q : List Decision) × (l ≡ p ++ q)) same longer | inr old ↦ s.extend e old ];
   parents = λ e d member. elim (contains_cases new s.es (e ++ d ∷ []) member) [
-    | inl same ↦ inr (contains_behind new s.es e (subst (λ l. Contains s.es l) (push-parts path e c.decision d same).0 s.here))
-    | inr old ↦ elim (s.parents e d old) [ inl first ↦ inl first | inr parent ↦ inr (contains_behind new s.es e parent) ]
+    | inl same ↦ inr (contains_after new s.es e (subst (λ l. Contains s.es l) (push-parts path e c.decision d same).0 s.here))
+    | inr old ↦ elim (s.parents e d old) [ inl first ↦ inl first | inr parent ↦ inr (contains_after new s.es e parent) ]
   ];
   unfull = λ e d member other full. elim (contains_cases new s.es e member) [
     | inl same ↦ sym same
@@ -188,7 +188,7 @@ search-deeper objects h p cs used path next gs k g c choices s past behind at tr
       | inr parent ↦ s.fresh k c past at parent
     ]
   ];
-  behind = (
+  levels = (
     path,
     (
       c.decision,
@@ -199,7 +199,7 @@ search-deeper objects h p cs used path next gs k g c choices s past behind at tr
           | inl same ↦ choices.once k j c e (omega arith) at there (push-parts path path c.decision e.decision same).1
           | inr old ↦ s.fresh j e (omega arith) there old
         ]),
-        below-more objects h p cs s.es gs path new (omega (arith, length-push path c.decision)) s.behind,
+        below-more objects h p cs s.es gs path new (omega (arith, length-push path c.decision)) s.levels,
       ),
     ),
   );
@@ -209,7 +209,7 @@ search-deeper objects h p cs used path next gs k g c choices s past behind at tr
     new = path ++ c.decision ∷ []
 
     begins : (q : List Decision) × (path ≡ p ++ q)
-    begins = below-extends objects h p cs s.es gs path s.behind
+    begins = below-extends objects h p cs s.es gs path s.levels
 
     longer : (q : List Decision) × (path ++ c.decision ∷ [] ≡ p ++ q)
     longer = (begins.0 ++ c.decision ∷ [], ap (λ l. l ++ c.decision ∷ []) begins.1 ∙ append_assoc p begins.0 (c.decision ∷ []))
@@ -271,7 +271,7 @@ refuted-here objects h p cs used path next gs choices s tried =
 pub search-back : (objects : List Declared) (h : History) (p : List Decision) (cs : List Choice) (used : ℕ) (path : List Decision) (next g : ℕ) (gs : List ℕ) →
     IsSearching objects h p cs used path next (g ∷ gs) → Refuted objects h path → IsSearching objects h p cs used (take (length path - 1) path) g gs
 search-back objects h p cs used path next g gs s refuted =
-    let (q, (d, (is, tried, fresh, rest))) = s.behind in
+    let (q, (d, (is, tried, fresh, rest))) = s.levels in
     let shorter : take (length path - 1) path ≡ q = ap (λ l. take (length l - 1) l) is ∙ take-push q d in
     subst (λ l. IsSearching objects h p cs used l g gs) (sym shorter) (record {
       es = s.es;
@@ -293,17 +293,17 @@ search-back objects h p cs used path next g gs s refuted =
       ];
       tried = tried refuted;
       fresh = fresh;
-      behind = rest;
+      levels = rest;
     })
 
 -- at the end the prefix is refuted
 pub search-refuted : (objects : List Declared) (h : History) (p : List Decision) (cs : List Choice) (used : ℕ) (path : List Decision) (next : ℕ) →
     IsSearching objects h p cs used path next [] → Refuted objects h path → Refuted objects h p
-search-refuted objects h p cs used path next s refuted = subst (λ l. Refuted objects h l) s.behind refuted
+search-refuted objects h p cs used path next s refuted = subst (λ l. Refuted objects h l) s.levels refuted
 
 -- the list that was found begins with the prefix
 pub search-begins : (objects : List Declared) (h : History) (p : List Decision) (cs : List Choice) (used : ℕ) (path : List Decision) (next : ℕ) (gs : List ℕ) (d : Decision) →
     IsSearching objects h p cs used path next gs → BeginsWith p (path ++ d ∷ [])
 search-begins objects h p cs used path next gs d s =
-    let (q, is) = below-extends objects h p cs s.es gs path s.behind in
+    let (q, is) = below-extends objects h p cs s.es gs path s.levels in
     (q ++ d ∷ [], ap (λ l. l ++ d ∷ []) is ∙ append_assoc p q (d ∷ []))

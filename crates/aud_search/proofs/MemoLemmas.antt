@@ -26,7 +26,7 @@ use Rattle.aud_search.specs.declared.choice.Choice.{Choice}
 use Rattle.aud_search.specs.declared.memo.Lead.{Lead}
 use Rattle.aud_search.specs.Kept.{IsMoreOf, LeadsTo}
 use Rattle.aud_search.specs.Spots.{EntryOf, AreWith, IsKeptAs}
-use Rattle.aud_search.specs.Memos.{MemoOf, states_behind, Names, NameWay, IsDead, IsLead, IsTrueMemo, IsGrown, IsStep, IsNext, IsAfter}
+use Rattle.aud_search.specs.Memos.{MemoOf, states_reached, Names, NameWay, IsDead, IsLead, IsTrueMemo, IsGrown, IsStep, IsNext, IsAfter}
 use Rattle.aud_search.specs.Recorders.{IsNotedAlike}
 use Rattle.aud_search.proofs.Refuting.{next-shown}
 
@@ -49,7 +49,7 @@ names-more all more (Some k) states names = get-front all more k states names
 
 way-more : (shape : ShapeOf) (all more : List (List ObjState)) (ns : List (Option ℕ)) (p : List Decision) → NameWay shape all ns p → NameWay shape (all ++ more) ns p
 way-more shape all more [] p way = tt
-way-more shape all more (n ∷ ns) p way = (names-more all more n (states_behind shape p) way.0, way-more shape all more ns (take (length p - 1) p) way.1)
+way-more shape all more (n ∷ ns) p way = (names-more all more n (states_reached shape p) way.0, way-more shape all more ns (take (length p - 1) p) way.1)
 
 -- the way stays named
 pub way-grown : {V : Type 0} (shape : ShapeOf) (old new : MemoOf V) (ns : List (Option ℕ)) (p : List Decision) → IsGrown old new → NameWay shape old.states ns p → NameWay shape new.states ns p
@@ -57,7 +57,7 @@ way-grown shape old new ns p grown way = subst (λ l. NameWay shape l ns p) (sym
 
 -- the way is one list longer
 pub way-deeper : (shape : ShapeOf) (all : List (List ObjState)) (n further : Option ℕ) (below more : List (Option ℕ)) (p q : List Decision) (d : Decision) → NameWay shape all (n ∷ reverse below) p → q ≡ p ++ d ∷ [] →
-    Names all further (states_behind shape q) → more ≡ below ++ n ∷ [] → NameWay shape all (further ∷ reverse more) q
+    Names all further (states_reached shape q) → more ≡ below ++ n ∷ [] → NameWay shape all (further ∷ reverse more) q
 way-deeper shape all n further below more p q d way is names grown =
     let shorter : take (length q - 1) q ≡ p = ap (λ l. take (length l - 1) l) is ∙ take-push p d in
     let turned : reverse more ≡ n ∷ reverse below = ap reverse grown ∙ reverse-append below (n ∷ []) in
@@ -87,7 +87,7 @@ true-more : {N : Type 0} (shape : ShapeOf) (all more : List (List ObjState)) (no
 true-more shape all more noted entries notes leads sound = record {
   even = sound.even;
   dead = λ k e there. let (note, (at, d)) = sound.dead k e there in
-      (note, (at, record { path = d.path; good = d.good; refuted = d.refuted; placed = d.placed; states = get-front all more e.states (states_behind shape d.path) d.states; noted = d.noted }));
+      (note, (at, record { path = d.path; good = d.good; refuted = d.refuted; placed = d.placed; states = get-front all more e.states (states_reached shape d.path) d.states; noted = d.noted }));
   true_leads = λ l there. let t = sound.true_leads l there in record { before = t.before; after = t.after; from = get-front all more l.from t.before t.from; to = get-front all more l.to t.after t.to; runs = t.runs };
 }
 
@@ -182,57 +182,57 @@ note-of shape all noted entries notes leads k e o Q sound there is each =
 
 -- what the step's choice does to the states
 leads-on : {V : Type 0} (memo : MemoOf V) (n : ℕ) (c : Choice) (at : CursorOf) → IsWellFormed (history_of at.shape) → IsWithinLimits (plan_of at.shape) (history_of at.shape) → IsGood (objects_of at.shape) (history_of at.shape) at.path → (s : IsStep memo (Some n) c at) →
-    (c.decision.fate ≡ C → replayed (states_behind at.shape s.path) (row_of (history_of at.shape) c.decision.tx).block ≡ Some (states_behind at.shape at.path))
-    × ((c.decision.fate ≡ A) ⊎ (silent_fate (history_of at.shape) c.decision.tx ≡ Some c.decision.fate) → states_behind at.shape at.path ≡ states_behind at.shape s.path)
+    (c.decision.fate ≡ C → replayed (states_reached at.shape s.path) (row_of (history_of at.shape) c.decision.tx).block ≡ Some (states_reached at.shape at.path))
+    × ((c.decision.fate ≡ A) ⊎ (silent_fate (history_of at.shape) c.decision.tx ≡ Some c.decision.fate) → states_reached at.shape at.path ≡ states_reached at.shape s.path)
 leads-on memo n c at fine within good s =
     let both = step-states (plan_of at.shape) (history_of at.shape) s.path c.decision fine within (subst (λ l. IsGood (objects_of at.shape) (history_of at.shape) l) s.on good) in (
-      (λ commits. both.0 commits ∙ ap (λ l. Some (states_behind at.shape l)) (sym s.on)),
-      (λ leaves. ap (states_behind at.shape) s.on ∙ both.1 leaves),
+      (λ commits. both.0 commits ∙ ap (λ l. Some (states_reached at.shape l)) (sym s.on)),
+      (λ leaves. ap (states_reached at.shape) s.on ∙ both.1 leaves),
     )
 
 -- a choice that leaves the states leaves their number
 pub step-stays : {V : Type 0} (memo : MemoOf V) (n : ℕ) (c : Choice) (at : CursorOf) → IsWellFormed (history_of at.shape) → IsWithinLimits (plan_of at.shape) (history_of at.shape) → IsGood (objects_of at.shape) (history_of at.shape) at.path → (s : IsStep memo (Some n) c at) →
-    (c.decision.fate ≡ A) ⊎ (silent_fate (history_of at.shape) c.decision.tx ≡ Some c.decision.fate) → Names memo.states (Some n) (states_behind at.shape at.path)
+    (c.decision.fate ≡ A) ⊎ (silent_fate (history_of at.shape) c.decision.tx ≡ Some c.decision.fate) → Names memo.states (Some n) (states_reached at.shape at.path)
 step-stays memo n c at fine within good s leaves = s.names ∙ ap (λ l. Some l) (sym ((leads-on memo n c at fine within good s).1 leaves))
 
 -- a lead that is known leads there
 pub step-known : {V : Type 0} (memo : MemoOf V) (n to : ℕ) (c : Choice) (at : CursorOf) → IsWellFormed (history_of at.shape) → IsWithinLimits (plan_of at.shape) (history_of at.shape) → IsGood (objects_of at.shape) (history_of at.shape) at.path → (s : IsStep memo (Some n) c at) →
-    c.decision.fate ≡ C → IsLead memo.shape memo.states (record { from = n; tx = c.decision.tx; to = to }) → Names memo.states (Some to) (states_behind at.shape at.path)
+    c.decision.fate ≡ C → IsLead memo.shape memo.states (record { from = n; tx = c.decision.tx; to = to }) → Names memo.states (Some to) (states_reached at.shape at.path)
 step-known memo n to c at fine within good s commits lead =
     let ran = (leads-on memo n c at fine within good s).0 commits in
-    let first : lead.before ≡ states_behind at.shape s.path = one-at lead.before (states_behind at.shape s.path) (slice_get memo.states n) lead.from s.names in
-    let own : replayed (states_behind at.shape s.path) (row_of (history_of at.shape) c.decision.tx).block ≡ Some lead.after =
-    ap (λ (x : ShapeOf). replayed (states_behind at.shape s.path) (row_of (history_of x) c.decision.tx).block) (sym s.shape) ∙ ap (λ l. replayed l (row_of (history_of memo.shape) c.decision.tx).block) (sym first) ∙ lead.runs in
-    lead.to ∙ ap (λ l. Some l) (one-at lead.after (states_behind at.shape at.path) (replayed (states_behind at.shape s.path) (row_of (history_of at.shape) c.decision.tx).block) own ran)
+    let first : lead.before ≡ states_reached at.shape s.path = one-at lead.before (states_reached at.shape s.path) (slice_get memo.states n) lead.from s.names in
+    let own : replayed (states_reached at.shape s.path) (row_of (history_of at.shape) c.decision.tx).block ≡ Some lead.after =
+    ap (λ (x : ShapeOf). replayed (states_reached at.shape s.path) (row_of (history_of x) c.decision.tx).block) (sym s.shape) ∙ ap (λ l. replayed l (row_of (history_of memo.shape) c.decision.tx).block) (sym first) ∙ lead.runs in
+    lead.to ∙ ap (λ l. Some l) (one-at lead.after (states_reached at.shape at.path) (replayed (states_reached at.shape s.path) (row_of (history_of at.shape) c.decision.tx).block) own ran)
 
 -- a step makes a lead
 pub step-lead : {V : Type 0} (memo new : MemoOf V) (n to : ℕ) (c : Choice) (at : CursorOf) → IsWellFormed (history_of at.shape) → IsWithinLimits (plan_of at.shape) (history_of at.shape) → IsGood (objects_of at.shape) (history_of at.shape) at.path → (s : IsStep memo (Some n) c at) →
-    c.decision.fate ≡ C → IsGrown memo new → Names new.states (Some to) (states_behind at.shape at.path) → IsLead new.shape new.states (record { from = n; tx = c.decision.tx; to = to })
+    c.decision.fate ≡ C → IsGrown memo new → Names new.states (Some to) (states_reached at.shape at.path) → IsLead new.shape new.states (record { from = n; tx = c.decision.tx; to = to })
 step-lead memo new n to c at fine within good s commits grown names =
     let ran = (leads-on memo n c at fine within good s).0 commits in
     let same : at.shape ≡ new.shape = sym (grown.shape ∙ s.shape) in record {
-      before = states_behind at.shape s.path;
-      after = states_behind at.shape at.path;
-      from = subst (λ l. Names l (Some n) (states_behind at.shape s.path)) (sym grown.states) (names-more memo.states grown.more (Some n) (states_behind at.shape s.path) s.names);
+      before = states_reached at.shape s.path;
+      after = states_reached at.shape at.path;
+      from = subst (λ l. Names l (Some n) (states_reached at.shape s.path)) (sym grown.states) (names-more memo.states grown.more (Some n) (states_reached at.shape s.path) s.names);
       to = names;
-      runs = ap (λ (x : ShapeOf). replayed (states_behind at.shape s.path) (row_of (history_of x) c.decision.tx).block) (sym same) ∙ ran;
+      runs = ap (λ (x : ShapeOf). replayed (states_reached at.shape s.path) (row_of (history_of x) c.decision.tx).block) (sym same) ∙ ran;
     }
 
 -- where a step leads, if it is known
 pub after-names : {V : Type 0} (memo : MemoOf V) (n to : ℕ) (c : Choice) (at : CursorOf) → IsWellFormed (history_of at.shape) → IsWithinLimits (plan_of at.shape) (history_of at.shape) → IsGood (objects_of at.shape) (history_of at.shape) at.path → (s : IsStep memo (Some n) c at) →
-    IsAfter memo n c to → Names memo.states (Some to) (states_behind at.shape at.path)
-after-names memo n to c at fine within good s (inl (inl aborts, same)) = subst (λ m. Names memo.states (Some m) (states_behind at.shape at.path)) (sym same) (step-stays memo n c at fine within good s (inl aborts))
-after-names memo n to c at fine within good s (inl (inr quiet, same)) = subst (λ m. Names memo.states (Some m) (states_behind at.shape at.path)) (sym same) (step-stays memo n c at fine within good s (inr (s.silent quiet)))
+    IsAfter memo n c to → Names memo.states (Some to) (states_reached at.shape at.path)
+after-names memo n to c at fine within good s (inl (inl aborts, same)) = subst (λ m. Names memo.states (Some m) (states_reached at.shape at.path)) (sym same) (step-stays memo n c at fine within good s (inl aborts))
+after-names memo n to c at fine within good s (inl (inr quiet, same)) = subst (λ m. Names memo.states (Some m) (states_reached at.shape at.path)) (sym same) (step-stays memo n c at fine within good s (inr (s.silent quiet)))
 after-names memo n to c at fine within good s (inr (commits, lead)) = step-known memo n to c at fine within good s commits lead
 
 -- the block of a step leads to the states there
 pub step-leads : {V : Type 0} (memo : MemoOf V) (n : ℕ) (c : Choice) (at : CursorOf) → IsWellFormed (history_of at.shape) → IsWithinLimits (plan_of at.shape) (history_of at.shape) → IsGood (objects_of at.shape) (history_of at.shape) at.path → (s : IsStep memo (Some n) c at) →
-    c.decision.fate ≡ C → LeadsTo (history_of memo.shape) memo.states (Some (record { from = n; tx = c.decision.tx })) (states_behind at.shape at.path)
+    c.decision.fate ≡ C → LeadsTo (history_of memo.shape) memo.states (Some (record { from = n; tx = c.decision.tx })) (states_reached at.shape at.path)
 step-leads memo n c at fine within good s commits = (
-  states_behind at.shape s.path,
+  states_reached at.shape s.path,
   (
     s.names,
-    ap (λ (x : ShapeOf). replayed (states_behind at.shape s.path) (row_of (history_of x) c.decision.tx).block) s.shape ∙ (leads-on memo n c at fine within good s).0 commits,
+    ap (λ (x : ShapeOf). replayed (states_reached at.shape s.path) (row_of (history_of x) c.decision.tx).block) s.shape ∙ (leads-on memo n c at fine within good s).0 commits,
   ),
 )
 
@@ -240,7 +240,7 @@ step-leads memo n c at fine within good s commits = (
 
 -- the entry of a refuted list
 pub dead-here : (shape : ShapeOf) (all : List (List ObjState)) (P : List Decision → Type 0) (placed : List Bool) (n : ℕ) (at : CursorOf) → shape ≡ at.shape → IsGood (objects_of at.shape) (history_of at.shape) at.path → Refuted (objects_of at.shape) (history_of at.shape) at.path →
-    placed ≡ map (is_named at.path) (transactions (history_of at.shape)) → Names all (Some n) (states_behind at.shape at.path) → P at.path → IsDead shape all P (record { placed = placed; states = n })
+    placed ≡ map (is_named at.path) (transactions (history_of at.shape)) → Names all (Some n) (states_reached at.shape at.path) → P at.path → IsDead shape all P (record { placed = placed; states = n })
 dead-here shape all P placed n at same good refuted is names noted =
     subst (λ (x : ShapeOf). IsDead x all P (record { placed = placed; states = n })) (sym same)
     (record { path = at.path; good = good; refuted = refuted; placed = is; states = names; noted = noted })
@@ -251,24 +251,24 @@ rows-placed shape placed at same is = ap length is ∙ length-map (transactions 
 
 -- the list of an entry is the same to what comes after it
 pub dead-alike : (shape : ShapeOf) (all : List (List ObjState)) (P : List Decision → Type 0) (placed : List Bool) (n : ℕ) (at : CursorOf) → shape ≡ at.shape →
-    placed ≡ map (is_named at.path) (transactions (history_of at.shape)) → Names all (Some n) (states_behind at.shape at.path) → IsDead shape all P (record { placed = placed; states = n }) → IsNotedAlike at.shape P at.path
+    placed ≡ map (is_named at.path) (transactions (history_of at.shape)) → Names all (Some n) (states_reached at.shape at.path) → IsDead shape all P (record { placed = placed; states = n }) → IsNotedAlike at.shape P at.path
 dead-alike shape all P placed n at same is names dead =
     let d = subst (λ (x : ShapeOf). IsDead x all P (record { placed = placed; states = n })) same dead in record {
       other = d.path;
       good = d.good;
       noted = d.noted;
       placed = sym is ∙ d.placed;
-      states = one-at (states_behind at.shape at.path) (states_behind at.shape d.path) (slice_get all n) names d.states;
+      states = one-at (states_reached at.shape at.path) (states_reached at.shape d.path) (slice_get all n) names d.states;
     }
 
 -- a list of which an entry is there is refuted
 pub dead-refuted : (shape : ShapeOf) (all : List (List ObjState)) (P : List Decision → Type 0) (placed : List Bool) (n : ℕ) (at : CursorOf) → shape ≡ at.shape → IsWellFormed (history_of at.shape) → IsWithinLimits (plan_of at.shape) (history_of at.shape) →
-    IsGood (objects_of at.shape) (history_of at.shape) at.path → placed ≡ map (is_named at.path) (transactions (history_of at.shape)) → Names all (Some n) (states_behind at.shape at.path) → IsDead shape all P (record { placed = placed; states = n }) →
+    IsGood (objects_of at.shape) (history_of at.shape) at.path → placed ≡ map (is_named at.path) (transactions (history_of at.shape)) → Names all (Some n) (states_reached at.shape at.path) → IsDead shape all P (record { placed = placed; states = n }) →
     Refuted (objects_of at.shape) (history_of at.shape) at.path
 dead-refuted shape all P placed n at same fine within good is names dead rest shown =
     let d = subst (λ (x : ShapeOf). IsDead x all P (record { placed = placed; states = n })) same dead in
     d.refuted rest (shown-same (plan_of at.shape) (history_of at.shape) at.path d.path rest fine within good d.good (sym is ∙ d.placed)
-    (one-at (states_behind at.shape at.path) (states_behind at.shape d.path) (slice_get all n) names d.states) shown)
+    (one-at (states_reached at.shape at.path) (states_reached at.shape d.path) (slice_get all n) names d.states) shown)
 
 -- # The choice after a list
 
@@ -302,15 +302,15 @@ further at d = record { shape = at.shape; path = at.path ++ d ∷ [] }
 
 -- where a choice leads that is good
 next-names : {V : Type 0} (memo : MemoOf V) (n after : ℕ) (c : Choice) (at : CursorOf) → IsWellFormed (history_of at.shape) → IsWithinLimits (plan_of at.shape) (history_of at.shape) → IsGood (objects_of at.shape) (history_of at.shape) (at.path ++ c.decision ∷ []) →
-    IsNext memo (Some n) c at → IsAfter memo n c after → Names memo.states (Some after) (states_behind at.shape (at.path ++ c.decision ∷ []))
+    IsNext memo (Some n) c at → IsAfter memo n c after → Names memo.states (Some after) (states_reached at.shape (at.path ++ c.decision ∷ []))
 next-names memo n after c at fine within longer next leads =
     after-names memo n after c (further at c.decision) fine within longer (record { shape = next.shape; path = at.path; on = refl; names = next.names; silent = next.silent }) leads
 
 -- a choice that leads to a spot that is known is refuted
-pub known-behind : {V : Type 0} (memo : MemoOf V) (P : List Decision → Type 0) (n after : ℕ) (c : Choice) (at : CursorOf) (placed : List Bool) → IsWellFormed (history_of at.shape) → IsWithinLimits (plan_of at.shape) (history_of at.shape) → IsGood (objects_of at.shape) (history_of at.shape) at.path →
+pub known-after : {V : Type 0} (memo : MemoOf V) (P : List Decision → Type 0) (n after : ℕ) (c : Choice) (at : CursorOf) (placed : List Bool) → IsWellFormed (history_of at.shape) → IsWithinLimits (plan_of at.shape) (history_of at.shape) → IsGood (objects_of at.shape) (history_of at.shape) at.path →
     IsNext memo (Some n) c at → placed ≡ map (is_named at.path) (transactions (history_of at.shape)) → IsAfter memo n c after →
     IsDead memo.shape memo.states P (record { placed = set placed c.place true; states = after }) → Refuted (objects_of at.shape) (history_of at.shape) (at.path ++ c.decision ∷ [])
-known-behind memo P n after c at placed fine within good next is leads dead rest shown =
+known-after memo P n after c at placed fine within good next is leads dead rest shown =
     let longer : IsGood (objects_of at.shape) (history_of at.shape) (at.path ++ c.decision ∷ []) =
     IsGood-push (objects_of at.shape) (history_of at.shape) at.path c.decision good (next-shown (objects_of at.shape) (history_of at.shape) at.path c.decision rest shown) in
     dead-refuted memo.shape memo.states P (set placed c.place true) after (further at c.decision) next.shape fine within longer
@@ -318,10 +318,10 @@ known-behind memo P n after c at placed fine within good next is leads dead rest
     (next-names memo n after c at fine within longer next leads) dead rest shown
 
 -- and where it is good it is the same to what comes after it
-pub alike-behind : {V : Type 0} (memo : MemoOf V) (P : List Decision → Type 0) (n after : ℕ) (c : Choice) (at : CursorOf) (placed : List Bool) → IsWellFormed (history_of at.shape) → IsWithinLimits (plan_of at.shape) (history_of at.shape) → IsGood (objects_of at.shape) (history_of at.shape) at.path →
+pub alike-after : {V : Type 0} (memo : MemoOf V) (P : List Decision → Type 0) (n after : ℕ) (c : Choice) (at : CursorOf) (placed : List Bool) → IsWellFormed (history_of at.shape) → IsWithinLimits (plan_of at.shape) (history_of at.shape) → IsGood (objects_of at.shape) (history_of at.shape) at.path →
     IsNext memo (Some n) c at → placed ≡ map (is_named at.path) (transactions (history_of at.shape)) → IsAfter memo n c after →
     IsDead memo.shape memo.states P (record { placed = set placed c.place true; states = after }) → IsGoodAt at c.decision → IsNotedAlike at.shape P (at.path ++ c.decision ∷ [])
-alike-behind memo P n after c at placed fine within good next is leads dead next_good =
+alike-after memo P n after c at placed fine within good next is leads dead next_good =
     let longer : IsGood (objects_of at.shape) (history_of at.shape) (at.path ++ c.decision ∷ []) = IsGood-push (objects_of at.shape) (history_of at.shape) at.path c.decision good next_good in
     dead-alike memo.shape memo.states P (set placed c.place true) after (further at c.decision) next.shape
     (ap (λ l. set l c.place true) is ∙ placed-with (history_of at.shape) at.path c next.row.0 next.row.1.0 next.row.1.1)

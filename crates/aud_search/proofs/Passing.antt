@@ -10,7 +10,7 @@ use Rattle.aud_order.specs.Cursors.{CursorOf}
 use Rattle.aud_search.specs.declared.choice.Choice.{Choice}
 use Rattle.aud_search.specs.Choices.{AreChoices}
 use Rattle.aud_search.specs.Levels.{AreTried, IsSearching}
-use Rattle.aud_search.specs.Memos.{MemoOf, states_behind, Names, IsNext}
+use Rattle.aud_search.specs.Memos.{MemoOf, states_reached, Names, IsNext}
 use Rattle.aud_search.specs.Readiness.{ReadyOf, IsReady}
 use Rattle.aud_search.specs.Tried.{IsFound, ArePassed}
 use Rattle.aud_search.proofs.Levels.{search-on}
@@ -19,7 +19,7 @@ use Rattle.aud_search.proofs.Refuting.{refuted-bad}
 use Rattle.aud_search.proofs.Steps.{Follows, follows, bad-none, choice-at, no_choice}
 
 -- the choice at a place is of its row's transaction
-pub next-at : {V : Type 0} (memo : MemoOf V) (n : Option ℕ) (at : CursorOf) (cs : List Choice) (k : ℕ) → AreChoices (history_of at.shape) cs → k < length cs → memo.shape ≡ at.shape → Names memo.states n (states_behind at.shape at.path) →
+pub next-at : {V : Type 0} (memo : MemoOf V) (n : Option ℕ) (at : CursorOf) (cs : List Choice) (k : ℕ) → AreChoices (history_of at.shape) cs → k < length cs → memo.shape ≡ at.shape → Names memo.states n (states_reached at.shape at.path) →
     IsNext memo n (slice_index_or cs k no_choice) at
 next-at memo n at cs k choices inside same names = record {
   shape = same;

@@ -19,12 +19,12 @@ use Rattle.aud_witness.proofs.Bridge.{tx-rows, named-at}
 use Rattle.aud_witness.proofs.Beginnings.{is_named-append}
 use Rattle.aud_order.specs.Shapes.{ShapeOf, objects_of, history_of}
 use Rattle.aud_order.specs.Cursors.{CursorOf, IsGoodAt}
-use Rattle.aud_order.proofs.KidLemmas.{late-behind}
+use Rattle.aud_order.proofs.KidLemmas.{late-after}
 use Rattle.aud_order.proofs.SilentRows.{row-found}
 use Rattle.aud_search.specs.declared.choice.Choice.{Choice}
 use Rattle.aud_search.specs.declared.ready.RowChoices.{RowChoices}
 use Rattle.aud_search.specs.Choices.{AreChoices}
-use Rattle.aud_search.specs.Readiness.{ReadyOf, chosen, no_choices, HasRows, IsLeft, IsReady, IsReadyBehind, IsReadyBefore, IsRowMarked}
+use Rattle.aud_search.specs.Readiness.{ReadyOf, chosen, no_choices, HasRows, IsLeft, IsReady, IsReadyAfter, IsReadyBefore, IsRowMarked}
 use Rattle.aud_search.proofs.Steps.{AreBad, Follows, ready-good, no_choice, choice-at, went-back}
 
 -- # Rows
@@ -295,7 +295,7 @@ not-open r cur k c choices ready at none good =
           let (row, (there, tx)) = choices.rows k c at in
           let (inside, is) = row-of h (transactions h) c.place row there in
           let first : is_enabled h cur.path (get_or (transactions h) r.begun 0) ≡ false = ready.late (omega (arith, length-map (transactions h) (row_of h))) in
-          let late : is_enabled h cur.path (get_or (transactions h) c.place 0) ≡ false = late-behind h cur.path r.begun c.place 0 behind inside first in
+          let late : is_enabled h cur.path (get_or (transactions h) c.place 0) ≡ false = late-after h cur.path r.begun c.place 0 behind inside first in
           let seen : is_enabled h cur.path c.decision.tx ≡ false = ap (is_enabled h cur.path) (sym (is ∙ tx)) ∙ late in
           let enabled = and_true (not (is_named cur.path c.decision.tx)) (is_enabled h cur.path c.decision.tx) (ready-good (objects_of cur.shape) h cur.path c.decision good) in
           let is_so : is_enabled h cur.path c.decision.tx ≡ true = enabled.1 in
@@ -333,7 +333,7 @@ pub left-start : (r : ReadyOf) (at : CursorOf) → r.shape ≡ at.shape → r.be
 left-start r at shape none = record { shape = shape; inside = omega (arith, none); left = λ k c there unmarked. inr (omega (arith, none)) }
 
 -- a transaction was placed that has no choice
-pub left-on_none : (r : ReadyOf) (at : CursorOf) (d : Decision) → IsReadyBehind r at d → IsLeft r at
+pub left-on_none : (r : ReadyOf) (at : CursorOf) (d : Decision) → IsReadyAfter r at d → IsLeft r at
 left-on_none r at d (p, (path, ready)) = record {
   shape = ready.all.shape;
   inside = ready.all.inside;
@@ -343,7 +343,7 @@ left-on_none r at d (p, (path, ready)) = record {
   ];
 }
 
-pub left-on : (old new : ReadyOf) (at : CursorOf) (d : Decision) (row : ℕ) → AreChoices (history_of at.shape) old.choices → IsReadyBehind old at d →
+pub left-on : (old new : ReadyOf) (at : CursorOf) (d : Decision) (row : ℕ) → AreChoices (history_of at.shape) old.choices → IsReadyAfter old at d →
     position (nat_eq d.tx) (map (λ (x : RowOf). x.tx) (table_of (history_of at.shape))) ≡ Some row → IsRowMarked old new row false → IsLeft new at
 left-on old new at d row choices behind found marked =
     let older = left-on_none old at d behind in record {
@@ -484,7 +484,7 @@ bad-until r start cs from next k choices same ready bad none j c past below at g
           not-open r start j c (subst (λ l. AreChoices (history_of start.shape) l) (sym same) choices) ready (ap (λ l. slice_get l j) same ∙ at) (none j high below) good
     ]
 
-pub ready-on : (start cur new : CursorOf) (cs : List Choice) (next k : ℕ) (r : ReadyOf) → Follows start cur new cs next k → cur.shape ≡ start.shape → IsReady r cur → IsReadyBehind r new (slice_index_or cs k no_choice).decision
+pub ready-on : (start cur new : CursorOf) (cs : List Choice) (next k : ℕ) (r : ReadyOf) → Follows start cur new cs next k → cur.shape ≡ start.shape → IsReady r cur → IsReadyAfter r new (slice_index_or cs k no_choice).decision
 ready-on start cur new cs next k r f same ready =
     let there : slice_get cs k ≡ Some (slice_index_or cs k no_choice) = choice-at cs k f.inside in
     let own : f.choice ≡ slice_index_or cs k no_choice = (let a = f.at in cc) in

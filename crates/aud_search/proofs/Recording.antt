@@ -17,7 +17,7 @@ use Rattle.aud_search.specs.Choices.{AreChoices}
 use Rattle.aud_search.specs.Levels.{IsSearching}
 use Rattle.aud_search.specs.Memos.{MemoOf, NameWay, IsTold}
 use Rattle.aud_search.specs.Recorders.{HasNote, HasSilent, IsReason, AreKept, IsSilentAt, reason_by}
-use Rattle.aud_search.specs.Tried.{IsFound, IsBehind, ArePassed}
+use Rattle.aud_search.specs.Tried.{IsFound, IsNextPlace, ArePassed}
 use Rattle.aud_search.proofs.Passing.{passed-search, passed-follows}
 use Rattle.aud_search.specs.Readiness.{ReadyOf, IsReady}
 use Rattle.aud_search.proofs.Levels.{there-below}
@@ -100,7 +100,7 @@ module _ (P : List Decision → Type 0) (shape : ShapeOf) (cs : List Choice) whe
 
   -- a good choice is followed
   pub open-next : (p : List Decision) (k g : ℕ) (c : Choice) (t : Turn) (silent : Option Decision) → AreChoices (history_of shape) cs → slice_get cs k ≡ Some c → AreKept P shape cs p 0 k → IsGoodNext (objects_of shape) (history_of shape) p c.decision →
-      IsBehind cs k g → IsSilentAt cs k silent → t.next ≡ g → t.silent ≡ silent → IsOpen P shape cs p c.decision t
+      IsNextPlace cs k g → IsSilentAt cs k silent → t.next ≡ g → t.silent ≡ silent → IsOpen P shape cs p c.decision t
   open-next p k g c t None choices at kept good behind quiet next is = record {
     place = k;
     choice = c;
@@ -231,7 +231,7 @@ module _ {V N : Type 0} {noted : V → N → List Decision → Type 0} {start cu
   pub round-over : (new : CursorOf) (recorder : V) (note : N) → IsFound cur new cs from None → turns ≡ [] → noted recorder note new.path → noted recorder note start.path
   round-over new recorder note (stays, bad) none holds =
       let last = subst (λ (l : List Turn). IsSearching (objects_of start.shape) (history_of start.shape) start.path cs used cur.path from (reverse (map next_of l))) none r.searching in
-      subst (λ (l : List Decision). noted recorder note l) (ap (λ (v : CursorOf). v.path) stays ∙ last.behind) holds
+      subst (λ (l : List Decision). noted recorder note l) (ap (λ (v : CursorOf). v.path) stays ∙ last.levels) holds
 
   module _ (recorder : V) (on : (p : List Decision) → HasNote (noted memo.recorder) p → HasNote (noted recorder) p) where
     -- a list is refuted, and the search goes back
@@ -246,7 +246,7 @@ module _ {V N : Type 0} {noted : V → N → List Decision → Type 0} {start cu
         (open-done (HasNote (noted recorder)) start.shape cs q d t o here_noted, rest)
 
     -- a good choice was followed
-    round-open : (new : CursorOf) (k g : ℕ) (silent : Option Decision) (t : Turn) → AreChoices (history_of start.shape) cs → (f : IsFound cur new cs from (Some k)) → IsBehind cs k g → IsSilentAt cs k silent → t.next ≡ g → t.silent ≡ silent →
+    round-open : (new : CursorOf) (k g : ℕ) (silent : Option Decision) (t : Turn) → AreChoices (history_of start.shape) cs → (f : IsFound cur new cs from (Some k)) → IsNextPlace cs k g → IsSilentAt cs k silent → t.next ≡ g → t.silent ≡ silent →
         IsOpen (HasNote (noted recorder)) start.shape cs cur.path f.0.decision t
     round-open new k g silent t choices (c, (past, inside, at, good, is, bad)) behind quiet next own =
         open-next (HasNote (noted recorder)) start.shape cs cur.path k g c t silent choices at
@@ -256,7 +256,7 @@ module _ {V N : Type 0} {noted : V → N → List Decision → Type 0} {start cu
         (good-there c.decision good) behind quiet next own
 
     -- its list is known to be refuted, and was noted
-    pub round-known : (new : CursorOf) (p : List Decision) (k g : ℕ) (silent : Option Decision) (note : N) → AreChoices (history_of start.shape) cs → IsFound cur new cs from (Some k) → IsBehind cs k g → IsSilentAt cs k silent → noted recorder note new.path → p ≡ cur.path →
+    pub round-known : (new : CursorOf) (p : List Decision) (k g : ℕ) (silent : Option Decision) (note : N) → AreChoices (history_of start.shape) cs → IsFound cur new cs from (Some k) → IsNextPlace cs k g → IsSilentAt cs k silent → noted recorder note new.path → p ≡ cur.path →
         IsHeard (HasNote (noted recorder)) start.shape cs p g silent × AreOpen (HasNote (noted recorder)) start.shape cs (reverse turns) p
     round-known new p k g silent note choices found behind quiet holds back =
         let path : new.path ≡ cur.path ++ found.0.decision ∷ [] = ap (λ (v : CursorOf). v.path) found.1.4 in
@@ -267,7 +267,7 @@ module _ {V N : Type 0} {noted : V → N → List Decision → Type 0} {start cu
         )
 
     -- its list is searched
-    pub round-deeper : (new : CursorOf) (k g : ℕ) (silent : Option Decision) (t : Turn) (more : List Turn) → AreChoices (history_of start.shape) cs → IsFound cur new cs from (Some k) → IsBehind cs k g → IsSilentAt cs k silent → t.next ≡ g → t.silent ≡ silent → more ≡ turns ++ t ∷ [] →
+    pub round-deeper : (new : CursorOf) (k g : ℕ) (silent : Option Decision) (t : Turn) (more : List Turn) → AreChoices (history_of start.shape) cs → IsFound cur new cs from (Some k) → IsNextPlace cs k g → IsSilentAt cs k silent → t.next ≡ g → t.silent ≡ silent → more ≡ turns ++ t ∷ [] →
         AreOpen (HasNote (noted recorder)) start.shape cs (reverse more) new.path
     round-deeper new k g silent t more choices found behind quiet next own grown =
         subst (λ (l : List Turn). AreOpen (HasNote (noted recorder)) start.shape cs l new.path) (sym (ap reverse grown ∙ reverse-push turns t)) (

@@ -32,9 +32,9 @@ use Rattle.aud_search.specs.declared.outcome.Ended.TheVariants as ended
 use Rattle.aud_search.specs.Choices.{AreChoices}
 use Rattle.aud_search.specs.Searches.{SpentBy, Tells}
 use Rattle.aud_search.specs.Levels.{AreTried, IsSearching, IsOneLess}
-use Rattle.aud_search.specs.Memos.{MemoOf, states_behind, Names, NameWay, IsStep}
-use Rattle.aud_search.specs.Tried.{IsTried, IsFound, IsBehind, Spends, TellsFrom, outcome_of}
-use Rattle.aud_search.proofs.Levels.{there-below, tried-more, tried-behind, search-on, search-deeper, search-spent, search-unspent, refuted-here, search-back, search-refuted, search-begins}
+use Rattle.aud_search.specs.Memos.{MemoOf, states_reached, Names, NameWay, IsStep}
+use Rattle.aud_search.specs.Tried.{IsTried, IsFound, IsNextPlace, Spends, TellsFrom, outcome_of}
+use Rattle.aud_search.proofs.Levels.{there-below, tried-more, tried-after, search-on, search-deeper, search-spent, search-unspent, refuted-here, search-back, search-refuted, search-begins}
 use Rattle.aud_search.proofs.Weights.{weigh, lighter-deeper, lighter-on, lighter-back}
 
 abbrev pub no_decision : Decision
@@ -204,15 +204,15 @@ pub record Grounds (shape : ShapeOf) (cs : List Choice) : Type 0 where
   pub within : IsWithinLimits (plan_of shape) (history_of shape)
   pub choices : AreChoices (history_of shape) cs
 
-followed-tried : (start cur new : CursorOf) (cs : List Choice) (next k g : ℕ) → Grounds start.shape cs → (f : Follows start cur new cs next k) → IsBehind cs k g →
+followed-tried : (start cur new : CursorOf) (cs : List Choice) (next k g : ℕ) → Grounds start.shape cs → (f : Follows start cur new cs next k) → IsNextPlace cs k g →
     Refuted (objects_of start.shape) (history_of start.shape) (cur.path ++ f.choice.decision ∷ []) → AreTried (objects_of start.shape) (history_of start.shape) cs cur.path g
 followed-tried start cur new cs next k g on f behind refuted =
-    tried-behind (plan_of start.shape) (history_of start.shape) cs cur.path k g f.choice on.fine on.within on.choices behind f.at f.tried
+    tried-after (plan_of start.shape) (history_of start.shape) cs cur.path k g f.choice on.fine on.within on.choices behind f.at f.tried
     (IsGood-last (objects_of start.shape) (history_of start.shape) cur.path f.choice.decision f.good) refuted
 
 pub loop-deeper : (start cur new : CursorOf) (cs : List Choice) (used next k g : ℕ) (below more : List ℕ) → Grounds start.shape cs →
     IsSearching (objects_of start.shape) (history_of start.shape) start.path cs used cur.path next (reverse below) →
-    Follows start cur new cs next k → (IsFull (history_of new.shape) new.path → ⊥) → IsBehind cs k g → more ≡ below ++ g ∷ [] →
+    Follows start cur new cs next k → (IsFull (history_of new.shape) new.path → ⊥) → IsNextPlace cs k g → more ≡ below ++ g ∷ [] →
     IsSearching (objects_of start.shape) (history_of start.shape) start.path cs (used + 1) new.path 0 (reverse more)
 loop-deeper start cur new cs used next k g below more on s f unfull behind grown =
     subst (λ l. IsSearching (objects_of start.shape) (history_of start.shape) start.path cs (used + 1) new.path 0 l) (sym (ap reverse grown ∙ reverse-push below g))
@@ -236,7 +236,7 @@ went-back start cur new popped cs next k f is = (
 -- a choice is passed over, as its list is known to be refuted
 pub loop-known : (start cur new popped : CursorOf) (cs : List Choice) (used next k g : ℕ) (below : List ℕ) → Grounds start.shape cs →
     IsSearching (objects_of start.shape) (history_of start.shape) start.path cs used cur.path next (reverse below) →
-    Follows start cur new cs next k → IsBehind cs k g → Refuted (objects_of new.shape) (history_of new.shape) new.path →
+    Follows start cur new cs next k → IsNextPlace cs k g → Refuted (objects_of new.shape) (history_of new.shape) new.path →
     popped ≡ record { shape = new.shape; path = take (length new.path - 1) new.path } →
     IsSearching (objects_of start.shape) (history_of start.shape) start.path cs used popped.path g (reverse below)
 loop-known start cur new popped cs used next k g below on s f behind refuted is =
@@ -254,7 +254,7 @@ step-at start cur new cs next k memo n ns on f same way =
       shape = same ∙ sym f.shape;
       path = cur.path;
       on = f.path ∙ ap (λ (c : Choice). cur.path ++ c.decision ∷ []) own;
-      names = subst (λ (s : ShapeOf). Names memo.states n (states_behind s cur.path)) (sym f.shape) way.0;
+      names = subst (λ (s : ShapeOf). Names memo.states n (states_reached s cur.path)) (sym f.shape) way.0;
       silent = λ quiet. subst (λ (s : ShapeOf). silent_fate (history_of s) picked.decision.tx ≡ Some picked.decision.fate) (sym f.shape) (on.choices.silent k picked there quiet);
     }
   where

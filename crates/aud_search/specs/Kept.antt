@@ -5,13 +5,13 @@ use Rattle.aud_object.specs.Replayed.{replayed}
 use Rattle.aud_history.specs.Histories.{History}
 use Rattle.aud_history.specs.Table.{row_of}
 use Rattle.aud_search.specs.declared.kept.Kept.{Kept}
-use Rattle.aud_search.specs.declared.kept.Kept.TheVariants.{Whole, Behind}
+use Rattle.aud_search.specs.declared.kept.Kept.TheVariants.{Whole, After}
 use Rattle.aud_search.specs.declared.kept.Step.{Step}
 
 -- the states that are kept, where those of the earlier numbers are known
 abbrev pub state_from : {A : Type 0} → History → List (List ObjState) → Kept A → List ObjState
 state_from h all (Whole s) = s.now
-state_from h all (Behind step cost) = unwrap_or (replayed (slice_index_or all step.from []) (row_of h step.tx).block) []
+state_from h all (After step cost) = unwrap_or (replayed (slice_index_or all step.from []) (row_of h step.tx).block) []
 
 -- the states of more numbers, after those that are known
 abbrev pub states_on : {A : Type 0} → History → List (List ObjState) → List (Kept A) → List (List ObjState)
@@ -39,7 +39,7 @@ LeadsTo h all (Some step) states = (before : List ObjState) × ((slice_get all s
 -- the blocks lead from whole states to others
 abbrev pub LeadsFrom : {A : Type 0} → History → Kept A → List ℕ → List ObjState → Type 0
 LeadsFrom h (Whole s) way states = run_way h s.now way ≡ Some states
-LeadsFrom h (Behind step cost) way states = ⊥
+LeadsFrom h (After step cost) way states = ⊥
 
 -- some more after the others
 abbrev pub IsMoreOf : {X : Type 0} → List X → List X → Type 0

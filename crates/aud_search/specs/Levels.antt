@@ -34,7 +34,7 @@ pub record IsSearching (objects : List Declared) (h : History) (p : List Decisio
   pub here : Contains es path
   pub tried : AreTried objects h cs path next
   pub fresh : AreFresh cs es path next
-  pub behind : AreBelow objects h p cs es below path
+  pub levels : AreBelow objects h p cs es below path
 
 -- one less, where there is a count
 abbrev pub IsOneLess : Option ℕ → Option ℕ → Type 0

@@ -24,8 +24,8 @@ pub record MemoOf (V : Type 0) : Type 0 where
   pub recorder : V
 
 -- the states of all objects after what is kept of a list
-abbrev pub states_behind : ShapeOf → List Decision → List ObjState
-states_behind shape p = states_after (map opening_of (objects_of shape)) (kept (history_of shape) p)
+abbrev pub states_reached : ShapeOf → List Decision → List ObjState
+states_reached shape p = states_after (map opening_of (objects_of shape)) (kept (history_of shape) p)
 
 -- a number, where there is one, is that of the states
 abbrev pub Names : List (List ObjState) → Option ℕ → List ObjState → Type 0
@@ -35,7 +35,7 @@ Names all (Some n) states = slice_get all n ≡ Some states
 -- the numbers of the states after a list and after each beginning of it, the longest first, as far as they go
 abbrev pub NameWay : ShapeOf → List (List ObjState) → List (Option ℕ) → List Decision → Type 0
 NameWay shape all [] p = Unit {0}
-NameWay shape all (n ∷ ns) p = Names all n (states_behind shape p) × NameWay shape all ns (take (length p - 1) p)
+NameWay shape all (n ∷ ns) p = Names all n (states_reached shape p) × NameWay shape all ns (take (length p - 1) p)
 
 -- the spots of a history, by their words
 abbrev pub entries_of : History → List (List ℕ) → List EntryOf
@@ -47,7 +47,7 @@ pub record IsDead (shape : ShapeOf) (all : List (List ObjState)) (P : List Decis
   pub good : IsGood (objects_of shape) (history_of shape) path
   pub refuted : Refuted (objects_of shape) (history_of shape) path
   pub placed : e.placed ≡ map (is_named path) (transactions (history_of shape))
-  pub states : slice_get all e.states ≡ Some (states_behind shape path)
+  pub states : slice_get all e.states ≡ Some (states_reached shape path)
   pub noted : P path
 
 -- the block of the transaction leads from some states to others
@@ -82,13 +82,13 @@ pub record IsStep {V : Type 0} (memo : MemoOf V) (from : Option ℕ) (c : Choice
   pub shape : memo.shape ≡ at.shape
   pub path : List Decision
   pub on : at.path ≡ path ++ c.decision ∷ []
-  pub names : Names memo.states from (states_behind at.shape path)
+  pub names : Names memo.states from (states_reached at.shape path)
   pub silent : c.effect ≡ Silent → silent_fate (history_of at.shape) c.decision.tx ≡ Some c.decision.fate
 
 -- after the cursor's list, where the states have the number, the choice is one of its row's transaction
 pub record IsNext {V : Type 0} (memo : MemoOf V) (states : Option ℕ) (c : Choice) (at : CursorOf) : Type 0 where
   pub shape : memo.shape ≡ at.shape
-  pub names : Names memo.states states (states_behind at.shape at.path)
+  pub names : Names memo.states states (states_reached at.shape at.path)
   pub silent : c.effect ≡ Silent → silent_fate (history_of at.shape) c.decision.tx ≡ Some c.decision.fate
   pub row : (r : RowOf) × ((slice_get (table_of (history_of at.shape)) c.place ≡ Some r) × (r.tx ≡ c.decision.tx))
 
@@ -106,5 +106,5 @@ abbrev pub IsRefutedAt : CursorOf → Type 0
 IsRefutedAt c = Refuted (objects_of c.shape) (history_of c.shape) c.path
 
 -- the same of the cursor's list with the decision after it
-abbrev pub IsRefutedBehind : CursorOf → Decision → Type 0
-IsRefutedBehind c d = Refuted (objects_of c.shape) (history_of c.shape) (c.path ++ d ∷ [])
+abbrev pub IsRefutedAfter : CursorOf → Decision → Type 0
+IsRefutedAfter c d = Refuted (objects_of c.shape) (history_of c.shape) (c.path ++ d ∷ [])

@@ -43,8 +43,8 @@ pub record IsReady (r : ReadyOf) (at : CursorOf) : Type 0 where
   pub late : r.begun < length (table_of (history_of at.shape)) → is_enabled (history_of at.shape) at.path (slice_index_or (transactions (history_of at.shape)) r.begun 0) ≡ false
 
 -- the cursor is one decision further than where they were ready
-abbrev pub IsReadyBehind : ReadyOf → CursorOf → Decision → Type 0
-IsReadyBehind r at d = (p : List Decision) × ((at.path ≡ p ++ d ∷ []) × IsReady r (record { shape = at.shape; path = p }))
+abbrev pub IsReadyAfter : ReadyOf → CursorOf → Decision → Type 0
+IsReadyAfter r at d = (p : List Decision) × ((at.path ≡ p ++ d ∷ []) × IsReady r (record { shape = at.shape; path = p }))
 
 -- the cursor is one decision less than where they were ready
 abbrev pub IsReadyBefore : ReadyOf → CursorOf → Decision → Type 0

@@ -9,7 +9,7 @@ use Rattle.aud_search.specs.declared.choice.Effect.TheVariants as effect
 use Rattle.aud_search.specs.declared.choice.Choice.{Choice}
 use Rattle.aud_search.specs.declared.memo.Reason.{Reason}
 use Rattle.aud_search.specs.declared.memo.Reason.TheVariants.{Kids, Silent, Same}
-use Rattle.aud_search.specs.Memos.{states_behind}
+use Rattle.aud_search.specs.Memos.{states_reached}
 use Rattle.aud_order.specs.Cursors.{CursorOf, IsGoodAt}
 
 -- some note is of the list
@@ -26,14 +26,14 @@ pub record IsNotedAlike (shape : ShapeOf) (P : List Decision → Type 0) (p : Li
   pub good : IsGood (objects_of shape) (history_of shape) other
   pub noted : P other
   pub placed : map (is_named p) (transactions (history_of shape)) ≡ map (is_named other) (transactions (history_of shape))
-  pub states : states_behind shape p ≡ states_behind shape other
+  pub states : states_reached shape p ≡ states_reached shape other
 
 -- p is not full, and P holds of each good list that is one decision longer
 pub record HasKids (shape : ShapeOf) (P : List Decision → Type 0) (p : List Decision) : Type 0 where
   pub unfull : IsFull (history_of shape) p → ⊥
   pub kids : (d : Decision) → IsGoodNext (objects_of shape) (history_of shape) p d → P (p ++ d ∷ [])
 
--- d is of a silent transaction with its silent fate, good after p, and P holds of the list behind it
+-- d is of a silent transaction with its silent fate, good after p, and P holds of the list after it
 pub record HasSilent (shape : ShapeOf) (P : List Decision → Type 0) (p : List Decision) (d : Decision) : Type 0 where
   pub silent : silent_fate (history_of shape) d.tx ≡ Some d.fate
   pub good : IsGoodNext (objects_of shape) (history_of shape) p d
@@ -52,7 +52,7 @@ pub record IsHearable (is_for : ShapeOf → Type 0) (p : List Decision) (Q : Sha
   pub good : IsGood (objects_of shape) (history_of shape) p
   pub refuted : Q shape
 
--- P holds of the lists behind the good choices from one place up to another
+-- P holds of the lists after the good choices from one place up to another
 abbrev pub AreKept : (List Decision → Type 0) → ShapeOf → List Choice → List Decision → ℕ → ℕ → Type 0
 AreKept P shape cs p from to = (j : ℕ) (c : Choice) → from ≤ j → j < to → slice_get cs j ≡ Some c → IsGoodNext (objects_of shape) (history_of shape) p c.decision → P (p ++ c.decision ∷ [])
 
@@ -67,5 +67,5 @@ reason_by None = Kids
 reason_by (Some d) = Silent d
 
 -- where the decision is good after the cursor's list, the note is of a list that is the same as that list with it
-abbrev pub IsNotedBehind : CursorOf → Decision → (List Decision → Type 0) → Type 0
-IsNotedBehind c d P = IsGoodAt c d → IsNotedAlike c.shape P (c.path ++ d ∷ [])
+abbrev pub IsNotedAfter : CursorOf → Decision → (List Decision → Type 0) → Type 0
+IsNotedAfter c d P = IsGoodAt c d → IsNotedAlike c.shape P (c.path ++ d ∷ [])

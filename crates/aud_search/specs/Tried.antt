@@ -32,7 +32,7 @@ abbrev pub ArePassed : CursorOf → List Choice → ℕ → ℕ → Type 0
 ArePassed at cs from to = (from ≤ to) × ((j : ℕ) (c : Choice) → from ≤ j → j < to → slice_get cs j ≡ Some c → Refuted (objects_of at.shape) (history_of at.shape) (at.path ++ c.decision ∷ []))
 
 -- the place of the next choice once the one at k is refuted: after one of a silent transaction none is left
-pub record IsBehind (cs : List Choice) (k g : ℕ) : Type 0 where
+pub record IsNextPlace (cs : List Choice) (k g : ℕ) : Type 0 where
   pub past : k < g
   pub inside : g ≤ length cs
   pub silent : (c : Choice) → slice_get cs k ≡ Some c → (g ≡ k + 1) ⊎ (c.effect ≡ Silent)

@@ -19,7 +19,7 @@ use std::alloc::{Allocator, Global};
 pub(crate) enum Kept<A: Allocator = Global> {
     Whole(Store<A>),
     /// By the step that leads to them, and what runs from whole ones on.
-    Behind(Step, Cost),
+    After(Step, Cost),
 }
 
 /// From the states under a number by the block of a transaction.
@@ -127,7 +127,7 @@ fn way_to<A: Allocator + Copy>(
     while way.len() <= LONGEST {
         match kept.get(at)? {
             Kept::Whole(_) => return Some(at),
-            Kept::Behind(step, _) => {
+            Kept::After(step, _) => {
                 if step.from >= at || way.push(step.tx).is_err() {
                     return None;
                 }
@@ -150,7 +150,7 @@ fn leads_from<A: Allocator + Copy>(
 {
     match kept {
         Kept::Whole(store) => leads_to(store, shape, way, other),
-        Kept::Behind(_, _) => false,
+        Kept::After(_, _) => false,
     }
 }
 
@@ -202,7 +202,7 @@ fn find_states<A: Allocator + Copy>(
 /// What would run from whole states on, the block of the step last.
 fn cost_of<A: Allocator + Copy>(kept: &[Kept<A>], shape: &Shape<A>, step: Step) -> Cost {
     let (blocks, operations) = match kept.get(step.from) {
-        Some(Kept::Behind(_, cost)) => (cost.blocks, cost.operations),
+        Some(Kept::After(_, cost)) => (cost.blocks, cost.operations),
         _ => (0, 0),
     };
     let own = match block_of(shape, step.tx) {
@@ -229,7 +229,7 @@ fn kept_as<A: Allocator + Copy>(
     if let Some(step) = step {
         let cost = cost_of(kept, shape, step);
         if cost.blocks <= LONGEST && cost.operations <= store.size() {
-            return Some(Kept::Behind(step, cost));
+            return Some(Kept::After(step, cost));
         }
     }
     match store.present() {
@@ -242,7 +242,7 @@ fn kept_as<A: Allocator + Copy>(
 fn size_of<A: Allocator + Copy>(fresh: &Kept<A>) -> usize {
     match fresh {
         Kept::Whole(store) => store.size().saturating_mul(SIZE.0).saturating_add(SIZE.1),
-        Kept::Behind(_, _) => SIZE.1,
+        Kept::After(_, _) => SIZE.1,
     }
 }
 

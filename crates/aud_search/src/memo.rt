@@ -9,8 +9,8 @@ ghost use Rattle.aud_witness.specs.Orders.{Refuted};
 ghost use Rattle.aud_order.specs.Shapes.{objects_of, history_of};
 ghost use Rattle.aud_order.specs.Cursors.{IsGoodAt};
 ghost use Rattle.aud_search.specs.Kept.{LeadsTo};
-ghost use Rattle.aud_search.specs.Memos.{states_behind, Names, IsLead, IsGrown, IsTold, IsStep, IsNext, IsAfter, LeavesStates, IsRefutedAt, IsRefutedBehind};
-ghost use Rattle.aud_search.specs.Recorders.{IsReason, IsNotedAlike, HasNote, IsNotedBehind};
+ghost use Rattle.aud_search.specs.Memos.{states_reached, Names, IsLead, IsGrown, IsTold, IsStep, IsNext, IsAfter, LeavesStates, IsRefutedAt, IsRefutedAfter};
+ghost use Rattle.aud_search.specs.Recorders.{IsReason, IsNotedAlike, HasNote, IsNotedAfter};
 ghost use Rattle.aud_search.specs.Spots.{AreWith};
 
 use crate::choice::{Choice, Effect};
@@ -38,7 +38,7 @@ pub(crate) struct Lead {
 pub(crate) enum Reason<N> {
     /// It is not full, and each good list that is one decision longer was noted.
     Kids,
-    /// The decision is of a silent transaction and good after the list, and the list behind it was noted.
+    /// The decision is of a silent transaction and good after the list, and the list after it was noted.
     Silent(Decision),
     /// The note is of a good list that places the same transactions and leaves the same states.
     Same(N),
@@ -192,9 +192,9 @@ impl<'a, N: Copy, R: Recorder<N>, A: Allocator + Copy> Memo<'a, N, R, A> {
 
     /// The number of the states where the cursor stands, which may be a new one, if there is room and memory for it.
     fn number(&mut self, step: Option<Step>, cursor: &Cursor<A>) -> Option<usize>
-        requires { LeadsTo (history_of self.old.shape) self.old.states step (states_behind cursor.now.shape cursor.now.path) }
+        requires { LeadsTo (history_of self.old.shape) self.old.states step (states_reached cursor.now.shape cursor.now.path) }
         ensures grown { IsGrown self.old self.new }
-        ensures named { Names self.new.states result (states_behind cursor.now.shape cursor.now.path) }
+        ensures named { Names self.new.states result (states_reached cursor.now.shape cursor.now.path) }
     {
         keep_states(
             &mut self.kept,
@@ -261,7 +261,7 @@ impl<'a, N: Copy, R: Recorder<N>, A: Allocator + Copy> Memo<'a, N, R, A> {
     ) -> Option<usize>
         requires { IsStep self.old from choice.now cursor.now }
         ensures grown { IsGrown self.old self.new }
-        ensures named { Names self.new.states result (states_behind cursor.now.shape cursor.now.path) }
+        ensures named { Names self.new.states result (states_reached cursor.now.shape cursor.now.path) }
     {
         let _ = self.shape.history();
         let _ = self.shape.plan();
@@ -293,7 +293,7 @@ impl<'a, N: Copy, R: Recorder<N>, A: Allocator + Copy> Memo<'a, N, R, A> {
     /// have the number. It does not allocate.
     pub(crate) fn knows(&self, states: Option<usize>, cursor: &Cursor<A>) -> Option<N>
         requires shape { self.now.shape ≡ cursor.now.shape }
-        requires named { Names self.now.states states (states_behind cursor.now.shape cursor.now.path) }
+        requires named { Names self.now.states states (states_reached cursor.now.shape cursor.now.path) }
         ensures refuted { IfSome result (λ note. IsRefutedAt cursor.now) }
         ensures alike { IfSome result (λ note. IsNotedAlike cursor.now.shape (R.noted self.now.recorder note) cursor.now.path) }
     {
@@ -311,15 +311,15 @@ impl<'a, N: Copy, R: Recorder<N>, A: Allocator + Copy> Memo<'a, N, R, A> {
 
     /// The note of a refuted list that is the same as the cursor's with the choice after it, if one is known by where the
     /// choice's block leads. No block runs, and it does not allocate.
-    pub(crate) fn knows_behind(
+    pub(crate) fn knows_after(
         &self,
         states: Option<usize>,
         choice: &Choice,
         cursor: &Cursor<A>,
     ) -> Option<N>
         requires { IsNext self.now states choice.now cursor.now }
-        ensures refuted { IfSome result (λ note. IsRefutedBehind cursor.now choice.now.decision) }
-        ensures alike { IfSome result (λ note. IsNotedBehind cursor.now choice.now.decision (R.noted self.now.recorder note)) }
+        ensures refuted { IfSome result (λ note. IsRefutedAfter cursor.now choice.now.decision) }
+        ensures alike { IfSome result (λ note. IsNotedAfter cursor.now choice.now.decision (R.noted self.now.recorder note)) }
     {
         let _ = self.shape.history();
         let _ = self.shape.plan();
@@ -339,7 +339,7 @@ impl<'a, N: Copy, R: Recorder<N>, A: Allocator + Copy> Memo<'a, N, R, A> {
     /// Remembers the cursor's list, which is refuted, with its note, if memory is there for it.
     pub(crate) fn learn(&mut self, states: Option<usize>, note: N, cursor: &Cursor<A>)
         requires shape { self.old.shape ≡ cursor.now.shape }
-        requires named { Names self.old.states states (states_behind cursor.now.shape cursor.now.path) }
+        requires named { Names self.old.states states (states_reached cursor.now.shape cursor.now.path) }
         requires refuted { IsRefutedAt cursor.now }
         requires noted { R.noted self.old.recorder note cursor.now.path }
         ensures { IsGrown self.old self.new }
@@ -366,7 +366,7 @@ impl<'a, N: Copy, R: Recorder<N>, A: Allocator + Copy> Memo<'a, N, R, A> {
     /// Keeps the spot of the cursor's list, which is refuted, and whose states have the number.
     fn keep_refuted(&mut self, states: usize, note: N, cursor: &Cursor<A>)
         requires shape { self.old.shape ≡ cursor.now.shape }
-        requires named { Names self.old.states (Some states) (states_behind cursor.now.shape cursor.now.path) }
+        requires named { Names self.old.states (Some states) (states_reached cursor.now.shape cursor.now.path) }
         requires refuted { IsRefutedAt cursor.now }
         requires noted { R.noted self.old.recorder note cursor.now.path }
         ensures { self.new ≡ self.old }

@@ -4,7 +4,7 @@ ghost use Rattle.std.specs.Prelude.{◌≡◌, ◌<◌, length, Some, None, IfOk
 ghost use Rattle.aud_marks.specs.Marked.{IsNextMark};
 ghost use Rattle.aud_order.specs.Shapes.{history_of};
 ghost use Rattle.aud_search.specs.Choices.{AreChoices};
-ghost use Rattle.aud_search.specs.Readiness.{chosen, HasRows, IsLeft, IsReady, IsReadyBehind, IsReadyBefore, IsRowMarked};
+ghost use Rattle.aud_search.specs.Readiness.{chosen, HasRows, IsLeft, IsReady, IsReadyAfter, IsReadyBefore, IsRowMarked};
 
 use crate::choice::Choice;
 use aud_event::OutOfMemory;
@@ -166,7 +166,7 @@ impl<'a, A: Allocator + Copy> Ready<'a, A> {
 
     /// The cursor went one decision further.
     pub(crate) fn go_on(&mut self, decision: Decision, cursor: &Cursor<A>)
-        requires { IsReadyBehind self.old cursor.now decision }
+        requires { IsReadyAfter self.old cursor.now decision }
         ensures ready { IsReady self.new cursor.now }
         ensures choices { self.new.choices ≡ self.old.choices }
     {

@@ -30,7 +30,7 @@ pub trait Recorder<N>: Drop {
         ensures noted { IfOk result (λ note. noted self.new note list.now) }
         ensures grows { grows self.old self.new };
 
-    /// Notes the good list: the decision is of a silent transaction and good after it, and the list behind it was noted.
+    /// Notes the good list: the decision is of a silent transaction and good after it, and the list after it was noted.
     fn note_silent(&mut self, list: &[Decision], decision: Decision) -> Result<N, OutOfMemory>
         requires { IsHearable (is_for self.old) list.now (λ shape. HasSilent shape (HasNote (noted self.old)) list.now decision) }
         ensures noted { IfOk result (λ note. noted self.new note list.now) }

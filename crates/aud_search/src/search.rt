@@ -11,9 +11,9 @@ ghost use Rattle.aud_search.specs.Levels.{IsOneLess};
 ghost use Rattle.aud_search.specs.Readiness.{IsReady};
 ghost use Rattle.aud_search.specs.Searches.{Tells, TellsWith, Decides, DecidesByLetter};
 ghost use Rattle.aud_order.specs.Cursors.{IsGoodAt, cursor_back, cursor_with};
-ghost use Rattle.aud_search.specs.Tried.{IsTried, IsFound, IsBehind, ArePassed, TellsFrom, TellsAt};
-ghost use Rattle.aud_search.specs.Memos.{Names, states_behind, IsTold};
-ghost use Rattle.aud_search.specs.Recorders.{HasNote, IsNotedFor, IsNotedAlike, AreKept, IsSilentAt, reason_by, IsNotedBehind};
+ghost use Rattle.aud_search.specs.Tried.{IsTried, IsFound, IsNextPlace, ArePassed, TellsFrom, TellsAt};
+ghost use Rattle.aud_search.specs.Memos.{Names, states_reached, IsTold};
+ghost use Rattle.aud_search.specs.Recorders.{HasNote, IsNotedFor, IsNotedAlike, AreKept, IsSilentAt, reason_by, IsNotedAfter};
 
 use crate::choice::{Choice, Effect, choices_of};
 use crate::memo::{Memo, Reason};
@@ -80,7 +80,7 @@ fn pass<N: Copy, R: Recorder<N>, A: Allocator + Copy>(
     note: N,
 ) -> Result<(), OutOfMemory>
     requires shape { memo.old.shape ≡ cursor.old.shape }
-    requires alike { IsNotedBehind cursor.old decision (R.noted memo.old.recorder note) }
+    requires alike { IsNotedAfter cursor.old decision (R.noted memo.old.recorder note) }
     ensures noted { OnOk result (IsGoodAt cursor.old decision → HasNote (R.noted memo.new.recorder) (cursor.old.path ++ decision ∷ [])) }
     ensures stays { OnOk result (cursor.new ≡ cursor.old) }
     ensures told { OnOk result (IsTold R.grows memo.old memo.new) }
@@ -109,7 +109,7 @@ fn pass_known<N: Copy, R: Recorder<N>, A: Allocator + Copy>(
     requires same { ready.now.choices ≡ choices.now }
     requires ready { IsReady ready.now cursor.old }
     requires shape { memo.old.shape ≡ cursor.old.shape }
-    requires named { Names memo.old.states here.states (states_behind cursor.old.shape cursor.old.path) }
+    requires named { Names memo.old.states here.states (states_reached cursor.old.shape cursor.old.path) }
     ensures passed { IfOk result (ArePassed cursor.old choices.now here.next) }
     ensures kept { IfOk result (AreKept (HasNote (R.noted memo.new.recorder)) cursor.old.shape choices.now cursor.old.path here.next) }
     ensures stays { OnOk result (cursor.new ≡ cursor.old) }
@@ -118,7 +118,7 @@ fn pass_known<N: Copy, R: Recorder<N>, A: Allocator + Copy>(
     let mut from = here.next;
     while let Some(place) = ready.next(from) {
         let choice = &choices[place];
-        let Some(note) = memo.knows_behind(here.states, choice, cursor) else {
+        let Some(note) = memo.knows_after(here.states, choice, cursor) else {
             return Ok(from);
         };
         pass(memo, cursor, choice.decision, note)?;
@@ -160,9 +160,9 @@ fn go_back<N: Copy, R: Recorder<N>, A: Allocator + Copy>(
 }
 
 /// The place of the next choice once this one is refuted. After one of a silent transaction none is left to try.
-fn place_behind(choices: &[Choice], place: usize) -> usize
+fn next_place(choices: &[Choice], place: usize) -> usize
     requires { place < length choices.now }
-    ensures { IsBehind choices.now place result }
+    ensures { IsNextPlace choices.now place result }
 {
     match choices[place].effect {
         Effect::Silent => choices.len(),
@@ -254,7 +254,7 @@ fn search_from<'a, N: Copy, R: Recorder<N>, A: Allocator + Copy>(
             let witness = Prefix::copy_of(alloc, cursor.prefix())?;
             return Ok(Ended::Witness(witness));
         }
-        here.next = place_behind(choices, place);
+        here.next = next_place(choices, place);
         here.silent = silent_at(choices, place);
         memo.touch(choices[place].decision);
         let states = memo.follow(here.states, &choices[place], cursor);
@@ -285,7 +285,7 @@ fn search<'a, A: Allocator + Copy>(
     ensures told { IfOk result (Tells (objects_of shape.now) (history_of shape.now) prefix.now budget) }
     ensures shape { OnOk result (memo.new.shape ≡ memo.old.shape) }
 {
-    let Some(mut cursor) = Cursor::behind(alloc, shape, prefix)? else {
+    let Some(mut cursor) = Cursor::after(alloc, shape, prefix)? else {
         return Ok(Outcome::Refuted);
     };
     let _ = cursor.prefix();

@@ -24,8 +24,8 @@ kept_refuted atoms t (q, (rest, (there, is))) =
     some_passes (λ p. begins decision_cmp p (q ++ rest)) (norm_of atoms).cover
     (covers-norm fact_total fact_exact decisions_total decision_exact atoms (q ++ rest)
     ∙ one_passes (λ p. begins decision_cmp p (q ++ rest)) (refuted_of atoms) q (there_refuted atoms q there) (begins-longer q rest)) in
-    let behind = begins-rest found.0 (q ++ rest) found.2 in
-    (found.0, (behind.0, (found.1, is ∙ behind.1)))
+    let after = begins-rest found.0 (q ++ rest) found.2 in
+    (found.0, (after.0, (found.1, is ∙ after.1)))
 
 -- the least witness is the witness of an atom, and there is one where an atom is a witness
 kept_shown : (atoms : List KnownAtom) (w : Option (List Decision)) → IsLeastShown atoms w → HasShown atoms → (p : List Decision) × (w ≡ Some p)

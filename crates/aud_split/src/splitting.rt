@@ -48,7 +48,7 @@ pub fn split<A: Allocator + Copy>(
     ensures bad { IfOk result (λ tasks. (IsGood (objects_of shape.now) (history_of shape.now) prefix.now → ⊥) → tasks.items ≡ []) }
 {
     let mut list = Vec::new(alloc);
-    if let Some(mut cursor) = Cursor::behind(alloc, shape, prefix.decisions())? {
+    if let Some(mut cursor) = Cursor::after(alloc, shape, prefix.decisions())? {
         split_here(alloc, &mut cursor, depth, &mut list)?;
     }
     Ok(list)

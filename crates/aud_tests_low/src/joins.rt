@@ -243,7 +243,7 @@ fn a_cover_marks_lists(rt: HostRuntime) {
     assert!(rt; Cover::<u32>::empty(rt.alloc()).mark(&[]) == Mark::Outside);
 }
 
-/// Whether the trie of the lists `1` and `2 2` leads to its members and to the node between, and nowhere behind a member.
+/// Whether the trie of the lists `1` and `2 2` leads to its members and to the node between, and nowhere below a member.
 fn trie_leads(alloc: Global) -> Result<bool, OutOfMemory> {
     let cover = joined_cover(alloc)?;
     let trie = cover.trie();

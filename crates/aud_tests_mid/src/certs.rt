@@ -9,7 +9,7 @@ use aud_know::{Item, Knowledge, Verdict};
 use aud_text::TextFault;
 use aud_worked::{
     BAD_COUNT, COUNT_IS_LOST, LIVE_WRITE_IS_SEEN, PENDING_COMMIT_IS_SEEN, READ_OF_NOTHING,
-    STALE_READ_BEHIND_COMMIT, TORN_READ_THEN_ABORT, Unread,
+    STALE_READ_AFTER_COMMIT, TORN_READ_THEN_ABORT, Unread,
 };
 use std::alloc::{Allocator, Global};
 use std::sync::Arc;
@@ -238,7 +238,7 @@ fn is_accepted_again(alloc: Global, input: &str) -> Result<bool, Fail> {
 fn what_is_made_is_accepted(rt: HostRuntime) -> Result<(), Fail> {
     let inputs: [&str; 6] = [
         TORN_READ_THEN_ABORT,
-        STALE_READ_BEHIND_COMMIT,
+        STALE_READ_AFTER_COMMIT,
         LIVE_WRITE_IS_SEEN,
         COUNT_IS_LOST,
         READ_OF_NOTHING,

@@ -13,7 +13,7 @@ use aud_refusing::Refusing;
 use aud_witness::OrderFault;
 use aud_worked::{
     BOTH_FIND_IT_ABSENT, COUNT_IS_LOST, NOTHING_HAPPENED, PENDING_COMMIT_IS_UNSEEN,
-    READER_BEHIND_COMMIT, TORN_READ_THEN_ABORT, Unread, facts_of, facts_on, sealed_from,
+    READER_AFTER_COMMIT, TORN_READ_THEN_ABORT, Unread, facts_of, facts_on, sealed_from,
 };
 use std::alloc::{AllocError, Allocator, Global};
 use std::test::Fail;
@@ -223,7 +223,7 @@ fn each_refusal_is_told(rt: HostRuntime) -> Result<(), Fail> {
         ),
         (
             Question::OfFacts(Asked::IsDecided),
-            READER_BEHIND_COMMIT,
+            READER_AFTER_COMMIT,
             20,
             200,
         ),

@@ -11,8 +11,8 @@ use aud_witness::Prefix;
 use aud_worked::{
     BOTH_FIND_IT_ABSENT, COUNT_IS_LOST, IDLE_WRITE_STANDS_LATER, ITEM_IS_PASSED_ON,
     LIVE_WRITE_IS_SEEN, NOTHING_HAPPENED, PENDING_COMMIT_IS_SEEN, PENDING_COMMIT_IS_UNSEEN,
-    READ_BEFORE_COMMIT, READER_BEHIND_COMMIT, STALE_READ_BEHIND_COMMIT, TORN_READ_THEN_ABORT,
-    Unread, facts_of,
+    READ_BEFORE_COMMIT, READER_AFTER_COMMIT, STALE_READ_AFTER_COMMIT, TORN_READ_THEN_ABORT, Unread,
+    facts_of,
 };
 use runs::{counters, readers};
 use std::alloc::{Allocator, Global};
@@ -34,14 +34,14 @@ pub(crate) fn is_decided<A: Allocator + Copy>(
 fn histories_are_decided(rt: HostRuntime) -> Result<(), Fail> {
     let cases: [(&str, &str); 11] = [
         (NOTHING_HAPPENED, "none"),
-        (READER_BEHIND_COMMIT, "1c 2c"),
+        (READER_AFTER_COMMIT, "1c 2c"),
         (PENDING_COMMIT_IS_SEEN, "1c 2c"),
         (READ_BEFORE_COMMIT, "1c 2c"),
         (ITEM_IS_PASSED_ON, "1c 2c 3c"),
         (IDLE_WRITE_STANDS_LATER, "2c 1c 3c"),
         (BOTH_FIND_IT_ABSENT, "2a 1c"),
         (TORN_READ_THEN_ABORT, "not opaque"),
-        (STALE_READ_BEHIND_COMMIT, "not opaque"),
+        (STALE_READ_AFTER_COMMIT, "not opaque"),
         (LIVE_WRITE_IS_SEEN, "not opaque"),
         (COUNT_IS_LOST, "not opaque"),
     ];
@@ -146,7 +146,7 @@ fn explored_whole(alloc: Global, facts: &Facts, budget: u64) -> Result<Told, Unr
 
 /// Eleven readers on the plan of a worked history.
 fn eleven_readers(alloc: Global) -> Result<Facts, Unread> {
-    let register = facts_of(alloc, READER_BEHIND_COMMIT)?;
+    let register = facts_of(alloc, READER_AFTER_COMMIT)?;
     readers(alloc, register.plan(), 11)
 }
 

@@ -5,7 +5,7 @@ use aud_history::Rule;
 use aud_worked::{
     ABORT_WHILE_IDLE, ANSWER_UNASKED, BOTH_FIND_IT_ABSENT, COUNT_IS_LOST, IDLE_WRITE_STANDS_LATER,
     ITEM_IS_PASSED_ON, LIVE_WRITE_IS_SEEN, NOTHING_HAPPENED, PENDING_COMMIT_IS_SEEN,
-    PENDING_COMMIT_IS_UNSEEN, READ_BEFORE_COMMIT, READER_BEHIND_COMMIT, STALE_READ_BEHIND_COMMIT,
+    PENDING_COMMIT_IS_UNSEEN, READ_BEFORE_COMMIT, READER_AFTER_COMMIT, STALE_READ_AFTER_COMMIT,
     TORN_READ_THEN_ABORT, Unread, facts_of, history_of,
 };
 use std::alloc::Global;
@@ -29,11 +29,11 @@ fn read(alloc: Global, input: &str) -> Result<(usize, Option<(u32, u32)>), Unrea
 fn histories_are_read(rt: HostRuntime) -> Result<(), Fail> {
     let cases: [(&str, usize, Option<(u32, u32)>); 14] = [
         (NOTHING_HAPPENED, 0, None),
-        (READER_BEHIND_COMMIT, 8, None),
+        (READER_AFTER_COMMIT, 8, None),
         (TORN_READ_THEN_ABORT, 12, None),
         (PENDING_COMMIT_IS_SEEN, 7, None),
         (PENDING_COMMIT_IS_UNSEEN, 7, None),
-        (STALE_READ_BEHIND_COMMIT, 8, None),
+        (STALE_READ_AFTER_COMMIT, 8, None),
         (LIVE_WRITE_IS_SEEN, 6, None),
         (READ_BEFORE_COMMIT, 8, None),
         (ITEM_IS_PASSED_ON, 12, None),

@@ -13,7 +13,7 @@ use aud_report::{ChokingSink, DrippingSource, MemorySink, MemorySource};
 use aud_worked::{
     ABORT_WHILE_IDLE, ANSWER_UNASKED, COUNT_IS_LOST, FALLING_STAMPS, GREAT_TRANSACTION,
     IDLE_WRITE_STANDS_LATER, ITEM_IS_PASSED_ON, LATE, LATE_RECORD, MISSING_STAMP, NOTHING_HAPPENED,
-    PENDING_COMMIT_IS_UNSEEN, READER_BEHIND_COMMIT, TORN_READ_THEN_ABORT, TWO_COUNTS, TWO_RECORDS,
+    PENDING_COMMIT_IS_UNSEEN, READER_AFTER_COMMIT, TORN_READ_THEN_ABORT, TWO_COUNTS, TWO_RECORDS,
 };
 use std::alloc::{AllocError, Global};
 use std::sync::Wait;
@@ -79,7 +79,7 @@ type Row = (&'static str, Option<u64>, &'static str, u8);
 const ROWS: [Row; 21] = [
     (NOTHING_HAPPENED, None, "opaque none", 0),
     (NOTHING_HAPPENED, Some(0), "opaque none", 0),
-    (READER_BEHIND_COMMIT, None, "opaque 1c 2c", 0),
+    (READER_AFTER_COMMIT, None, "opaque 1c 2c", 0),
     (TORN_READ_THEN_ABORT, None, "not opaque", 1),
     (TORN_READ_THEN_ABORT, Some(0), "unfinished", 2),
     (TORN_READ_THEN_ABORT, Some(1), "not opaque", 1),
@@ -117,11 +117,11 @@ fn worked_histories_are_audited(rt: HostRuntime) -> Result<(), Fail> {
 fn is_said_once_it_came<R: Threads + Wait + Sync>(
     rt: &R,
     alloc: Global,
-    behind: usize,
+    after: usize,
     times: usize,
 ) -> Result<bool, AllocError> {
     let more = [LATE.as_bytes(); 5];
-    let input = with_lines(alloc, LATE_RECORD, behind, more.get(..times).unwrap_or(&[]))?;
+    let input = with_lines(alloc, LATE_RECORD, after, more.get(..times).unwrap_or(&[]))?;
     is_said(
         rt,
         alloc,
@@ -134,11 +134,11 @@ fn is_said_once_it_came<R: Threads + Wait + Sync>(
 
 #[test]
 fn late_record_is_audited_anywhere(rt: HostRuntime) -> Result<(), Fail> {
-    for behind in 2..11usize {
+    for after in 2..11usize {
         for times in [1, 5usize] {
             assert!(rt;
-                is_said_once_it_came(&rt, rt.alloc(), behind, times)?,
-                "{times} behind {behind}"
+                is_said_once_it_came(&rt, rt.alloc(), after, times)?,
+                "{times} after {after}"
             );
         }
     }
@@ -272,7 +272,7 @@ fn dripped<R: Threads + Wait + Sync>(
 ) -> Option<(Ended, usize, u64)> {
     let job = audit_by(2, 2, None)?;
     let mut source = DrippingSource {
-        bytes: Vec::from_slice(alloc, READER_BEHIND_COMMIT.as_bytes()).ok()?,
+        bytes: Vec::from_slice(alloc, READER_AFTER_COMMIT.as_bytes()).ok()?,
         at: 0,
         reads,
         failures: 0,
@@ -302,7 +302,7 @@ fn choked<R: Threads + Wait + Sync>(
     takes_nothing: bool,
 ) -> Option<(Ended, usize)> {
     let job = audit_by(2, 2, None)?;
-    let bytes = Vec::from_slice(alloc, READER_BEHIND_COMMIT.as_bytes()).ok()?;
+    let bytes = Vec::from_slice(alloc, READER_AFTER_COMMIT.as_bytes()).ok()?;
     let mut source = MemorySource::new(bytes);
     let mut sink = ChokingSink {
         bytes: Vec::new(alloc),

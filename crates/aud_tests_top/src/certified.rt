@@ -4,7 +4,7 @@ use crate::lines::said;
 use aud_cli::Job;
 use aud_worked::{
     ABORT_WHILE_IDLE, BAD_COUNT, COUNT_IS_LOST, LATE_RECORD, LIVE_WRITE_IS_SEEN,
-    PENDING_COMMIT_IS_SEEN, READ_OF_NOTHING, READER_BEHIND_COMMIT, STALE_READ_BEHIND_COMMIT,
+    PENDING_COMMIT_IS_SEEN, READ_OF_NOTHING, READER_AFTER_COMMIT, STALE_READ_AFTER_COMMIT,
     TORN_READ_THEN_ABORT,
 };
 use std::alloc::{AllocError, Global};
@@ -57,7 +57,7 @@ const JUDGED: [(&str, &str, bool); 9] = [
         true,
     ),
     (PENDING_COMMIT_IS_SEEN, TORN, false),
-    (READER_BEHIND_COMMIT, TORN, false),
+    (READER_AFTER_COMMIT, TORN, false),
     (READ_OF_NOTHING, NOTHING, true),
     (BAD_COUNT, COUNTED, true),
     (BAD_COUNT, COUNTED_AS_ONE, false),
@@ -169,7 +169,7 @@ const CERTIFIED: [(&str, Option<u64>, &str, &str, u8); 7] = [
     (TORN_READ_THEN_ABORT, Some(1), "unfinished\n", "", 2),
     (READ_OF_NOTHING, None, "not opaque\n", NOTHING, 1),
     (BAD_COUNT, None, "not opaque\n", COUNTED, 1),
-    (READER_BEHIND_COMMIT, None, "opaque 1c 2c\n", "", 0),
+    (READER_AFTER_COMMIT, None, "opaque 1c 2c\n", "", 0),
     (LATE_RECORD, None, "waiting for log 1\n", "", 3),
 ];
 
@@ -197,7 +197,7 @@ fn is_certified(alloc: Global, run: &str) -> Result<bool, AllocError> {
 fn what_is_written_is_accepted(rt: HostRuntime) -> Result<(), Fail> {
     let runs: [&str; 6] = [
         TORN_READ_THEN_ABORT,
-        STALE_READ_BEHIND_COMMIT,
+        STALE_READ_AFTER_COMMIT,
         LIVE_WRITE_IS_SEEN,
         COUNT_IS_LOST,
         READ_OF_NOTHING,

@@ -2,7 +2,7 @@
 
 use aud_cli::{Cause, Ended, Job, run_lines};
 use aud_report::{ChokingSink, DrippingSource, MemorySink, MemorySource};
-use aud_worked::READER_BEHIND_COMMIT;
+use aud_worked::READER_AFTER_COMMIT;
 use std::alloc::{AllocError, Global};
 use std::test::Fail;
 
@@ -19,7 +19,7 @@ fn dripped(
     line: &str,
 ) -> Result<(Ended, bool, u64), AllocError> {
     let mut source = DrippingSource {
-        bytes: Vec::from_slice(alloc, READER_BEHIND_COMMIT.as_bytes())?,
+        bytes: Vec::from_slice(alloc, READER_AFTER_COMMIT.as_bytes())?,
         at: 0,
         reads,
         failures: 0,
@@ -33,12 +33,12 @@ fn dripped(
 fn source_drips_and_fails(rt: HostRuntime) -> Result<(), Fail> {
     let alloc = rt.alloc();
     let job = job(alloc)?;
-    for reads in 0..READER_BEHIND_COMMIT.len() as u64 {
+    for reads in 0..READER_AFTER_COMMIT.len() as u64 {
         let dripped = dripped(alloc, &job, reads, "")?;
         assert_eq!(rt;
             dripped,
             (Ended::Failed(Cause::Input), true, 1),
-            "behind {reads}"
+            "after {reads}"
         );
     }
     let (ended, is_written, _failures) = dripped(alloc, &job, u64::MAX, "opaque 1c 2c\n")?;
@@ -54,7 +54,7 @@ fn choked(
     writes: u64,
     takes_nothing: bool,
 ) -> Result<(Ended, Option<u64>), AllocError> {
-    let bytes = Vec::from_slice(alloc, READER_BEHIND_COMMIT.as_bytes())?;
+    let bytes = Vec::from_slice(alloc, READER_AFTER_COMMIT.as_bytes())?;
     let mut source = MemorySource::new(bytes);
     let mut sink = ChokingSink {
         bytes: Vec::new(alloc),

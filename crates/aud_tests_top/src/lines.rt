@@ -3,7 +3,7 @@
 use aud_cli::{Job, run_lines};
 use aud_report::{MemorySink, MemorySource};
 use aud_worked::{
-    FALLING_STAMPS, LATE, LATE_RECORD, PAST_COUNT, PENDING_COMMIT_IS_UNSEEN, READER_BEHIND_COMMIT,
+    FALLING_STAMPS, LATE, LATE_RECORD, PAST_COUNT, PENDING_COMMIT_IS_UNSEEN, READER_AFTER_COMMIT,
     SAME_STAMPS, TWO_COUNTS, TWO_RECORDS,
 };
 use std::alloc::{AllocError, Global};
@@ -26,11 +26,11 @@ fn is_said(alloc: Global, order: &str, input: &[u8], line: &str) -> Result<bool,
     Ok(said.as_str().strip_suffix("\n") == Some(line) && status == expected)
 }
 
-/// What is said of the beginning of `READER_BEHIND_COMMIT` with so many bytes.
+/// What is said of the beginning of `READER_AFTER_COMMIT` with so many bytes.
 fn said_of_cut(alloc: Global, bytes: usize) -> Result<String, AllocError> {
     let mut whole = 0usize;
     let mut left = bytes;
-    for line in READER_BEHIND_COMMIT.lines() {
+    for line in READER_AFTER_COMMIT.lines() {
         if left < line.len() {
             break;
         }
@@ -55,7 +55,7 @@ fn is_said_of_cut(alloc: Global, cut: &[u8]) -> Result<bool, AllocError> {
 
 #[test]
 fn cut_at_every_byte(rt: HostRuntime) -> Result<(), Fail> {
-    let text = READER_BEHIND_COMMIT.as_bytes();
+    let text = READER_AFTER_COMMIT.as_bytes();
     for cut in 0..=text.len() {
         assert!(rt; is_said_of_cut(rt.alloc(), &text[..cut])?, "{cut}");
     }
@@ -81,11 +81,11 @@ fn put_lines(text: &mut Vec<u8>, lines: &[&[u8]]) -> Result<(), AllocError> {
 fn put_with_lines(
     whole: &mut Vec<u8>,
     text: &str,
-    behind: usize,
+    after: usize,
     more: &[&[u8]],
 ) -> Result<(), AllocError> {
     for (number, line) in text.lines().enumerate() {
-        if number == behind {
+        if number == after {
             put_lines(whole, more)?;
         }
         put_line(whole, line.as_bytes())?;
@@ -97,11 +97,11 @@ fn put_with_lines(
 pub(crate) fn with_lines(
     alloc: Global,
     text: &str,
-    behind: usize,
+    after: usize,
     more: &[&[u8]],
 ) -> Result<Vec<u8>, AllocError> {
     let mut whole = Vec::new(alloc);
-    put_with_lines(&mut whole, text, behind, more)?;
+    put_with_lines(&mut whole, text, after, more)?;
     Ok(whole)
 }
 
@@ -109,11 +109,11 @@ pub(crate) fn with_lines(
 fn is_said_with(
     alloc: Global,
     text: &str,
-    behind: usize,
+    after: usize,
     more: &[&[u8]],
     line: &str,
 ) -> Result<bool, AllocError> {
-    let whole = with_lines(alloc, text, behind, more)?;
+    let whole = with_lines(alloc, text, after, more)?;
     is_said(alloc, "1c 2c", &whole, line)
 }
 
@@ -130,7 +130,7 @@ fn odd_third_lines(rt: HostRuntime) -> Result<(), Fail> {
     ];
     for (line, wanted) in &cases {
         assert!(rt;
-            is_said_with(alloc, READER_BEHIND_COMMIT, 2, &[*line], *wanted)?,
+            is_said_with(alloc, READER_AFTER_COMMIT, 2, &[*line], *wanted)?,
             "{wanted}"
         );
     }
@@ -141,11 +141,11 @@ fn odd_third_lines(rt: HostRuntime) -> Result<(), Fail> {
 fn late_record_anywhere(rt: HostRuntime) -> Result<(), Fail> {
     let alloc = rt.alloc();
     let five = [LATE.as_bytes(); 5];
-    for behind in 2..11usize {
+    for after in 2..11usize {
         for more in [&five[..1], &five] {
             assert!(rt;
-                is_said_with(alloc, LATE_RECORD, behind, more, "opaque 1c 2c")?,
-                "{behind}"
+                is_said_with(alloc, LATE_RECORD, after, more, "opaque 1c 2c")?,
+                "{after}"
             );
         }
     }
@@ -170,13 +170,13 @@ fn is_said_returned(alloc: Global, text: &str, line: &str) -> Result<bool, Alloc
 
 #[test]
 fn carriage_returns(rt: HostRuntime) -> Result<(), Fail> {
-    assert!(rt; is_said_returned(rt.alloc(), READER_BEHIND_COMMIT, "opaque 1c 2c")?);
+    assert!(rt; is_said_returned(rt.alloc(), READER_AFTER_COMMIT, "opaque 1c 2c")?);
     Ok(())
 }
 
-/// The text of `READER_BEHIND_COMMIT` with an empty line, and without its last brace and line feed.
+/// The text of `READER_AFTER_COMMIT` with an empty line, and without its last brace and line feed.
 fn without_brace(alloc: Global) -> Result<Vec<u8>, AllocError> {
-    let mut text = with_lines(alloc, READER_BEHIND_COMMIT, 2, &[b""])?;
+    let mut text = with_lines(alloc, READER_AFTER_COMMIT, 2, &[b""])?;
     let _feed = text.pop();
     let _brace = text.pop();
     Ok(text)
@@ -247,7 +247,7 @@ fn is_said_turned(
 fn any_rotation(rt: HostRuntime) -> Result<(), Fail> {
     let alloc = rt.alloc();
     let cases = [
-        (READER_BEHIND_COMMIT, "1c 2c", "opaque 1c 2c"),
+        (READER_AFTER_COMMIT, "1c 2c", "opaque 1c 2c"),
         (LATE_RECORD, "1c 2c", "waiting for log 1"),
         (TWO_RECORDS, "1c 2c", "conflict 1 at log 0 place 0"),
         (SAME_STAMPS, "1c", "conflict 2 at log 0 place 0"),

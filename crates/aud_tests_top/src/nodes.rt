@@ -92,14 +92,14 @@ fn told_of<J: Fleet, R: Wait>(
     let _taken = offer_facts(rt, alloc, &node, &mut first, facts);
     let before = read(&node, &mut first, list);
     let _offered = node.offer(rt, alloc, &mut first, Item::Finding(finding));
-    let behind = read(&node, &mut first, list);
+    let after = read(&node, &mut first, list);
     let other = read(&node, &mut second, list);
     let _met = node.meet(rt, &mut second, &mut first);
     let met = read(&node, &mut second, list);
     passes.push(first).ok()?;
     passes.push(second).ok()?;
     let closed = node.close(rt, passes).ok()?;
-    Some(([before, behind, other, met], counted(&closed)))
+    Some(([before, after, other, met], counted(&closed)))
 }
 
 fn told<J: Fleet, R: Wait>(

@@ -17,7 +17,7 @@ use aud_event::{Answer, EndMark, Event, Fact, Op, OpName, Plan, Record};
 use std::alloc::Allocator;
 
 /// What stands after the text, where the line begins with it.
-fn behind<'l>(line: &'l [u8], text: &str) -> Option<&'l [u8]>
+fn after<'l>(line: &'l [u8], text: &str) -> Option<&'l [u8]>
     ensures { IfSome result (λ rest. line.now ≡ text.now ++ rest.now) }
 {
     line.strip_prefix(text.as_bytes())
@@ -47,7 +47,7 @@ fn small_at(line: &[u8]) -> Option<(u32, &[u8])>
     ensures { IfSome result (λ r. line.now ≡ decimal r.0 ++ r.1.now) }
 {
     let number = u32::try_from(guess_number(line)).ok()?;
-    let rest = behind(line, itoa::Buffer::new().format(number))?;
+    let rest = after(line, itoa::Buffer::new().format(number))?;
     Some((number, rest))
 }
 
@@ -55,11 +55,11 @@ fn whole_at(line: &[u8]) -> Option<(i64, &[u8])>
     ensures spelled { IfSome result (λ r. line.now ≡ signed_decimal r.0 ++ r.1.now) }
     ensures fits { IfSome result (λ r. FitsSigned w64 r.0) }
 {
-    let number = match behind(line, "-") {
+    let number = match after(line, "-") {
         Some(digits) => i64::try_from(guess_number(digits)).ok()?.wrapping_neg(),
         None => i64::try_from(guess_number(line)).ok()?,
     };
-    let rest = behind(line, itoa::Buffer::new().format(number))?;
+    let rest = after(line, itoa::Buffer::new().format(number))?;
     Some((number, rest))
 }
 
@@ -67,16 +67,16 @@ fn answer_at(line: &[u8]) -> Option<(Answer, &[u8])>
     ensures spelled { IfSome result (λ r. line.now ≡ answer_text r.0 ++ r.1.now) }
     ensures fits { IfSome result (λ r. AnswerFits r.0) }
 {
-    if let Some(rest) = behind(line, "\"done\"") {
+    if let Some(rest) = after(line, "\"done\"") {
         return Some((Answer::Done, rest));
     }
-    if let Some(rest) = behind(line, "true") {
+    if let Some(rest) = after(line, "true") {
         return Some((Answer::Flag(true), rest));
     }
-    if let Some(rest) = behind(line, "false") {
+    if let Some(rest) = after(line, "false") {
         return Some((Answer::Flag(false), rest));
     }
-    if let Some(rest) = behind(line, "\"empty\"") {
+    if let Some(rest) = after(line, "\"empty\"") {
         return Some((Answer::Empty, rest));
     }
     let (number, rest) = whole_at(line)?;
@@ -87,9 +87,9 @@ fn answer_at(line: &[u8]) -> Option<(Answer, &[u8])>
 fn place_at(line: &[u8]) -> Option<(u32, &[u8])>
     ensures { IfSome result (λ r. line.now ≡ place_text r.0 r.1.now) }
 {
-    let digits = behind(line, "\"at\":")?;
+    let digits = after(line, "\"at\":")?;
     let (place, rest) = small_at(digits)?;
-    let rest = behind(rest, ",\"ev\":\"")?;
+    let rest = after(rest, ",\"ev\":\"")?;
     Some((place, rest))
 }
 
@@ -97,8 +97,8 @@ fn place_at(line: &[u8]) -> Option<(u32, &[u8])>
 fn log_at<'l>(line: &'l [u8], word: &str) -> Option<(u32, &'l [u8])>
     ensures { IfSome result (λ r. line.now ≡ log_text word.now r.0 r.1.now) }
 {
-    let rest = behind(line, word)?;
-    let digits = behind(rest, "\",\"log\":")?;
+    let rest = after(line, word)?;
+    let digits = after(rest, "\",\"log\":")?;
     small_at(digits)
 }
 
@@ -106,13 +106,13 @@ fn log_at<'l>(line: &'l [u8], word: &str) -> Option<(u32, &'l [u8])>
 fn use_at<'l, A: Allocator>(plan: &Plan<A>, line: &'l [u8]) -> Option<(u16, OpName, &'l [u8])>
     ensures { IfSome result (λ r. line.now ≡ use_text (object_name plan.now r.0) (word_of_op r.1) r.2.now) }
 {
-    let name = behind(line, ",\"ob\":\"")?;
+    let name = after(line, ",\"ob\":\"")?;
     let object = plan.number(guess_word(name)?)?;
-    let rest = behind(name, name_at(plan, object))?;
-    let word = behind(rest, "\",\"op\":\"")?;
+    let rest = after(name, name_at(plan, object))?;
+    let word = after(rest, "\",\"op\":\"")?;
     let op = OpName::from_word(guess_word(word)?)?;
-    let rest = behind(word, op.word())?;
-    let rest = behind(rest, "\"")?;
+    let rest = after(word, op.word())?;
+    let rest = after(rest, "\"")?;
     Some((object, op, rest))
 }
 
@@ -120,11 +120,11 @@ fn use_at<'l, A: Allocator>(plan: &Plan<A>, line: &'l [u8]) -> Option<(u16, OpNa
 fn tail_in(line: &[u8]) -> Option<(u32, u32)>
     ensures { IfSome result (λ r. line.now ≡ tail_text r.0 r.1) }
 {
-    let digits = behind(line, ",\"stamp\":")?;
+    let digits = after(line, ",\"stamp\":")?;
     let (stamp, rest) = small_at(digits)?;
-    let digits = behind(rest, ",\"tx\":")?;
+    let digits = after(rest, ",\"tx\":")?;
     let (tx, rest) = small_at(digits)?;
-    if behind(rest, "}")?.is_empty() {
+    if after(rest, "}")?.is_empty() {
         Some((stamp, tx))
     } else {
         None
@@ -150,9 +150,9 @@ fn argued<A: Allocator>(plan: &Plan<A>, line: &[u8]) -> Option<Record>
     ensures spelled { IfSome result (λ r. line.now ≡ record_text plan.now r r.event) }
     ensures fits { IfSome result (λ r. EventFits r.event) }
 {
-    let digits = behind(line, "{\"arg\":")?;
+    let digits = after(line, "{\"arg\":")?;
     let (argument, rest) = whole_at(digits)?;
-    let (at, rest) = place_at(behind(rest, ",")?)?;
+    let (at, rest) = place_at(after(rest, ",")?)?;
     let (log, rest) = log_at(rest, "inv")?;
     let (object, name, rest) = use_at(plan, rest)?;
     let (stamp, tx) = tail_in(rest)?;
@@ -171,7 +171,7 @@ fn asked<A: Allocator>(plan: &Plan<A>, line: &[u8]) -> Option<Record>
     ensures spelled { IfSome result (λ r. line.now ≡ record_text plan.now r r.event) }
     ensures fits { IfSome result (λ r. EventFits r.event) }
 {
-    let (at, rest) = place_at(behind(line, "{")?)?;
+    let (at, rest) = place_at(after(line, "{")?)?;
     let (log, rest) = log_at(rest, "inv")?;
     let (object, name, rest) = use_at(plan, rest)?;
     let (stamp, tx) = tail_in(rest)?;
@@ -190,9 +190,9 @@ fn answered<A: Allocator>(plan: &Plan<A>, line: &[u8]) -> Option<Record>
     ensures spelled { IfSome result (λ r. line.now ≡ record_text plan.now r r.event) }
     ensures fits { IfSome result (λ r. EventFits r.event) }
 {
-    let answer = behind(line, "{\"ans\":")?;
+    let answer = after(line, "{\"ans\":")?;
     let (answer, rest) = answer_at(answer)?;
-    let (at, rest) = place_at(behind(rest, ",")?)?;
+    let (at, rest) = place_at(after(rest, ",")?)?;
     let (log, rest) = log_at(rest, "ret")?;
     let (object, name, rest) = use_at(plan, rest)?;
     let (stamp, tx) = tail_in(rest)?;
@@ -233,7 +233,7 @@ fn ended(line: &[u8]) -> Option<Record>
     ensures spelled { IfSome result (λ r. (plan : PlanOf) → line.now ≡ record_text plan r r.event) }
     ensures fits { IfSome result (λ r. EventFits r.event) }
 {
-    let (at, rest) = place_at(behind(line, "{")?)?;
+    let (at, rest) = place_at(after(line, "{")?)?;
     let event = guess_end(rest)?;
     let (log, rest) = log_at(rest, end_word(event)?)?;
     let (stamp, tx) = tail_in(rest)?;
@@ -249,9 +249,9 @@ fn ended(line: &[u8]) -> Option<Record>
 fn end_mark(line: &[u8]) -> Option<EndMark>
     ensures { IfSome result (λ m. line.now ≡ mark_text m) }
 {
-    let (count, rest) = small_at(behind(line, "{\"end\":")?)?;
-    let (log, rest) = small_at(behind(rest, ",\"log\":")?)?;
-    if behind(rest, "}")?.is_empty() {
+    let (count, rest) = small_at(after(line, "{\"end\":")?)?;
+    let (log, rest) = small_at(after(rest, ",\"log\":")?)?;
+    if after(rest, "}")?.is_empty() {
         Some(EndMark { log, count })
     } else {
         None

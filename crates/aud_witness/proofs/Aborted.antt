@@ -9,7 +9,7 @@ use Rattle.aud_object.specs.Objects.{IsLegal}
 use Rattle.aud_witness.specs.Orders.{is_allowed, block, is_kept, is_named, are_named_once, stands_before, kept, visible, Shows}
 use Rattle.aud_witness.specs.Sameness.{without}
 use Rattle.aud_event.proofs.Bools.{or_false, and_true, true_and, not_true, not_false, split, nat_eq-is, nat_eq-sym}
-use Rattle.aud_witness.proofs.Beginnings.{is_named-append, new_at, new_behind, named_at, visible_at}
+use Rattle.aud_witness.proofs.Beginnings.{is_named-append, new_at, new_after, named_at, visible_at}
 use Rattle.aud_witness.proofs.Selected.{differ}
 use Rattle.aud_witness.proofs.FromLetter.{is_in-completed}
 use Rattle.aud_witness.proofs.Interleavings.{is_allowed-same, block-same}
@@ -138,7 +138,7 @@ named_without (x ∷ a) d b t off = ap (λ k. nat_eq x.tx t || k) (named_without
 
 named_once_without : (a : List Decision) (d : Decision) (b : List Decision) → are_named_once (a ++ d ∷ b) ≡ true → is_named (a ++ b) d.tx ≡ false
 named_once_without a d b once =
-    is_named-append a b d.tx ∙ ap (λ k. k || is_named b d.tx) (new_at a d b once) ∙ new_behind a d b once
+    is_named-append a b d.tx ∙ ap (λ k. k || is_named b d.tx) (new_at a d b once) ∙ new_after a d b once
 
 once_without : (a : List Decision) (d : Decision) (b : List Decision) → are_named_once (a ++ d ∷ b) ≡ true → are_named_once (a ++ b) ≡ true
 once_without [] d b once = (and_true (not (is_named b d.tx)) (are_named_once b) once).1

@@ -24,9 +24,9 @@ new_at (x ∷ p) d q h =
     ap (λ b. b || is_named p d.tx) other ∙ rest
 
 -- nor after it
-pub new_behind : (p : List Decision) (d : Decision) (q : List Decision) → are_named_once (p ++ d ∷ q) ≡ true → is_named q d.tx ≡ false
-new_behind [] d q h = not_true (is_named q d.tx) ((and_true (not (is_named q d.tx)) (are_named_once q) h).0)
-new_behind (x ∷ p) d q h = new_behind p d q ((and_true (not (is_named (p ++ d ∷ q) x.tx)) (are_named_once (p ++ d ∷ q)) h).1)
+pub new_after : (p : List Decision) (d : Decision) (q : List Decision) → are_named_once (p ++ d ∷ q) ≡ true → is_named q d.tx ≡ false
+new_after [] d q h = not_true (is_named q d.tx) ((and_true (not (is_named q d.tx)) (are_named_once q) h).0)
+new_after (x ∷ p) d q h = new_after p d q ((and_true (not (is_named (p ++ d ∷ q) x.tx)) (are_named_once (p ++ d ∷ q)) h).1)
 
 pub second_is_named : (p : List Decision) (t u : ℕ) → stands_before p t u ≡ true → is_named p u ≡ true
 second_is_named [] t u h = absurd (cc)
@@ -39,7 +39,7 @@ second_is_named (x ∷ p) t u h =
 -- what stands before the one at a place is named in front of the place
 pub first_is_named : (p : List Decision) (d : Decision) (q : List Decision) (t : ℕ) → are_named_once (p ++ d ∷ q) ≡ true → stands_before (p ++ d ∷ q) t d.tx ≡ true → is_named p t ≡ true
 first_is_named [] d q t once h =
-    let behind : is_named q d.tx ≡ false = new_behind [] d q once in
+    let behind : is_named q d.tx ≡ false = new_after [] d q once in
     elim (or_true (nat_eq d.tx t && is_named q d.tx) (stands_before q t d.tx) h) [
       | inl l ↦ let yes : is_named q d.tx ≡ true = (and_true (nat_eq d.tx t) (is_named q d.tx) l).1 in absurd (cc)
       | inr r ↦ let yes : is_named q d.tx ≡ true = second_is_named q t d.tx r in absurd (cc)

@@ -9,7 +9,7 @@ use Rattle.aud_witness.specs.Orders.{is_kept, is_named, are_named_once, stands_b
 use Rattle.aud_witness.specs.Letter.{seen_by}
 use Rattle.aud_event.proofs.Bools.{or_true, or_false, true_and, true_or, or_right, not_false, split, nat_eq-refl, nat_eq-is, nat_eq-sym}
 use Rattle.aud_history.proofs.Events.{events_of-append}
-use Rattle.aud_witness.proofs.Beginnings.{is_named-append, new_at, new_behind, named_at, first_is_named}
+use Rattle.aud_witness.proofs.Beginnings.{is_named-append, new_at, new_after, named_at, first_is_named}
 use Rattle.aud_witness.proofs.Good.{place_of}
 use Rattle.aud_history.proofs.ByPlaces.{from_first-append}
 use Rattle.aud_witness.proofs.Selected.{picked-block, differ}
@@ -28,9 +28,9 @@ pub Each-at : {X : Type 0} (P : X → Type 0) (a : List X) (x : X) (b : List X) 
 Each-at P [] x b k = k.0
 Each-at P (y ∷ a) x b k = Each-at P a x b k.1
 
-pub Each-behind : {X : Type 0} (P : X → Type 0) (a b : List X) → Each P (a ++ b) → Each P b
-Each-behind P [] b k = k
-Each-behind P (y ∷ a) b k = Each-behind P a b k.1
+pub Each-after : {X : Type 0} (P : X → Type 0) (a b : List X) → Each P (a ++ b) → Each P b
+Each-after P [] b k = k
+Each-after P (y ∷ a) b k = Each-after P a b k.1
 
 abbrev pub is_filled : List Event → Bool
 is_filled [] = false
@@ -82,7 +82,7 @@ events_of-block f a d b once =
     ∙ ap (λ l. l ++ events_of d.tx (joined_by f (d ∷ b))) (events_of-unnamed f a d.tx (new_at a d b once))
     ∙ events_of-append d.tx (map (λ e. (d.tx, e)) (f d)) (joined_by f b)
     ∙ ap (λ l. l ++ events_of d.tx (joined_by f b)) (events_of-own d.tx (f d))
-    ∙ ap (λ l. f d ++ l) (events_of-unnamed f b d.tx (new_behind a d b once))
+    ∙ ap (λ l. f d ++ l) (events_of-unnamed f b d.tx (new_after a d b once))
     ∙ append-nil (f d)
 
 -- a transaction is in H exactly if it has events there
@@ -133,14 +133,14 @@ pub is_in-from_first : (f : Decision → List Event) (a : List Decision) (d : De
     is_in (from_first d.tx (joined_by f (a ++ d ∷ b))) t ≡ is_named (d ∷ b) t
 is_in-from_first f a d b t order =
     ap (λ l. is_in l t) (from_first-block f a d b (new_at a d b order.once) (Each-at (λ x. is_filled (f x) ≡ true) a d b order.filled))
-    ∙ is_in-joined_by f (d ∷ b) t (Each-behind (λ x. is_filled (f x) ≡ true) a (d ∷ b) order.filled)
+    ∙ is_in-joined_by f (d ∷ b) t (Each-after (λ x. is_filled (f x) ≡ true) a (d ∷ b) order.filled)
 
 -- what is named in front is not named after it
-pub off_behind : (a b : List Decision) (t : ℕ) → are_named_once (a ++ b) ≡ true → is_named a t ≡ true → is_named b t ≡ false
-off_behind a b t once there =
+pub off_after : (a b : List Decision) (t : ℕ) → are_named_once (a ++ b) ≡ true → is_named a t ≡ true → is_named b t ≡ false
+off_after a b t once there =
     let (a1, (x, (a2, (e, is_t, new)))) = place_of a t there in
     let whole : a ++ b ≡ a1 ++ x ∷ (a2 ++ b) = ap (λ l. l ++ b) e ∙ append_assoc a1 (x ∷ a2) b in
-    let behind : is_named (a2 ++ b) x.tx ≡ false = new_behind a1 x (a2 ++ b) (subst (λ l. are_named_once l ≡ true) whole once) in
+    let behind : is_named (a2 ++ b) x.tx ≡ false = new_after a1 x (a2 ++ b) (subst (λ l. are_named_once l ≡ true) whole once) in
     let none : is_named b x.tx ≡ false = (or_false (is_named a2 x.tx) (is_named b x.tx) (sym (is_named-append a2 b x.tx) ∙ behind)).1 in
     subst (λ n. is_named b n ≡ false) is_t none
 
@@ -153,7 +153,7 @@ is_before-blocks f p t u order before done there =
     let order_at : IsOrder f (a ++ d ∷ b) = subst (λ l. IsOrder f l) e order in
     let before_at : stands_before (a ++ d ∷ b) t d.tx ≡ true = subst (λ x. stands_before (a ++ d ∷ b) t x ≡ true) (sym is_u) (subst (λ l. stands_before l t u ≡ true) e before) in
     let in_front : is_named a t ≡ true = first_is_named a d b t order_at.once before_at in
-    let off : is_named (d ∷ b) t ≡ false = off_behind a (d ∷ b) t order_at.once in_front in
+    let off : is_named (d ∷ b) t ≡ false = off_after a (d ∷ b) t order_at.once in_front in
     let gone : is_in (from_first u s) t ≡ false =
     ap (λ l. is_in (from_first u (joined_by f l)) t) e
     ∙ ap (λ x. is_in (from_first x (joined_by f (a ++ d ∷ b))) t) (sym is_u)
@@ -202,12 +202,12 @@ test_in_front true kept aborted there gone own _ _ = absurd (cc)
 test_in_front false true aborted false gone _ there _ = absurd (cc)
 test_in_front false true aborted true true _ _ gone = absurd (cc)
 
-test_behind : (own kept rest gone : Bool) → own ≡ false → gone ≡ true → (own || (kept && (rest && not gone))) ≡ false
-test_behind false true true true _ _ = refl
-test_behind false true false gone _ _ = refl
-test_behind false false rest gone _ _ = refl
-test_behind true kept rest gone own _ = absurd (cc)
-test_behind false true true false _ gone = absurd (cc)
+test_after : (own kept rest gone : Bool) → own ≡ false → gone ≡ true → (own || (kept && (rest && not gone))) ≡ false
+test_after false true true true _ _ = refl
+test_after false true false gone _ _ = refl
+test_after false false rest gone _ _ = refl
+test_after true kept rest gone own _ = absurd (cc)
+test_after false true true false _ gone = absurd (cc)
 
 -- what T sees in S: the kept blocks in front of it and its own
 pub seen_by-block : (f : Decision → List Event) (a : List Decision) (d : Decision) (b : List Decision) → IsOrder f (a ++ d ∷ b) →
@@ -221,7 +221,7 @@ seen_by-block f a d b order =
     Each-from_places (λ x. g x.tx ≡ is_kept x) a (λ a1 x a2 e.
     let here : is_named a x.tx ≡ true = subst (λ l. is_named l x.tx ≡ true) (sym e) (named_at a1 x a2) in
     let whole : p ≡ a1 ++ x ∷ (a2 ++ d ∷ b) = ap (λ l. l ++ d ∷ b) e ∙ append_assoc a1 (x ∷ a2) (d ∷ b) in
-    let off : is_named (d ∷ b) x.tx ≡ false = off_behind a (d ∷ b) x.tx order.once here in
+    let off : is_named (d ∷ b) x.tx ≡ false = off_after a (d ∷ b) x.tx order.once here in
     let own : nat_eq x.tx d.tx ≡ false = nat_eq-sym x.tx d.tx ∙ (or_false (nat_eq d.tx x.tx) (is_named b x.tx) off).0 in
     let gone : is_in (from_first d.tx s) x.tx ≡ false = is_in-from_first f a d b x.tx order ∙ off in
     let fate : is_committed s x.tx ≡ is_kept x =
@@ -230,9 +230,9 @@ seen_by-block f a d b order =
     let behind : Each (λ x. g x.tx ≡ false) b =
     Each-from_places (λ x. g x.tx ≡ false) b (λ b1 x b2 e.
     let here : is_named b x.tx ≡ true = subst (λ l. is_named l x.tx ≡ true) (sym e) (named_at b1 x b2) in
-    let own : nat_eq x.tx d.tx ≡ false = nat_eq-sym x.tx d.tx ∙ differ b d.tx x.tx (new_behind a d b order.once) here in
+    let own : nat_eq x.tx d.tx ≡ false = nat_eq-sym x.tx d.tx ∙ differ b d.tx x.tx (new_after a d b order.once) here in
     let gone : is_in (from_first d.tx s) x.tx ≡ true = is_in-from_first f a d b x.tx order ∙ or_right (nat_eq d.tx x.tx) (is_named b x.tx) here in
-    test_behind (nat_eq x.tx d.tx) (is_committed s x.tx) (is_completed s x.tx && is_in s d.tx) (is_in (from_first d.tx s) x.tx) own gone) in
+    test_after (nat_eq x.tx d.tx) (is_committed s x.tx) (is_completed s x.tx && is_in s d.tx) (is_in (from_first d.tx s) x.tx) own gone) in
     picked_by-is f g p ∙ picked_by-place f g a d b front (true_or (nat_eq d.tx d.tx) (is_committed s d.tx && is_before s d.tx d.tx) (nat_eq-refl d.tx)) behind
 
 -- of two that are named one stands before the other

@@ -148,13 +148,13 @@ once-filter f (y ∷ xs) o =
 pub has-transactions : (h : History) (t : ℕ) → has (transactions h) t ≡ is_in h t
 has-transactions [] t = refl
 has-transactions (e ∷ h) t =
-    let behind : has (filter (λ n. not (nat_eq n e.0)) (transactions h)) t ≡ (is_in h t && not (nat_eq t e.0)) =
+    let after : has (filter (λ n. not (nat_eq n e.0)) (transactions h)) t ≡ (is_in h t && not (nat_eq t e.0)) =
     has-filter (λ n. not (nat_eq n e.0)) (transactions h) t ∙ ap (λ k. k && not (nat_eq t e.0)) (has-transactions h t) in
     elim (split (nat_eq e.0 t)) [
       | inl same ↦ rw same refl
       | inr other ↦
           let unlike : nat_eq t e.0 ≡ false = nat_eq-sym t e.0 ∙ other in
-          ap (λ k. nat_eq e.0 t || k) (behind ∙ ap (λ k. is_in h t && not k) unlike ∙ and_yes (is_in h t))
+          ap (λ k. nat_eq e.0 t || k) (after ∙ ap (λ k. is_in h t && not k) unlike ∙ and_yes (is_in h t))
     ]
 
 once-transactions : (h : History) → once (transactions h) ≡ true

@@ -9,7 +9,7 @@ use Rattle.aud_history.specs.Histories.{History, is_in, is_before}
 use Rattle.aud_witness.specs.Orders.{is_allowed, block, kept, is_named, are_named_once, IsFull, Shows, IsGoodNext, IsGood}
 use Rattle.aud_witness.specs.Enumeration.{is_legal_from}
 use Rattle.aud_history.specs.Table.{transactions}
-use Rattle.aud_witness.specs.OrderFaults.{is_enabled, place_fault, least_tx, missing_fault, fault_behind, first_order_fault}
+use Rattle.aud_witness.specs.OrderFaults.{is_enabled, place_fault, least_tx, missing_fault, fault_after, first_order_fault}
 use Rattle.aud_event.proofs.Bools.{same_bools, or_true, or_false, true_and, true_or, or_right, not_false, is_false, nat_eq-refl, nat_eq-is, unnegated}
 use Rattle.aud_witness.proofs.Beginnings.{IsGood-from_Shows}
 use Rattle.aud_witness.proofs.Good.{IsGood-empty, IsGood-push, place_of, Shows-from_IsGood}
@@ -136,32 +136,32 @@ missing-from_all h p all =
     let none : filter (λ n. not (is_named p n)) (transactions h) ≡ [] = filter_none (is_named p) (transactions h) (λ t n. all t (sym (has-transactions h t) ∙ n)) in
     subst (λ l. (elim (least_tx l) as (λ (_ : Option ℕ). Option OrderFault) [ None ↦ None | Some n ↦ Some (Missing n) ]) ≡ None) (sym none) refl
 
-good_behind : (objects : List Declared) (h : History) (before rest : List Decision) → IsGood objects h before → fault_behind objects h before rest ≡ None →
+good_after : (objects : List Declared) (h : History) (before rest : List Decision) → IsGood objects h before → fault_after objects h before rest ≡ None →
     IsGood objects h (before ++ rest) × (missing_fault h (before ++ rest) ≡ None)
-good_behind objects h before [] good e = rw (append-nil before) (good, e)
-good_behind objects h before (d ∷ rest) good e =
-    elim (place_fault objects h before d) as (λ r. place_fault objects h before d ≡ r → (elim r as (λ (_ : Option OrderFault). Option OrderFault) [ Some fault ↦ Some fault | None ↦ fault_behind objects h (before ++ d ∷ []) rest ]) ≡ None → IsGood objects h (before ++ d ∷ rest) × (missing_fault h (before ++ d ∷ rest) ≡ None)) [
+good_after objects h before [] good e = rw (append-nil before) (good, e)
+good_after objects h before (d ∷ rest) good e =
+    elim (place_fault objects h before d) as (λ r. place_fault objects h before d ≡ r → (elim r as (λ (_ : Option OrderFault). Option OrderFault) [ Some fault ↦ Some fault | None ↦ fault_after objects h (before ++ d ∷ []) rest ]) ≡ None → IsGood objects h (before ++ d ∷ rest) × (missing_fault h (before ++ d ∷ rest) ≡ None)) [
       | Some fault ↦ λ _ k. absurd (cc)
       | None ↦ λ fine k.
           let next : IsGoodNext objects h before d = IsGoodNext-from_no_fault objects h before d fine in
           subst (λ l. IsGood objects h l × (missing_fault h l ≡ None)) (append_assoc before (d ∷ []) rest)
-          (good_behind objects h (before ++ d ∷ []) rest (IsGood-push objects h before d good next) k)
+          (good_after objects h (before ++ d ∷ []) rest (IsGood-push objects h before d good next) k)
     ] refl e
 
 pub Shows-from_no_fault : (objects : List Declared) (h : History) (p : List Decision) → first_order_fault objects h p ≡ None → Shows objects h p
 Shows-from_no_fault objects h p e =
-    let both : IsGood objects h p × (missing_fault h p ≡ None) = good_behind objects h [] p (IsGood-empty objects h) e in
+    let both : IsGood objects h p × (missing_fault h p ≡ None) = good_after objects h [] p (IsGood-empty objects h) e in
     Shows-from_IsGood objects h p (IsFull-from_IsGood objects h p both.0 (all_named h p both.1)) both.0
 
-no_fault_behind : (objects : List Declared) (h : History) (before rest : List Decision) → Shows objects h (before ++ rest) → fault_behind objects h before rest ≡ None
-no_fault_behind objects h before [] s =
+no_fault_after : (objects : List Declared) (h : History) (before rest : List Decision) → Shows objects h (before ++ rest) → fault_after objects h before rest ≡ None
+no_fault_after objects h before [] s =
     missing-from_all h before (λ t there. subst (λ l. is_named l t ≡ true) (append-nil before) (s.full.same t ∙ there))
-no_fault_behind objects h before (d ∷ rest) s =
+no_fault_after objects h before (d ∷ rest) s =
     let shown : Shows objects h ((before ++ d ∷ []) ++ rest) = subst (λ l. Shows objects h l) (sym (append_assoc before (d ∷ []) rest)) s in
     let next : IsGoodNext objects h before d = IsGood-from_Shows objects h (before ++ d ∷ []) rest shown before d [] refl in
     let fine : place_fault objects h before d ≡ None = no_fault-from_IsGoodNext objects h before d next in
-    subst (λ r. (elim r as (λ (_ : Option OrderFault). Option OrderFault) [ Some fault ↦ Some fault | None ↦ fault_behind objects h (before ++ d ∷ []) rest ]) ≡ None) (sym fine)
-    (no_fault_behind objects h (before ++ d ∷ []) rest shown)
+    subst (λ r. (elim r as (λ (_ : Option OrderFault). Option OrderFault) [ Some fault ↦ Some fault | None ↦ fault_after objects h (before ++ d ∷ []) rest ]) ≡ None) (sym fine)
+    (no_fault_after objects h (before ++ d ∷ []) rest shown)
 
 pub no_fault-from_Shows : (objects : List Declared) (h : History) (p : List Decision) → Shows objects h p → first_order_fault objects h p ≡ None
-no_fault-from_Shows objects h p s = no_fault_behind objects h [] p s
+no_fault-from_Shows objects h p s = no_fault_after objects h [] p s

@@ -82,9 +82,9 @@ picked-visible h t (d ∷ p) f once there is =
           ap (λ k. cond k (block h d ++ picked h f p) (picked h f p)) taken ∙ ap (λ l. block h d ++ l) rest ∙ append_none (block h d)
           ∙ sym (ap (λ k. cond k (block h d) (cond (is_kept d) (block h d ++ visible h p t) (visible h p t))) same)
       | inr other ↦
-          let behind : is_named p t ≡ true = sym (ap (λ k. k || is_named p t) other) ∙ there in
+          let after : is_named p t ≡ true = sym (ap (λ k. k || is_named p t) other) ∙ there in
           let kept_before : List Decision = filter is_kept (standing_before p t) in
-          let tail : picked h f p ≡ visible h p t = picked-visible h t p f parts.1 behind (λ n named.
+          let tail : picked h f p ≡ visible h p t = picked-visible h t p f parts.1 after (λ n named.
           let off : nat_eq d.tx n ≡ false = differ p d.tx n alone named in
           is n (or_right (nat_eq d.tx n) (is_named p n) named)
           ∙ ap (λ k. nat_eq n t || is_named (filter is_kept (cond k [] (d ∷ standing_before p t))) n) other

@@ -22,9 +22,9 @@ use Rattle.aud_witness.proofs.Seen.{IsLegal-same, seen_by-visible}
 use Rattle.aud_witness.proofs.FromLetter.{is_in-completed, is_in-equivalent}
 
 -- insertions after a history
-insert_behind : (h a b : History) → IsInserted h [] b → IsInserted h a (a ++ b)
-insert_behind h [] b i = i
-insert_behind h (e ∷ a) b i = same (insert_behind h a b i)
+insert_after : (h a b : History) → IsInserted h [] b → IsInserted h a (a ++ b)
+insert_after h [] b i = i
+insert_after h (e ∷ a) b i = same (insert_after h a b i)
 
 insert_tail : (h : History) (t : ℕ) (es : List Event) (b : History) → has_live h t ≡ true → AreCompleting es → IsInserted h [] b → IsInserted h [] (map (λ e. (t, e)) es ++ b)
 insert_tail h t [] b live fits i = i
@@ -140,7 +140,7 @@ IsCompletion-from_full h p well full = record {
     | inl there ↦ let k : HasBlock h p t = HasBlock-from_named h p t well full there in subst (λ l. IsTransaction l) (sym k.complete) k.good.is_transaction
     | inr none ↦ let k : IsAbsent h p t = IsAbsent-from_unnamed h p t full none in subst (λ l. IsTransaction l) (k.history ∙ sym k.complete) (well t)
   ];
-  insertion = insert_behind h h (joined_by (tail_of h) p) (insert_tails h p (in_history h p full));
+  insertion = insert_after h h (joined_by (tail_of h) p) (insert_tails h p (in_history h p full));
   ended = λ t there.
       let order : IsOrder (block h) p = IsOrder-from_full h p well full in
       let named : is_named p t ≡ true = sym (is_in-joined_by (block h) p t order.filled) ∙ is_in-equivalent (serial_by h p) (completed_by h p) (equivalent_by h p well full) t ∙ there in

@@ -15,7 +15,7 @@ use Rattle.aud_witness.specs.declared.decision.Decision.{Decision}
 use Rattle.aud_witness.specs.declared.fault.OrderFault.{OrderFault}
 use Rattle.aud_witness.specs.declared.fault.OrderFault.TheVariants.{Missing}
 use Rattle.aud_witness.specs.Orders.{is_named, Shows, IsFull, IsGood}
-use Rattle.aud_witness.specs.OrderFaults.{place_fault, least_tx, missing_fault, fault_behind, first_order_fault}
+use Rattle.aud_witness.specs.OrderFaults.{place_fault, least_tx, missing_fault, fault_after, first_order_fault}
 use Rattle.aud_witness.specs.Spots.{Spot, first_spot, stepped, unplaced}
 use Rattle.aud_witness.specs.Placings.{PlacingOf, Advances}
 use Rattle.aud_witness.specs.Walks.{walked, are_all_placed, WalksSay, WalksAreGood}
@@ -123,26 +123,26 @@ walks-say plan h fine within =
 -- the first i decisions were placed, and led to the spot
 pub record Goes (objects : List Declared) (h : History) (p : List Decision) (i : ℕ) (s : Spot) : Type 0 where
   pub stands : Stands objects h (take i p) s
-  pub fault : fault_behind objects h (take i p) (drop i p) ≡ first_order_fault objects h p
+  pub fault : fault_after objects h (take i p) (drop i p) ≡ first_order_fault objects h p
 
 pub Goes-root : (objects : List Declared) (h : History) (p : List Decision) → Goes objects h p 0 (first_spot (table_of h) objects)
 Goes-root objects h p = record { stands = Stands-root objects h; fault = refl }
 
 -- the fault after i decisions, where the next one is d
 next-fault : (objects : List Declared) (h : History) (p : List Decision) (i : ℕ) (d d0 : Decision) → i < length p → get_or p i d0 ≡ d →
-    fault_behind objects h (take i p) (drop i p) ≡ fault_behind objects h (take i p) (d ∷ drop (i + 1) p)
-next-fault objects h p i d d0 inside is = ap (fault_behind objects h (take i p)) (drop_more p i d0 inside ∙ ap (λ x. x ∷ drop (i + 1) p) is)
+    fault_after objects h (take i p) (drop i p) ≡ fault_after objects h (take i p) (d ∷ drop (i + 1) p)
+next-fault objects h p i d d0 inside is = ap (fault_after objects h (take i p)) (drop_more p i d0 inside ∙ ap (λ x. x ∷ drop (i + 1) p) is)
 
 pub Goes-on : (objects : List Declared) (h : History) (p : List Decision) (i : ℕ) (d d0 : Decision) (s t : Spot) → IsWellFormed h → Fits objects h → i < length p → get_or p i d0 ≡ d →
     Goes objects h p i s → stepped (table_of h) s d ≡ Ok t → Goes objects h p (i + 1) t
 Goes-on objects h p i d d0 s t fine fits inside is goes led =
     let told : Told objects h (take i p) d (Ok t) = subst (λ r. Told objects h (take i p) d r) led (stepped-told objects h (take i p) s d fine (fits d.tx) goes.stands) in
     let longer : take (i + 1) p ≡ take i p ++ d ∷ [] = take_more p i d0 inside ∙ ap (λ x. take i p ++ x ∷ []) is in
-    let on : fault_behind objects h (take i p) (d ∷ drop (i + 1) p) ≡ fault_behind objects h (take i p ++ d ∷ []) (drop (i + 1) p) =
-    ap (λ (o : Option OrderFault). elim o as (λ (_ : Option OrderFault). Option OrderFault) [ Some fault ↦ Some fault | None ↦ fault_behind objects h (take i p ++ d ∷ []) (drop (i + 1) p) ]) told.0 in
+    let on : fault_after objects h (take i p) (d ∷ drop (i + 1) p) ≡ fault_after objects h (take i p ++ d ∷ []) (drop (i + 1) p) =
+    ap (λ (o : Option OrderFault). elim o as (λ (_ : Option OrderFault). Option OrderFault) [ Some fault ↦ Some fault | None ↦ fault_after objects h (take i p ++ d ∷ []) (drop (i + 1) p) ]) told.0 in
     record {
       stands = subst (λ l. Stands objects h l t) (sym longer) told.1;
-      fault = ap (λ l. fault_behind objects h l (drop (i + 1) p)) longer ∙ (sym on ∙ (sym (next-fault objects h p i d d0 inside is) ∙ goes.fault));
+      fault = ap (λ l. fault_after objects h l (drop (i + 1) p)) longer ∙ (sym on ∙ (sym (next-fault objects h p i d d0 inside is) ∙ goes.fault));
     }
 
 pub Goes-wrong : (objects : List Declared) (h : History) (p : List Decision) (i : ℕ) (d d0 : Decision) (s : Spot) (fault : OrderFault) → IsWellFormed h → Fits objects h → i < length p → get_or p i d0 ≡ d →
@@ -151,7 +151,7 @@ Goes-wrong objects h p i d d0 s fault fine fits inside is goes led =
     let told : place_fault objects h (take i p) d ≡ Some fault = subst (λ r. Told objects h (take i p) d r) led (stepped-told objects h (take i p) s d fine (fits d.tx) goes.stands) in
     sym goes.fault
     ∙ (next-fault objects h p i d d0 inside is
-    ∙ ap (λ (o : Option OrderFault). elim o as (λ (_ : Option OrderFault). Option OrderFault) [ Some fault ↦ Some fault | None ↦ fault_behind objects h (take i p ++ d ∷ []) (drop (i + 1) p) ]) told)
+    ∙ ap (λ (o : Option OrderFault). elim o as (λ (_ : Option OrderFault). Option OrderFault) [ Some fault ↦ Some fault | None ↦ fault_after objects h (take i p ++ d ∷ []) (drop (i + 1) p) ]) told)
 
 unplaced-are_unnamed : (h : History) (f : ℕ → Bool) (ts : List ℕ) → unplaced (map (row_of h) ts) (map f ts) ≡ filter (λ t. not (f t)) ts
 unplaced-are_unnamed h f [] = refl
@@ -172,7 +172,7 @@ Goes-out objects h p i s past goes =
     let all : take i p ≡ p = take_all i p past in
     let none : drop i p ≡ [] = drop_all i p past in
     sym goes.fault
-    ∙ (ap (fault_behind objects h (take i p)) none
+    ∙ (ap (fault_after objects h (take i p)) none
     ∙ (by_least (least_tx (filter (λ t. not (is_named (take i p) t)) (transactions h)))
     ∙ ap (λ l. missing (least_tx l)) (sym (unplaced-are_unnamed h (is_named (take i p)) (transactions h)) ∙ ap (unplaced (table_of h)) (sym goes.stands.placed))))
   where

@@ -21,8 +21,8 @@ use Rattle.aud_witness.proofs.Enumerated.{not_Opaque}
 use Rattle.aud_witness.proofs.FromLetter.{Opaque-from_Letter}
 
 -- no completion and serial history
-real_time-counts : Letter run.x_at_0 run.stale_read_behind_commit → ⊥
-real_time-counts k = not_Opaque run.x_at_0 run.stale_read_behind_commit refl (Opaque-from_Letter run.x_at_0 run.stale_read_behind_commit k)
+real_time-counts : Letter run.x_at_0 run.stale_read_after_commit → ⊥
+real_time-counts k = not_Opaque run.x_at_0 run.stale_read_after_commit refl (Opaque-from_Letter run.x_at_0 run.stale_read_after_commit k)
 
 live-is_aborted : Letter run.x_at_0 run.live_write_is_seen → ⊥
 live-is_aborted k = not_Opaque run.x_at_0 run.live_write_is_seen refl (Opaque-from_Letter run.x_at_0 run.live_write_is_seen k)

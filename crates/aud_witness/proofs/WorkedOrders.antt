@@ -4,7 +4,7 @@ use Rattle.aud_history.specs.declared.rule.Rule.TheVariants.{RetWithoutInv, Abor
 use Rattle.aud_history.specs.declared.state.TxState.TheVariants.{Idle}
 use Rattle.aud_history.specs.Histories.{events_of}
 use Rattle.aud_history.specs.ByState.{run}
-use Rattle.aud_history.specs.Worked.{x_at_0, x_at_5, x_and_y_at_0, counter_at_0, empty_set, empty_queue, reader_behind_commit, torn_read_then_abort, pending_commit_is_seen, pending_commit_is_unseen, stale_read_behind_commit, live_write_is_seen, read_before_commit, item_is_passed_on, idle_write_stands_later, count_is_lost, both_find_it_absent, answer_unasked, abort_while_idle}
+use Rattle.aud_history.specs.Worked.{x_at_0, x_at_5, x_and_y_at_0, counter_at_0, empty_set, empty_queue, reader_after_commit, torn_read_then_abort, pending_commit_is_seen, pending_commit_is_unseen, stale_read_after_commit, live_write_is_seen, read_before_commit, item_is_passed_on, idle_write_stands_later, count_is_lost, both_find_it_absent, answer_unasked, abort_while_idle}
 use Rattle.aud_witness.specs.declared.decision.Fate.TheVariants.{C, A}
 use Rattle.aud_witness.specs.declared.decision.Decision.{Decision}
 use Rattle.aud_witness.specs.declared.fault.OrderFault.TheVariants.{FateNotAllowed, RealTime, Illegal, Missing}
@@ -24,8 +24,8 @@ a t = record { tx = t; fate = A }
 nothing_happened-witnesses : witnesses [] [] ≡ [] ∷ []
 nothing_happened-witnesses = refl
 
-reader_behind_commit-witnesses : witnesses x_at_0 reader_behind_commit ≡ (c 1 ∷ c 2 ∷ []) ∷ []
-reader_behind_commit-witnesses = refl
+reader_after_commit-witnesses : witnesses x_at_0 reader_after_commit ≡ (c 1 ∷ c 2 ∷ []) ∷ []
+reader_after_commit-witnesses = refl
 
 torn_read_then_abort-witnesses : witnesses x_and_y_at_0 torn_read_then_abort ≡ []
 torn_read_then_abort-witnesses = refl
@@ -36,8 +36,8 @@ pending_commit_is_seen-witnesses = refl
 pending_commit_is_unseen-witnesses : witnesses x_at_0 pending_commit_is_unseen ≡ (a 1 ∷ c 2 ∷ []) ∷ (c 2 ∷ c 1 ∷ []) ∷ (c 2 ∷ a 1 ∷ []) ∷ []
 pending_commit_is_unseen-witnesses = refl
 
-stale_read_behind_commit-witnesses : witnesses x_at_0 stale_read_behind_commit ≡ []
-stale_read_behind_commit-witnesses = refl
+stale_read_after_commit-witnesses : witnesses x_at_0 stale_read_after_commit ≡ []
+stale_read_after_commit-witnesses = refl
 
 live_write_is_seen-witnesses : witnesses x_at_0 live_write_is_seen ≡ []
 live_write_is_seen-witnesses = refl
@@ -58,17 +58,17 @@ both_find_it_absent-witnesses : witnesses empty_set both_find_it_absent ≡ (a 2
 both_find_it_absent-witnesses = refl
 
 -- orders that are refused
-reader_behind_commit-reversed : first_order_fault x_at_0 reader_behind_commit (c 2 ∷ c 1 ∷ []) ≡ Some (RealTime 2)
-reader_behind_commit-reversed = refl
+reader_after_commit-reversed : first_order_fault x_at_0 reader_after_commit (c 2 ∷ c 1 ∷ []) ≡ Some (RealTime 2)
+reader_after_commit-reversed = refl
 
-reader_behind_commit-short : first_order_fault x_at_0 reader_behind_commit (c 1 ∷ []) ≡ Some (Missing 2)
-reader_behind_commit-short = refl
+reader_after_commit-short : first_order_fault x_at_0 reader_after_commit (c 1 ∷ []) ≡ Some (Missing 2)
+reader_after_commit-short = refl
 
 pending_commit_is_unseen-committed_first : first_order_fault x_at_0 pending_commit_is_unseen (c 1 ∷ c 2 ∷ []) ≡ Some (Illegal 2)
 pending_commit_is_unseen-committed_first = refl
 
-stale_read_behind_commit-reversed : first_order_fault x_at_0 stale_read_behind_commit (c 2 ∷ c 1 ∷ []) ≡ Some (RealTime 2)
-stale_read_behind_commit-reversed = refl
+stale_read_after_commit-reversed : first_order_fault x_at_0 stale_read_after_commit (c 2 ∷ c 1 ∷ []) ≡ Some (RealTime 2)
+stale_read_after_commit-reversed = refl
 
 live_write_is_seen-committed : first_order_fault x_at_0 live_write_is_seen (c 1 ∷ c 2 ∷ []) ≡ Some (FateNotAllowed 1)
 live_write_is_seen-committed = refl
@@ -118,14 +118,14 @@ abort_while_idle-rule : run Idle (events_of 1 abort_while_idle) ≡ Err AbortWit
 abort_while_idle-rule = refl
 
 -- the same by the definition itself
-reader_behind_commit-opaque : Opaque x_at_0 reader_behind_commit
-reader_behind_commit-opaque = (c 1 ∷ c 2 ∷ [], Shows-from_test x_at_0 reader_behind_commit (c 1 ∷ c 2 ∷ []) refl)
+reader_after_commit-opaque : Opaque x_at_0 reader_after_commit
+reader_after_commit-opaque = (c 1 ∷ c 2 ∷ [], Shows-from_test x_at_0 reader_after_commit (c 1 ∷ c 2 ∷ []) refl)
 
 torn_read_then_abort-not_opaque : Opaque x_and_y_at_0 torn_read_then_abort → ⊥
 torn_read_then_abort-not_opaque = not_Opaque x_and_y_at_0 torn_read_then_abort refl
 
-stale_read_behind_commit-not_opaque : Opaque x_at_0 stale_read_behind_commit → ⊥
-stale_read_behind_commit-not_opaque = not_Opaque x_at_0 stale_read_behind_commit refl
+stale_read_after_commit-not_opaque : Opaque x_at_0 stale_read_after_commit → ⊥
+stale_read_after_commit-not_opaque = not_Opaque x_at_0 stale_read_after_commit refl
 
 live_write_is_seen-not_opaque : Opaque x_at_0 live_write_is_seen → ⊥
 live_write_is_seen-not_opaque = not_Opaque x_at_0 live_write_is_seen refl

@@ -35,13 +35,13 @@ abbrev pub missing_fault : History → List Decision → Option OrderFault
 missing_fault h p = elim (least_tx (filter (λ t. not (is_named p t)) (transactions h))) [ None ↦ None | Some t ↦ Some (Missing t) ]
 
 -- the fault at the first wrong place of `rest` after `before`
-abbrev pub fault_behind : List Declared → History → List Decision → List Decision → Option OrderFault
-fault_behind objects h before [] = missing_fault h before
-fault_behind objects h before (d ∷ rest) =
-    elim (place_fault objects h before d) [ Some fault ↦ Some fault | None ↦ fault_behind objects h (before ++ d ∷ []) rest ]
+abbrev pub fault_after : List Declared → History → List Decision → List Decision → Option OrderFault
+fault_after objects h before [] = missing_fault h before
+fault_after objects h before (d ∷ rest) =
+    elim (place_fault objects h before d) [ Some fault ↦ Some fault | None ↦ fault_after objects h (before ++ d ∷ []) rest ]
 
 abbrev pub first_order_fault : List Declared → History → List Decision → Option OrderFault
-first_order_fault objects h p = fault_behind objects h [] p
+first_order_fault objects h p = fault_after objects h [] p
 
 -- that there is no fault is reported, or the first one
 abbrev pub TellsOrderFault : {T : Type 0} → List Declared → History → List Decision → Result T OrderFault → Type 0

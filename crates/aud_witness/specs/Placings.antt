@@ -26,23 +26,23 @@ abbrev pub head_or : List ObjState → List (List ObjState) → List ObjState
 head_or now [] = now
 head_or now (s ∷ ss) = s
 
-abbrev pub behind_head : List (List ObjState) → List (List ObjState)
-behind_head [] = []
-behind_head (s ∷ ss) = ss
+abbrev pub after_head : List (List ObjState) → List (List ObjState)
+after_head [] = []
+after_head (s ∷ ss) = ss
 
 -- the spots before each step, from the last step on
 abbrev pub spots_before : List Bool → List ObjState → List (List ObjState) → List Step → List Spot
 spots_before placed now past [] = []
 spots_before placed now past (x ∷ xs) =
     record { placed = slice_set placed x.row false; states = if x.is_kept then head_or now past else now }
-    ∷ spots_before (slice_set placed x.row false) (if x.is_kept then head_or now past else now) (if x.is_kept then behind_head past else past) xs
+    ∷ spots_before (slice_set placed x.row false) (if x.is_kept then head_or now past else now) (if x.is_kept then after_head past else past) xs
 
 -- each step, from the last one on, can be taken back
 abbrev pub CanGoBack : List End → List Bool → List (List ObjState) → ℕ → List Step → Type 0
 CanGoBack ends placed past earliest [] = IsEarliest ends placed earliest
 CanGoBack ends placed past earliest (x ∷ xs) =
     IsEarliest ends placed earliest × (x.row < length placed) × (x.is_kept ≡ true → past ≢ [])
-    × CanGoBack ends (slice_set placed x.row false) (if x.is_kept then behind_head past else past) x.earliest xs
+    × CanGoBack ends (slice_set placed x.row false) (if x.is_kept then after_head past else past) x.earliest xs
 
 -- a store after a block that was tried: with fate C the block stays
 abbrev pub store_with : Fate → StoreOf → List ObjState → StoreOf

@@ -6,7 +6,7 @@ pub const NOTHING_HAPPENED: &str = r#"{"format":1,"logs":1,"objects":0}
 "#;
 
 /// Transaction 1 writes 1 to x and commits; transaction 2 then reads it and commits.
-pub const READER_BEHIND_COMMIT: &str = r#"{"format":1,"logs":1,"objects":1}
+pub const READER_AFTER_COMMIT: &str = r#"{"format":1,"logs":1,"objects":1}
 {"kind":"register","name":"x","open":0}
 {"arg":1,"at":0,"ev":"inv","log":0,"ob":"x","op":"write","stamp":0,"tx":1}
 {"ans":"done","at":1,"ev":"ret","log":0,"ob":"x","op":"write","stamp":1,"tx":1}
@@ -65,7 +65,7 @@ pub const PENDING_COMMIT_IS_UNSEEN: &str = r#"{"format":1,"logs":1,"objects":1}
 "#;
 
 /// Transaction 2 begins after the commit of transaction 1 and misses what it wrote.
-pub const STALE_READ_BEHIND_COMMIT: &str = r#"{"format":1,"logs":1,"objects":1}
+pub const STALE_READ_AFTER_COMMIT: &str = r#"{"format":1,"logs":1,"objects":1}
 {"kind":"register","name":"x","open":0}
 {"arg":1,"at":0,"ev":"inv","log":0,"ob":"x","op":"write","stamp":0,"tx":1}
 {"ans":"done","at":1,"ev":"ret","log":0,"ob":"x","op":"write","stamp":1,"tx":1}

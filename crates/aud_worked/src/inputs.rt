@@ -20,7 +20,7 @@ pub const GREATEST_TRANSACTION: &str = r#"{"format":1,"logs":1,"objects":1}
 {"end":1,"log":0}
 "#;
 
-/// `READER_BEHIND_COMMIT` with transaction 1 in log 0 and transaction 2 in log 1, but for the record at place 1 of log 1.
+/// `READER_AFTER_COMMIT` with transaction 1 in log 0 and transaction 2 in log 1, but for the record at place 1 of log 1.
 pub const LATE_RECORD: &str = r#"{"format":1,"logs":2,"objects":1}
 {"kind":"register","name":"x","open":0}
 {"arg":1,"at":0,"ev":"inv","log":0,"ob":"x","op":"write","stamp":0,"tx":1}
@@ -38,7 +38,7 @@ pub const LATE_RECORD: &str = r#"{"format":1,"logs":2,"objects":1}
 pub const LATE: &str =
     r#"{"ans":1,"at":1,"ev":"ret","log":1,"ob":"x","op":"read","stamp":5,"tx":2}"#;
 
-/// `READER_BEHIND_COMMIT` with another record at place 0.
+/// `READER_AFTER_COMMIT` with another record at place 0.
 pub const TWO_RECORDS: &str = r#"{"format":1,"logs":1,"objects":1}
 {"kind":"register","name":"x","open":0}
 {"arg":1,"at":0,"ev":"inv","log":0,"ob":"x","op":"write","stamp":0,"tx":1}
@@ -75,7 +75,7 @@ pub const SAME_STAMPS: &str = r#"{"format":1,"logs":1,"objects":1}
 {"at":1,"ev":"tryc","log":0,"stamp":0,"tx":1}
 "#;
 
-/// `READER_BEHIND_COMMIT` with a second end mark.
+/// `READER_AFTER_COMMIT` with a second end mark.
 pub const TWO_COUNTS: &str = r#"{"format":1,"logs":1,"objects":1}
 {"kind":"register","name":"x","open":0}
 {"arg":1,"at":0,"ev":"inv","log":0,"ob":"x","op":"write","stamp":0,"tx":1}

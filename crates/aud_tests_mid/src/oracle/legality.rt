@@ -63,7 +63,7 @@ fn front(earlier: &[(Op, Answer)]) -> Answer {
 }
 
 /// What the operation answers after others on the same object, which are legal.
-fn answer_behind(opening: i64, earlier: &[(Op, Answer)], op: Op) -> Answer {
+fn answer_after(opening: i64, earlier: &[(Op, Answer)], op: Op) -> Answer {
     match op {
         Op::Read => Answer::Int(last_written(opening, earlier)),
         Op::Get => Answer::Int(counted(opening, earlier)),
@@ -78,7 +78,7 @@ fn answer_behind(opening: i64, earlier: &[(Op, Answer)], op: Op) -> Answer {
 /// Whether the operations on an object get the answers that they have, one after the other.
 fn is_legal(opening: i64, operations: &[(Op, Answer)]) -> bool {
     for (place, (op, answer)) in operations.iter().enumerate() {
-        if *answer != answer_behind(opening, &operations[..place], *op) {
+        if *answer != answer_after(opening, &operations[..place], *op) {
             return false;
         }
     }

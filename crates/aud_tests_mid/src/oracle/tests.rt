@@ -8,8 +8,8 @@ use aud_witness::{OrderFault, Prefix, shows};
 use aud_worked::{
     BOTH_FIND_IT_ABSENT, COUNT_IS_LOST, IDLE_WRITE_STANDS_LATER, ITEM_IS_PASSED_ON,
     LIVE_WRITE_IS_SEEN, NOTHING_HAPPENED, PENDING_COMMIT_IS_SEEN, PENDING_COMMIT_IS_UNSEEN,
-    READ_BEFORE_COMMIT, READER_BEHIND_COMMIT, STALE_READ_BEHIND_COMMIT, TORN_READ_THEN_ABORT,
-    Unread, history_of,
+    READ_BEFORE_COMMIT, READER_AFTER_COMMIT, STALE_READ_AFTER_COMMIT, TORN_READ_THEN_ABORT, Unread,
+    history_of,
 };
 use std::alloc::{Allocator, Global};
 use std::test::Fail;
@@ -68,7 +68,7 @@ fn is_shown_by(alloc: Global, history: &History, orders: &[&str]) -> Result<bool
 fn histories_have_these_orders(rt: HostRuntime) -> Result<(), Fail> {
     let cases: [(&'static str, &'static [&'static str]); 12] = [
         (NOTHING_HAPPENED, &["none"]),
-        (READER_BEHIND_COMMIT, &["1c 2c"]),
+        (READER_AFTER_COMMIT, &["1c 2c"]),
         (PENDING_COMMIT_IS_SEEN, &["1c 2c"]),
         (READ_BEFORE_COMMIT, &["1c 2c"]),
         (PENDING_COMMIT_IS_UNSEEN, &["1a 2c", "2c 1c", "2c 1a"]),
@@ -76,7 +76,7 @@ fn histories_have_these_orders(rt: HostRuntime) -> Result<(), Fail> {
         (IDLE_WRITE_STANDS_LATER, &["2c 1c 3c"]),
         (BOTH_FIND_IT_ABSENT, &["2a 1c"]),
         (TORN_READ_THEN_ABORT, &[]),
-        (STALE_READ_BEHIND_COMMIT, &[]),
+        (STALE_READ_AFTER_COMMIT, &[]),
         (LIVE_WRITE_IS_SEEN, &[]),
         (COUNT_IS_LOST, &[]),
     ];
@@ -117,12 +117,12 @@ fn told(alloc: Global, input: &str, decisions: &str) -> Result<Option<(bool, u32
 #[test]
 fn refused_orders_have_these_faults(rt: HostRuntime) -> Result<(), Fail> {
     let cases: [(&str, &str, u32, u32); 13] = [
-        (READER_BEHIND_COMMIT, "2c 1c", 4, 2),
-        (READER_BEHIND_COMMIT, "1c", 6, 2),
-        (READER_BEHIND_COMMIT, "9c", 1, 9),
-        (READER_BEHIND_COMMIT, "1c 1c", 2, 1),
+        (READER_AFTER_COMMIT, "2c 1c", 4, 2),
+        (READER_AFTER_COMMIT, "1c", 6, 2),
+        (READER_AFTER_COMMIT, "9c", 1, 9),
+        (READER_AFTER_COMMIT, "1c 1c", 2, 1),
         (PENDING_COMMIT_IS_UNSEEN, "1c 2c", 5, 2),
-        (STALE_READ_BEHIND_COMMIT, "2c 1c", 4, 2),
+        (STALE_READ_AFTER_COMMIT, "2c 1c", 4, 2),
         (LIVE_WRITE_IS_SEEN, "1c 2c", 3, 1),
         (ITEM_IS_PASSED_ON, "1c 3c 2c", 5, 3),
         (ITEM_IS_PASSED_ON, "2c 1c 3c", 5, 2),

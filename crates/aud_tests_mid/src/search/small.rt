@@ -6,7 +6,7 @@ use crate::oracle::{is_opaque, shows_plainly};
 use aud_event::{Answer, Dup, Event, Op, OpName, OutOfMemory, Plan};
 use aud_history::History;
 use aud_search::{Decided, decide};
-use aud_worked::{READER_BEHIND_COMMIT, Unread, facts_of};
+use aud_worked::{READER_AFTER_COMMIT, Unread, facts_of};
 use std::alloc::Global;
 use std::sync::Arc;
 use std::test::Fail;
@@ -84,7 +84,7 @@ fn agree_at(alloc: Global, plan: &Plan, number: u32) -> Result<Option<bool>, Unr
 
 #[test]
 fn small_histories_are_decided_as_by_brute_force(rt: HostRuntime) -> Result<(), Fail> {
-    let facts = facts_of(rt.alloc(), READER_BEHIND_COMMIT)?;
+    let facts = facts_of(rt.alloc(), READER_AFTER_COMMIT)?;
     let mut seen = 0u32;
     for number in 0..1_728 {
         if let Some(is_right) = agree_at(rt.alloc(), facts.plan(), number)? {

@@ -3,7 +3,7 @@
 use super::{FOUR_KINDS, plan_in};
 use aud_event::{Answer, EndMark, Event, Fact, Op, OpName, Plan, Record};
 use aud_text::{read_fact, write_fact};
-use aud_worked::READER_BEHIND_COMMIT;
+use aud_worked::READER_AFTER_COMMIT;
 use std::alloc::Global;
 use std::test::Fail;
 
@@ -59,8 +59,8 @@ fn two_transactions(rt: HostRuntime) -> Result<(), Fail> {
         record(7, 2, Event::Commit),
         Fact::End(EndMark { log: 0, count: 8 }),
     ];
-    let plan = plan_in(rt.alloc(), READER_BEHIND_COMMIT)?;
-    let (_header, objects) = READER_BEHIND_COMMIT.split_once('\n').ok_or("a header")?;
+    let plan = plan_in(rt.alloc(), READER_AFTER_COMMIT)?;
+    let (_header, objects) = READER_AFTER_COMMIT.split_once('\n').ok_or("a header")?;
     let (_object, lines) = objects.split_once('\n').ok_or("an object")?;
     assert_eq!(rt;
         standing(rt.alloc(), &plan, facts.as_slice(), lines)?,

@@ -2,13 +2,13 @@ use Rattle.std.proofs.Common.{◌≡◌, ◌+◌, ◌≤◌, length, nat_lt, All
 use Rattle.std.specs.List.{filter}
 use Rattle.aud_event.specs.Facts.{first_fact_fault}
 use Rattle.aud_text.specs.Lines.{filled_left}
-use Rattle.aud_cli.specs.Inputs.{facts_read, lines_behind}
+use Rattle.aud_cli.specs.Inputs.{facts_read, lines_after}
 use Rattle.aud_cli.proofs.Read.{onto}
 use Rattle.aud_cli.proofs.input.read_facts.Given as goal
 
 abbrev pub invariant-loop-next : goal.invariant-loop-next
 invariant-loop-next l = record {
-  same : facts_read l.plan (lines_behind l.used l.text) ≡ onto l.facts.items (facts_read l.plan (filter (λ f. nat_lt l.used f.ends) (filled_left (length l.text) l.number l.rest)));
+  same : facts_read l.plan (lines_after l.used l.text) ≡ onto l.facts.items (facts_read l.plan (filter (λ f. nat_lt l.used f.ends) (filled_left (length l.text) l.number l.rest)));
   within : length l.rest ≤ length l.text;
   room : l.number + length l.rest ≤ length l.text + 1;
   sound : All (λ f. first_fact_fault l.plan f ≡ None) l.facts.items;

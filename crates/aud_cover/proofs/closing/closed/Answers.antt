@@ -3,7 +3,7 @@ use Rattle.std.specs.Option.{option_copied}
 use Rattle.std.proofs.Common.{sym, ◌∙◌, ap, subst}
 use Rattle.aud_lattice.specs.declared.mark.Mark.TheVariants.{Covered}
 use Rattle.aud_lattice.specs.Marks.{mark_of}
-use Rattle.aud_lattice.proofs.Tries.{if_both}
+use Rattle.aud_event.proofs.Results.{if_both}
 use Rattle.aud_lattice.specs.Walks.{node_at}
 use Rattle.aud_witness.specs.declared.decision.Decision.{Decision}
 use Rattle.aud_witness.specs.DecisionOrder.{decision_cmp}

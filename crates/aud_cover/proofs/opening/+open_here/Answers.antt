@@ -4,7 +4,8 @@ use Rattle.std.proofs.Common.{rules, sym, ◌∙◌, ap, subst, get_or}
 use mathlib.Core.Bool.{true≢false}
 use Rattle.aud_lattice.specs.declared.trie.Trie.{out-Trie}
 use Rattle.aud_lattice.specs.declared.trie.Trie.TheVariants.{outs-Member, outs-Fork}
-use Rattle.aud_lattice.proofs.Tries.{on_ok, gone_node}
+use Rattle.aud_lattice.proofs.Tries.{gone_node}
+use Rattle.aud_event.proofs.Results.{on_ok}
 use Rattle.aud_witness.specs.declared.decision.Decision.{Decision}
 use Rattle.aud_witness.specs.DecisionOrder.{decision_cmp}
 use Rattle.aud_witness.proofs.Good.{IsGood-push}

@@ -19,6 +19,6 @@ loop-number-preserved g c =
     let test : true ≡ nat_lt c.loop-number.at (length c.args.kept.now) = c.in_ok-step.ensures.lookup.0 in
     let inside : c.loop-number.at < length c.args.kept.now = grind (arith, nat_tests) in
     let pushed : is_ok c.push.result ≡ true = c.is_err.ensures.negation ∙ ap not c.if-is_err.false in
-    let grown : c.push.new.self.items ≡ c.loop-number.way.items ++ c.in-Behind.step.tx ∷ [] = rw pushed at c.push.ensures.items in
-    λ h. way-back h c.args.kept.now c.loop-number.at c.args.number c.in_ok-step.field-0.now c.in_ok-step.field-0.now c.in-Behind.step c.in-Behind.field-1 c.loop-number.way.items c.push.new.self.items inside c.in_ok-step.ensures.lookup.1 c.in-Behind.is c.if-step-at.false grown
+    let grown : c.push.new.self.items ≡ c.loop-number.way.items ++ c.in-After.step.tx ∷ [] = rw pushed at c.push.ensures.items in
+    λ h. way-back h c.args.kept.now c.loop-number.at c.args.number c.in_ok-step.field-0.now c.in_ok-step.field-0.now c.in-After.step c.in-After.field-1 c.loop-number.way.items c.push.new.self.items inside c.in_ok-step.ensures.lookup.1 c.in-After.is c.if-step-at.false grown
     (c.loop-number.invariant h)

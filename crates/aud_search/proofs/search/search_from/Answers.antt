@@ -7,7 +7,7 @@ use Rattle.aud_order.specs.Cursors.{CursorOf}
 use Rattle.aud_search.specs.Levels.{IsSearching}
 use Rattle.aud_search.proofs.Levels.{search-start}
 use Rattle.aud_search.specs.declared.search.Turn.{Turn}
-use Rattle.aud_search.specs.Memos.{MemoOf, states_behind, Names, NameWay, IsGrown, IsStep}
+use Rattle.aud_search.specs.Memos.{MemoOf, states_reached, Names, NameWay, IsGrown, IsStep}
 use Rattle.aud_search.specs.Readiness.{IsReady}
 use Rattle.aud_search.specs.Recorders.{HasNote}
 use Rattle.aud_search.proofs.MemoLemmas.{way-grown, way-deeper, way-back}
@@ -176,8 +176,8 @@ search-smaller-in-Some-knows g c =
     let k = c.in-Some.place in
     let found = rw c.in-Some.is at c.in_ok-place.ensures in
     let f = round-follows r new k found in
-    subst (λ (v : CursorOf). weight start.shape cs c.take_back.new.cursor.path c.place_behind.result (map next_of at.turns.items) < weight start.shape cs v.path at.here.next (map next_of at.turns.items)) p.stays
-    (loop-known-lighter start cur new c.take_back.new.cursor cs at.here.next k c.place_behind.result (map next_of at.turns.items) f c.place_behind.ensures.past c.take_back.ensures.back)
+    subst (λ (v : CursorOf). weight start.shape cs c.take_back.new.cursor.path c.next_place.result (map next_of at.turns.items) < weight start.shape cs v.path at.here.next (map next_of at.turns.items)) p.stays
+    (loop-known-lighter start cur new c.take_back.new.cursor cs at.here.next k c.next_place.result (map next_of at.turns.items) f c.next_place.ensures.past c.take_back.ensures.back)
 
 pub search-preserved-in-Some-knows : goal.search-preserved-in-Some-knows
 search-preserved-in-Some-knows g c =
@@ -201,8 +201,8 @@ search-preserved-in-Some-knows g c =
     let grown : IsGrown c.pass_known.new.memo c.follow-states.new.self = subst (λ (m : MemoOf _). IsGrown m c.follow-states.new.self) c.touch.ensures c.follow-states.ensures.grown in
     let stays : noting ≡ memo = sym c.take_back.ensures.memo in
     let further = note-on g.R.Recorder.noted g.R.Recorder.grows g.met.R.Recorder.noted_stays g.met.R.Recorder.grows_onward c.follow-states.new.self.recorder noting.recorder told.recorder in
-    let heard = round-known r noting.recorder (λ l was. further l (subst (λ v. HasNote (g.R.Recorder.noted v) l) (sym grown.recorder) was)) new c.take_back.new.cursor.path k c.place_behind.result c.silent_at-here.result c.in_ok-note-2.field-0
-    c.requires.choices found c.place_behind.ensures c.silent_at-here.ensures c.in_ok-note-2.ensures.noted went.1 in
+    let heard = round-known r noting.recorder (λ l was. further l (subst (λ v. HasNote (g.R.Recorder.noted v) l) (sym grown.recorder) was)) new c.take_back.new.cursor.path k c.next_place.result c.silent_at-here.result c.in_ok-note-2.field-0
+    c.requires.choices found c.next_place.ensures c.silent_at-here.ensures c.in_ok-note-2.ensures.noted went.1 in
     record {
       same = went.0;
       used = at.invariant.used;
@@ -211,8 +211,8 @@ search-preserved-in-Some-knows g c =
       way = subst (λ l. NameWay start.shape memo.states (at.here.states ∷ reverse (map states_of at.turns.items)) l) (sym went.1)
           (subst (λ l. NameWay start.shape l (at.here.states ∷ reverse (map states_of at.turns.items)) cur.path) (sym told.states ∙ ap (λ (m : MemoOf _). m.states) stays)
           (way-grown start.shape c.pass_known.new.memo c.follow-states.new.self (at.here.states ∷ reverse (map states_of at.turns.items)) cur.path grown r.way));
-      searching = loop-known start cur new c.take_back.new.cursor cs at.invariant.used at.here.next k c.place_behind.result (map next_of at.turns.items) on r.before f c.place_behind.ensures c.in-Some-knows.ensures.refuted popped;
-      heard = subst (λ (m : MemoOf _). IsHeard (HasNote (g.R.Recorder.noted m.recorder)) start.shape cs c.take_back.new.cursor.path c.place_behind.result c.silent_at-here.result) stays heard.0;
+      searching = loop-known start cur new c.take_back.new.cursor cs at.invariant.used at.here.next k c.next_place.result (map next_of at.turns.items) on r.before f c.next_place.ensures c.in-Some-knows.ensures.refuted popped;
+      heard = subst (λ (m : MemoOf _). IsHeard (HasNote (g.R.Recorder.noted m.recorder)) start.shape cs c.take_back.new.cursor.path c.next_place.result c.silent_at-here.result) stays heard.0;
       opens = subst (λ (m : MemoOf _). AreOpen (HasNote (g.R.Recorder.noted m.recorder)) start.shape cs (reverse at.turns.items) c.take_back.new.cursor.path) stays heard.1;
       choices = at.invariant.choices;
       ready = ready-still start cur new c.take_back.new.cursor cs at.here.next k at.ready f r.same popped (subst (λ (v : CursorOf). IsReady at.ready v) (sym p.stays) at.invariant.ready);
@@ -263,10 +263,10 @@ search-smaller g c =
     let k = c.in-Some.place in
     let found = rw c.in-Some.is at c.in_ok-place.ensures in
     let f = round-follows r new k found in
-    let turn : Turn = record { next = c.place_behind.result; states = at.here.states; silent = c.silent_at-here.result } in
+    let turn : Turn = record { next = c.next_place.result; states = at.here.states; silent = c.silent_at-here.result } in
     subst (λ (v : CursorOf). weight start.shape cs new.path c.new-here-in-search.result.next (map next_of c.push.new.self.items) < weight start.shape cs v.path at.here.next (map next_of at.turns.items)) p.stays
     (subst (λ (t : Turn). weight start.shape cs new.path t.next (map next_of c.push.new.self.items) < weight start.shape cs cur.path at.here.next (map next_of at.turns.items)) (sym c.new-here-in-search.ensures)
-    (loop-deeper-lighter start cur new cs at.here.next k c.place_behind.result (map next_of at.turns.items) (map next_of c.push.new.self.items) f c.place_behind.ensures.past
+    (loop-deeper-lighter start cur new cs at.here.next k c.next_place.result (map next_of at.turns.items) (map next_of c.push.new.self.items) f c.next_place.ensures.past
     (more-turns next_of at.turns.items c.push.new.self.items turn c.in_ok-push.ensures.items)))
 
 pub search-preserved : goal.search-preserved
@@ -284,7 +284,7 @@ search-preserved g c =
     let f = round-follows r new k found in
     let unfull : IsFull (history_of new.shape) new.path → ⊥ = λ full. absurd (let is_so = c.full.ensures.1 full in let is_not = c.if-full.false in cc) in
     let on : Grounds start.shape cs = record { fine = c.requires.fine; within = c.requires.within; choices = c.requires.choices } in
-    let turn : Turn = record { next = c.place_behind.result; states = at.here.states; silent = c.silent_at-here.result } in
+    let turn : Turn = record { next = c.next_place.result; states = at.here.states; silent = c.silent_at-here.result } in
     let memo = c.follow-states.new.self in
     let P = HasNote (g.R.Recorder.noted memo.recorder) in
     let grown : IsGrown c.pass_known.new.memo memo = subst (λ (m : MemoOf _). IsGrown m memo) c.touch.ensures c.follow-states.ensures.grown in
@@ -296,13 +296,13 @@ search-preserved g c =
       way = subst (λ (t : Turn). NameWay start.shape memo.states (t.states ∷ reverse (map states_of c.push.new.self.items)) new.path) (sym c.new-here-in-search.ensures)
           (way-deeper start.shape memo.states at.here.states c.follow-states.result (map states_of at.turns.items) (map states_of c.push.new.self.items) cur.path new.path f.choice.decision
           (way-grown start.shape c.pass_known.new.memo memo (at.here.states ∷ reverse (map states_of at.turns.items)) cur.path grown r.way) f.path
-          (subst (λ (s : ShapeOf). Names memo.states c.follow-states.result (states_behind s new.path)) f.shape c.follow-states.ensures.named)
+          (subst (λ (s : ShapeOf). Names memo.states c.follow-states.result (states_reached s new.path)) f.shape c.follow-states.ensures.named)
           (more-turns states_of at.turns.items c.push.new.self.items turn c.in_ok-push.ensures.items));
       searching = subst (λ (t : Turn). IsSearching (objects_of start.shape) (history_of start.shape) start.path cs (at.invariant.used + 1) new.path t.next (reverse (map next_of c.push.new.self.items))) (sym c.new-here-in-search.ensures)
-          (loop-deeper start cur new cs at.invariant.used at.here.next k c.place_behind.result (map next_of at.turns.items) (map next_of c.push.new.self.items) on r.before f unfull c.place_behind.ensures
+          (loop-deeper start cur new cs at.invariant.used at.here.next k c.next_place.result (map next_of at.turns.items) (map next_of c.push.new.self.items) on r.before f unfull c.next_place.ensures
           (more-turns next_of at.turns.items c.push.new.self.items turn c.in_ok-push.ensures.items));
       heard = subst (λ (t : Turn). IsHeard P start.shape cs new.path t.next t.silent) (sym c.new-here-in-search.ensures) (kept-none P start.shape cs new.path 0);
-      opens = round-deeper r memo.recorder (λ p was. subst (λ v. HasNote (g.R.Recorder.noted v) p) (sym grown.recorder) was) new k c.place_behind.result c.silent_at-here.result turn c.push.new.self.items c.requires.choices found c.place_behind.ensures c.silent_at-here.ensures
+      opens = round-deeper r memo.recorder (λ p was. subst (λ v. HasNote (g.R.Recorder.noted v) p) (sym grown.recorder) was) new k c.next_place.result c.silent_at-here.result turn c.push.new.self.items c.requires.choices found c.next_place.ensures c.silent_at-here.ensures
           refl refl c.in_ok-push.ensures.items;
       choices = c.go_on.ensures.choices ∙ at.invariant.choices;
       ready = c.go_on.ensures.ready;

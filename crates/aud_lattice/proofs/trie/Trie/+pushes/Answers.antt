@@ -25,10 +25,10 @@ push_paths-loop-first-preserved g t c =
     let steps = c.in-Some.ensures.steps in
     let same = c.loop-first.invariant.2 in
     let small = subst (λ es. AllByRecursion (λ x. size-Trie g.row.D.Denot g.row.A.Denot x.1 < size-Trie g.row.D.Denot g.row.A.Denot c.args.self.now) (nodes_of es)) steps c.loop-first.invariant.3 in
-    let now = c.in_ok-push_behind-in-Fork.ensures.all ∙ (λ i. c.loop-first.all.items ++ map (λ p. same i ++ c.in-Some.first.now ∷ p) (paths (c.deref-in-loop-first.ensures i))) in (
+    let now = c.in_ok-push_under-in-Fork.ensures.all ∙ (λ i. c.loop-first.all.items ++ map (λ p. same i ++ c.in-Some.first.now ∷ p) (paths (c.deref-in-loop-first.ensures i))) in (
       tt,
       tt,
-      c.in_ok-push_behind-in-Fork.ensures.path ∙ same,
+      c.in_ok-push_under-in-Fork.ensures.path ∙ same,
       small.1,
       (λ i. now i ++ map (λ p. c.args.path.now.items ++ p) (pathed g.D.Ord.cmp (nodes_of c.next.new.self)))
           ∙ pushed c.args.path.now.items c.in-Some.first.now (paths (arc_value c.in-Some.node.now)) (pathed g.D.Ord.cmp (nodes_of c.next.new.self)) c.loop-first.all.items

@@ -17,5 +17,5 @@ invariant-push_paths-loop-first g l =
 abbrev pub decreases-push_paths : goal.decreases-push_paths
 decreases-push_paths g l = 2 * size-Trie g.row.D.Denot g.row.A.Denot l.self.now
 
-abbrev pub decreases-push_behind : goal.decreases-push_behind
-decreases-push_behind g l = 2 * size-Trie g.row.D.Denot g.row.A.Denot l.node.now + 1
+abbrev pub decreases-push_under : goal.decreases-push_under
+decreases-push_under g l = 2 * size-Trie g.row.D.Denot g.row.A.Denot l.node.now + 1

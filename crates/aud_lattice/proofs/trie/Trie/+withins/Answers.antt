@@ -7,7 +7,7 @@ use Rattle.aud_lattice.specs.declared.trie.Trie.{out-Trie}
 use Rattle.aud_lattice.specs.declared.trie.Trie.TheVariants.{outs-Member, outs-Fork}
 use Rattle.aud_lattice.specs.declared.trie.Trie.TheViews.{the_lemmas}
 use Rattle.aud_lattice.specs.Walks.{ends, walk, child, nodes_of, IsTrie, IsLive, IsWithin}
-use Rattle.aud_lattice.proofs.Tries.{any_starts, any_starts-walk, found_kids, child_size, good_child, live_child, good_behind, found_node, gone_node, member_holds, member_not_within, gone_not_within, known_within, within_known}
+use Rattle.aud_lattice.proofs.Tries.{any_starts, any_starts-walk, found_kids, child_size, good_child, live_child, good_under, found_node, gone_node, member_holds, member_not_within, gone_not_within, known_within, within_known}
 use Rattle.aud_lattice.proofs.trie.Trie.+withins.Goals as goal
 
 pub is_within-loop-first-init : goal.is_within-loop-first-init
@@ -39,7 +39,7 @@ pub is_within_at-is_within-requires : goal.is_within_at-is_within-requires
 is_within_at-is_within-requires g t c κs within =
     let at = ap (out-Trie g.row.D.Denot g.row.A.Denot) c.in-Fork.is ∙ outs-Fork c.in-Fork.theirs in
     let found = found_node g.D.Ord.cmp c.in-Fork.theirs c.args.first.now c.in-Some.known.now (sym c.get.ensures.value ∙ ap option_copied c.in-Some.is) in
-    let h : IsTrie g.D.Ord.cmp (arc_value c.in-Some.known.now) = good_behind g.D.Ord.cmp c.args.other.now c.in-Fork.theirs at c.args.first.now (arc_value c.in-Some.known.now) found c.requires.there in
+    let h : IsTrie g.D.Ord.cmp (arc_value c.in-Some.known.now) = good_under g.D.Ord.cmp c.args.other.now c.in-Fork.theirs at c.args.first.now (arc_value c.in-Some.known.now) found c.requires.there in
     rw c.deref.ensures (search (rules, h))
 
 pub is_within_at-returns-in-None : goal.is_within_at-returns-in-None

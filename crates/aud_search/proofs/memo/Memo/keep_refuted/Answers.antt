@@ -1,7 +1,7 @@
 use Rattle.std.specs.Prelude.{◌++◌, ◌∷◌, [], true, false, map, Some}
 use Rattle.std.proofs.Common.{sym, ◌∙◌, ap, subst}
 use Rattle.aud_search.specs.Spots.{EntryOf, IsKeptAs, entry_of}
-use Rattle.aud_search.specs.Memos.{MemoOf, states_behind, Names}
+use Rattle.aud_search.specs.Memos.{MemoOf, states_reached, Names}
 use Rattle.aud_search.proofs.MemoLemmas.{true-entry, true-unkept, dead-here, rows-placed}
 use Rattle.aud_search.proofs.memo.Memo.keep_refuted.Goals as goal
 
@@ -17,7 +17,7 @@ invariant_of-self-in-Ok g c =
           (subst (λ n. IsKeptAs (map (entry_of n) i.spots) (map (entry_of n) c.keep.new.self) entry true) (rows-placed i.shape.now placed at same c.placed-placed.ensures) (rw c.if-keep.true at c.keep.ensures))
           (c.in-Ok.ensures.items ∙ ap (λ l. l ++ c.args.note ∷ []) c.reserve.ensures.items)
           (dead-here _ _ _ placed c.args.states at same c.prefix.ensures.good c.requires.refuted c.placed-placed.ensures
-          (subst (λ (m : MemoOf _). Names m.states (Some c.args.states) (states_behind at.shape at.path)) (sym c.self.view_is) c.requires.named) noted) c.self.invariant.0,
+          (subst (λ (m : MemoOf _). Names m.states (Some c.args.states) (states_reached at.shape at.path)) (sym c.self.view_is) c.requires.named) noted) c.self.invariant.0,
       c.self.invariant.1,
     )
 

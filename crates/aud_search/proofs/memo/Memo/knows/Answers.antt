@@ -5,7 +5,7 @@ use Rattle.aud_history.specs.FirstFault.{IsWithinLimits}
 use Rattle.aud_order.specs.Shapes.{ShapeOf, plan_of, objects_of, history_of}
 use Rattle.aud_witness.specs.Orders.{Refuted}
 use Rattle.aud_search.specs.Spots.{EntryOf, entry_of}
-use Rattle.aud_search.specs.Memos.{MemoOf, states_behind, Names}
+use Rattle.aud_search.specs.Memos.{MemoOf, states_reached, Names}
 use Rattle.aud_search.specs.Recorders.{IsNotedAlike}
 use Rattle.aud_search.proofs.MemoLemmas.{note-of, dead-refuted, dead-alike, rows-placed}
 use Rattle.aud_search.proofs.memo.Memo.knows.Goals as goal
@@ -23,7 +23,7 @@ returns-clause-refuted g c =
     note-of _ _ _ _ _ _ c.in-Some-find.place entry _ (λ _. Refuted (objects_of at.shape) (history_of at.shape) at.path) c.self.invariant.0 there (c.note_at.ensures ∙ ap (λ l. slice_get l c.in-Some-find.place) c.deref.ensures.value)
     (λ note dead. dead-refuted i.shape.now _ _ placed n at same (subst (λ (s : ShapeOf). IsWellFormed (history_of s)) same c.history.ensures.sound)
     (subst (λ (s : ShapeOf). IsWithinLimits (plan_of s) (history_of s)) same c.plan.ensures.sound) c.prefix.ensures.good c.placed.ensures
-    (subst (λ (m : MemoOf _). Names m.states (Some n) (states_behind at.shape at.path)) (sym c.self.view_is) named) dead)
+    (subst (λ (m : MemoOf _). Names m.states (Some n) (states_reached at.shape at.path)) (sym c.self.view_is) named) dead)
 
 pub returns-clause-alike : goal.returns-clause-alike
 returns-clause-alike g c =
@@ -37,4 +37,4 @@ returns-clause-alike g c =
     let named = rw c.in-Some.is at c.requires.named in
     note-of _ _ _ _ _ _ c.in-Some-find.place entry _ (λ note. IsNotedAlike at.shape (g.R.Recorder.noted c.args.self.now.recorder note) at.path) c.self.invariant.0 there (c.note_at.ensures ∙ ap (λ l. slice_get l c.in-Some-find.place) c.deref.ensures.value)
     (λ note dead. subst (λ (m : MemoOf _). IsNotedAlike at.shape (g.R.Recorder.noted m.recorder note) at.path) c.self.view_is
-    (dead-alike i.shape.now _ _ placed n at same c.placed.ensures (subst (λ (m : MemoOf _). Names m.states (Some n) (states_behind at.shape at.path)) (sym c.self.view_is) named) dead))
+    (dead-alike i.shape.now _ _ placed n at same c.placed.ensures (subst (λ (m : MemoOf _). Names m.states (Some n) (states_reached at.shape at.path)) (sym c.self.view_is) named) dead))

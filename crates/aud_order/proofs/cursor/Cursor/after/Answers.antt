@@ -1,7 +1,7 @@
 use Rattle.std.specs.Prelude.{◌≡◌, false, true}
 use Rattle.std.proofs.Common.{sym, ◌∙◌}
 use Rattle.aud_order.proofs.Placed.{placed-more, placed-bad}
-use Rattle.aud_order.proofs.cursor.Cursor.behind.Goals as goal
+use Rattle.aud_order.proofs.cursor.Cursor.after.Goals as goal
 
 pub returns-then-not-is_good : goal.returns-then-not-is_good
 returns-then-not-is_good g c =

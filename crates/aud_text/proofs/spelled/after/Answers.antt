@@ -3,7 +3,7 @@ use Rattle.std.specs.Prelude.{IfSome, MatchOption, ◌≢◌}
 use denote.Ref.{Bor}
 use Rattle.std.proofs.lemmas.Slice.Eq.{strip_prefix_is}
 use Rattle.std.proofs.lemmas.Bool.Decides.{Decides-eqb}
-use Rattle.aud_text.proofs.spelled.behind.Goals as goal
+use Rattle.aud_text.proofs.spelled.after.Goals as goal
 
 found : (s p q : List ℕ) (r : Option (Bor (List ℕ))) → q ≡ p → MatchOption r ((rest : List ℕ) → s ≢ q ++ rest) (λ x. s ≡ q ++ x.now) → IfSome r (λ rest. s ≡ p ++ rest.now)
 found s p q None same m = tt
