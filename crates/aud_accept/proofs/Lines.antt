@@ -14,27 +14,25 @@ use Rattle.aud_accept.proofs.Placing.{no_decision}
 use Rattle.aud_accept.specs.declared.cert.CertLine.{CertLine}
 use Rattle.aud_accept.specs.declared.cert.CertLine.TheVariants.{Kids, Silent, Same}
 use Rattle.aud_accept.specs.Acceptance.{prefix_in, HasKids, HasSame, Rests, IsAcceptedLine, AreAccepted, EndsEmpty, IsAccepted}
+use Rattle.aud_accept.specs.OfShapes.{HasLines}
 use Rattle.aud_accept.proofs.Ends.{first-more, here-in}
 
 -- # Kids
 
-abbrev pub HasAll : List (List Decision) → List Decision → List Decision → Type 0
-HasAll seen p ks = (d : Decision) → Contains ks d → Contains seen (p ++ d ∷ [])
-
 pub all-not : (seen : List (List Decision)) (p ks : List Decision) (n : ℕ) (next : List Decision) (b : Bool) → n < length ks → next ≡ p ++ get_or ks n no_decision ∷ [] →
-    (IsTrue b ↔ Contains seen next) → b ≡ false → IsTrue false ↔ HasAll seen p ks
+    (IsTrue b ↔ Contains seen next) → b ≡ false → IsTrue false ↔ HasLines seen p ks
 all-not seen p ks n next b inside is told fails = (
   (λ e. absurd (cc)),
   λ all. let clash : b ≡ true = told.1 (subst (λ (l : List Decision). Contains seen l) (sym is) (all (get_or ks n no_decision) (here-in ks n inside))) in absurd (cc),
 )
 
 pub all-more : (seen : List (List Decision)) (p ks : List Decision) (n : ℕ) (next : List Decision) (b : Bool) → n < length ks → next ≡ p ++ get_or ks n no_decision ∷ [] →
-    (IsTrue b ↔ Contains seen next) → b ≡ true → HasAll seen p (take n ks) → HasAll seen p (take (n + 1) ks)
+    (IsTrue b ↔ Contains seen next) → b ≡ true → HasLines seen p (take n ks) → HasLines seen p (take (n + 1) ks)
 all-more seen p ks n next b inside is told holds before =
     first-more (λ d. Contains seen (p ++ d ∷ [])) ks n inside before (subst (λ (l : List Decision). Contains seen l) is (told.0 holds))
 
 pub kids-told : (objects : List Declared) (h : History) (seen : List (List Decision)) (path p kids ks : List Decision) (full has : Bool) → path ≡ p →
-    (IsTrue full ↔ IsFull h path) → full ≡ false → AreKids objects h path kids → ks ≡ kids → (IsTrue has ↔ HasAll seen p ks) → IsTrue has ↔ HasKids objects h seen p
+    (IsTrue full ↔ IsFull h path) → full ≡ false → AreKids objects h path kids → ks ≡ kids → (IsTrue has ↔ HasLines seen p ks) → IsTrue has ↔ HasKids objects h seen p
 kids-told objects h seen path p kids ks full has here is_full unfull are same told = (
   (λ holds. record {
     unfull = λ whole. let clash : full ≡ true = is_full.1 (subst (λ l. IsFull h l) (sym here) whole) in absurd (cc);

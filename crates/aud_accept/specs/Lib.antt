@@ -1,3 +1,4 @@
 pub mod Acceptance
 pub mod Laws
 pub mod Moves
+pub mod OfShapes

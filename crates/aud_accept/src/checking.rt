@@ -6,7 +6,8 @@ ghost use Rattle.aud_witness.specs.declared.decision.Decision.{Decision};
 ghost use Rattle.aud_witness.specs.Orders.{IsGood};
 ghost use Rattle.aud_order.specs.Silent.{silent_fate};
 ghost use Rattle.aud_order.specs.Shapes.{objects_of, history_of};
-ghost use Rattle.aud_accept.specs.Acceptance.{prefix_in, HasKids, HasSilent, HasSame, LeadAlike, IsAcceptedLine, EndsEmpty, IsAccepted};
+ghost use Rattle.aud_accept.specs.Acceptance.{prefix_in, LeadAlike, EndsEmpty, IsAccepted};
+ghost use Rattle.aud_accept.specs.OfShapes.{AreGoodFor, HasKidsFor, HasLines, HasSameFor, HasSilentFor, IsAcceptedFor};
 
 use crate::cert::{Cert, CertLine};
 use crate::earlier::Earlier;
@@ -34,7 +35,7 @@ fn has_all<A: Allocator + Copy>(
     prefix: &Prefix<A>,
     kids: &[Decision],
 ) -> Result<bool, OutOfMemory>
-    ensures { IfOk result (λ all. IsTrue all ↔ ((d : Decision) → Contains kids.now d → Contains earlier.now (prefix.now ++ d ∷ []))) }
+    ensures { IfOk result (λ all. IsTrue all ↔ HasLines earlier.now prefix.now kids.now) }
 {
     for kid in kids {
         let next = with_next(prefix, *kid)?;
@@ -53,7 +54,7 @@ fn has_kids<A: Allocator + Copy>(
     prefix: &Prefix<A>,
 ) -> Result<bool, OutOfMemory>
     requires { cursor.old.path ≡ prefix.now }
-    ensures accepted { IfOk result (λ has. IsTrue has ↔ HasKids (objects_of cursor.old.shape) (history_of cursor.old.shape) earlier.now prefix.now) }
+    ensures accepted { IfOk result (λ has. IsTrue has ↔ HasKidsFor cursor.old.shape earlier.now prefix.now) }
     ensures shape { OnOk result (cursor.new.shape ≡ cursor.old.shape) }
 {
     if cursor.full() {
@@ -100,7 +101,7 @@ fn has_silent<A: Allocator + Copy>(
 ) -> Result<bool, OutOfMemory>
     requires path { cursor.old.path ≡ prefix.now }
     requires shape { cursor.old.shape ≡ shape.now }
-    ensures accepted { IfOk result (λ has. IsTrue has ↔ HasSilent (objects_of shape.now) (history_of shape.now) earlier.now prefix.now decision) }
+    ensures accepted { IfOk result (λ has. IsTrue has ↔ HasSilentFor shape.now earlier.now prefix.now decision) }
     ensures shape { OnOk result (cursor.new.shape ≡ cursor.old.shape) }
 {
     if !is_silent(shape, decision) {
@@ -118,8 +119,8 @@ pub fn lead_alike<A: Allocator + Copy>(cursor: &Cursor<A>, other: &Cursor<A>) ->
     requires { other.now.shape ≡ cursor.now.shape }
     ensures { IsTrue result ↔ LeadAlike (objects_of cursor.now.shape) (history_of cursor.now.shape) cursor.now.path other.now.path }
 {
-    let _ = cursor.prefix();
-    let _ = other.prefix();
+    let _good = cursor.prefix();
+    let _other_good = other.prefix();
     if !cursor.placed().same(other.placed()) {
         return false;
     }
@@ -134,8 +135,8 @@ fn has_same<A: Allocator + Copy>(
     prefix: &Prefix<A>,
 ) -> Result<bool, OutOfMemory>
     requires shape { other.old.shape ≡ cursor.now.shape }
-    requires good { (p : List Decision) → Contains earlier.now p → IsGood (objects_of cursor.now.shape) (history_of cursor.now.shape) p }
-    ensures accepted { IfOk result (λ has. IsTrue has ↔ HasSame (objects_of cursor.now.shape) (history_of cursor.now.shape) earlier.now cursor.now.path prefix.now) }
+    requires good { AreGoodFor cursor.now.shape earlier.now }
+    ensures accepted { IfOk result (λ has. IsTrue has ↔ HasSameFor cursor.now.shape earlier.now cursor.now.path prefix.now) }
     ensures shape { OnOk result (other.new.shape ≡ other.old.shape) }
 {
     if !earlier.has(prefix) {
@@ -159,8 +160,8 @@ fn accepts<A: Allocator + Copy>(
 ) -> Result<bool, OutOfMemory>
     requires cursor { cursor.old.shape ≡ shape.now }
     requires other { other.old.shape ≡ shape.now }
-    requires good { (p : List Decision) → Contains earlier.now p → IsGood (objects_of shape.now) (history_of shape.now) p }
-    ensures accepted { IfOk result (λ good. IsTrue good ↔ IsAcceptedLine (objects_of shape.now) (history_of shape.now) earlier.now line.now) }
+    requires good { AreGoodFor shape.now earlier.now }
+    ensures accepted { IfOk result (λ good. IsTrue good ↔ IsAcceptedFor shape.now earlier.now line.now) }
     ensures cursor { OnOk result (cursor.new.shape ≡ shape.now) }
     ensures other { OnOk result (other.new.shape ≡ shape.now) }
 {

@@ -3,7 +3,7 @@
 ghost use Rattle.std.specs.Prelude.{◌≡◌, ◌↔◌, ◌≤◌, false, length, take, IfOk, OnOk, IsTrue};
 ghost use Rattle.aud_witness.specs.Orders.{IsGood};
 ghost use Rattle.aud_order.specs.Shapes.{objects_of, history_of};
-ghost use Rattle.aud_accept.specs.Moves.{StaysBefore};
+ghost use Rattle.aud_accept.specs.OfShapes.{StaysBeforeFor};
 
 use aud_event::OutOfMemory;
 use aud_order::Cursor;
@@ -51,16 +51,16 @@ pub fn go_to<A: Allocator + Copy>(
     ensures shape { OnOk result (cursor.new.shape ≡ cursor.old.shape) }
     ensures there { IfOk result (λ good. IsTrue good → cursor.new ≡ record { shape = cursor.old.shape; path = decisions.now }) }
     ensures good { IfOk result (λ good. IsTrue good ↔ IsGood (objects_of cursor.old.shape) (history_of cursor.old.shape) decisions.now) }
-    ensures stays { IfOk result (λ good. good ≡ false → StaysBefore (objects_of cursor.old.shape) (history_of cursor.old.shape) decisions.now cursor.new.path) }
+    ensures stays { IfOk result (λ good. good ≡ false → StaysBeforeFor cursor.old.shape decisions.now cursor.new.path) }
 {
     let depth = in_common(cursor.prefix(), decisions);
     go_back(cursor, depth);
     for place in depth..decisions.len() {
         if !cursor.push(decisions[place])?.is_good() {
-            let _ = cursor.prefix();
+            let _good = cursor.prefix();
             return Ok(false);
         }
     }
-    let _ = cursor.prefix();
+    let _good = cursor.prefix();
     Ok(true)
 }

@@ -91,7 +91,8 @@ fn offer_all<J: Fleet + Send + Sync, S: Wait + Drop + Send, R: Threads + Wait + 
     ensures { AreCollectors nodes.now collectors.new }
 {
     let each = |place: usize, collector: &mut Collector<J>|
-        requires { (place < length nodes.now) × (AreOf facts.now.plan nodes.now × HoldsAt (λ n. IsCollectorAt n collector.now) nodes.now place) }
+        requires { (place < length nodes.now) × (AreOf facts.now.plan nodes.now
+            × HoldsAt (λ n. IsCollectorAt n collector.now) nodes.now place) }
         ensures { HoldsAt (λ n. IsCollectorAt n collector.exit.now) nodes.entry.now place }
     { collector.offer(rt, alloc, &nodes[place], facts, nodes.len()) };
     thread::for_each_mut(rt, collectors, NODES_MAX, &each);
@@ -127,7 +128,8 @@ fn receive_each<J: Fleet + Send + Sync, S: Wait + Drop + Send, R: Threads + Wait
     ensures { AreCollectors nodes.now collectors.new }
 {
     let each = |place: usize, collector: &mut Collector<J>|
-        requires { ((place < length nodes.now) × (place < length inboxes.now)) × HoldsAt (λ n. IsCollectorAt n collector.now) nodes.now place }
+        requires { ((place < length nodes.now) × (place < length inboxes.now))
+            × HoldsAt (λ n. IsCollectorAt n collector.now) nodes.now place }
         ensures { HoldsAt (λ n. IsCollectorAt n collector.exit.now) nodes.entry.now place }
     { collector.receive(rt, alloc, &nodes[place], &inboxes[place]) };
     thread::for_each_mut(rt, collectors, NODES_MAX, &each);
@@ -146,7 +148,8 @@ fn search_each<
     ensures ended { CrewsHaveEnded search.now nodes.now crews.new }
 {
     let each = |place: usize, crew: &mut Crew<J>|
-        requires { (place < length nodes.now) × AreOf (plan_of search.now.shape.value) nodes.now × HoldsAt (λ n. IsCrewAt n crew.now) nodes.now place }
+        requires { (place < length nodes.now) × AreOf (plan_of search.now.shape.value) nodes.now
+            × HoldsAt (λ n. IsCrewAt n crew.now) nodes.now place }
         ensures { HoldsAt (λ n. IsCrewAt n crew.exit.now × (crew.exit.now.failed ≡ false →
             ShareHasEnded search.entry.now (length nodes.entry.now) n.number crew.exit.now.passes)) nodes.entry.now place }
     { crew.search(rt, alloc, &nodes[place], search, gate, nodes.len()) };

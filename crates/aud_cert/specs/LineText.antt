@@ -10,6 +10,7 @@ use Rattle.aud_text.specs.Json.{Key, json_read, has_all, has_only, word_at, text
 use Rattle.aud_text.specs.Orders.{order_read}
 use Rattle.aud_accept.specs.declared.cert.CertLine.{CertLine}
 use Rattle.aud_accept.specs.declared.cert.CertLine.TheVariants.{Kids, Silent, Same}
+use Rattle.aud_cert.specs.declared.line.OrderTexts.{OrderTexts}
 use Rattle.aud_cert.specs.declared.reason.Reason.{Reason}
 use Rattle.aud_cert.specs.declared.reason.Reason.TheVariants as by
 
@@ -99,6 +100,10 @@ fault_of e ms reason p d q =
     else (if not (has_only (allowed reason) ms) then Some fault.KeyUnknown
     else (if not (all_texts e) || (is_out_of_range p || (is_out_of_range d || (is_out_of_range q || not (is_one d)))) then Some fault.TypeOrRange
     else None)))
+
+-- the same of the order texts together
+abbrev pub fault_with : Data → Members → Option Reason → OrderTexts → Option TextFault
+fault_with e ms reason texts = fault_of e ms reason texts.prefix texts.decision texts.other
 
 -- where there is no such fault, only a word is unknown if there is no line
 abbrev pub line_unless : Option TextFault → Option Line → Result Line TextFault

@@ -2,7 +2,7 @@
 
 ghost use Rattle.std.specs.Prelude.{◌≡◌, ◌⊎◌, Ok, Err, codes, IfOk, MatchResult};
 ghost use Rattle.serde_json.specs.View.{view, members_view};
-ghost use Rattle.aud_cert.specs.LineText.{order_at, is_long, is_out_of_range, is_one, all_texts, only_of, list_of, fault_of, line_of, line_judged, line_read};
+ghost use Rattle.aud_cert.specs.LineText.{order_at, is_long, is_out_of_range, is_one, all_texts, only_of, list_of, fault_with, line_of, line_judged, line_read};
 
 use crate::reason::{Reason, allowed_keys, reason_in, required_keys};
 use aud_accept::CertLine;
@@ -109,7 +109,7 @@ fn fault_in(
     reason: Option<Reason>,
     texts: &OrderTexts,
 ) -> Option<TextFault>
-    ensures { result ≡ fault_of (view value.now) (members_view members.now.entries) reason texts.now.prefix texts.now.decision texts.now.other }
+    ensures { result ≡ fault_with (view value.now) (members_view members.now.entries) reason texts.now }
 {
     let OrderTexts {
         prefix,

@@ -71,7 +71,7 @@ impl<'a, A: Allocator + Copy> Lines<'a, A> {
         ensures { IsAccepted (objects_of self.entry.shape) (history_of self.entry.shape) result.lines.items }
     {
         let mut lines = self.lines;
-        let _ = lines.len();
+        let _few = lines.len();
         lines.truncate(last + 1);
         Cert { lines }
     }

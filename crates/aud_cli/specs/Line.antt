@@ -1,5 +1,5 @@
 -- What may be said of an input.
-use Rattle.std.specs.Prelude.{◌≡◌, ℕ, ◌+◌, List, [], Option, Some, None, Bool, true, false, Result, Ok, Err, length, string_bytes}
+use Rattle.std.specs.Prelude.{◌≡◌, ◌≢◌, ℕ, ◌+◌, List, [], Option, Some, None, Bool, true, false, Result, Ok, Err, length, string_bytes}
 use Rattle.aud_event.specs.declared.fact.Fact.{Fact}
 use Rattle.aud_event.specs.Meanings.{PlanOf}
 use Rattle.aud_history.specs.Histories.{History}
@@ -91,6 +91,10 @@ InputSays A (Ok i) s = FactsSay A i s
 abbrev pub OrderSays : Result (List Decision) TextFault → List ℕ → Said → Type 0
 OrderSays (Err e) input s = s ≡ said.OrderTextRefused e
 OrderSays (Ok order) input s = InputSays (CheckSays order) (input_read input) s
+
+-- a line of the certificate is refused, which begins after so many lines; want of memory is no refusal
+abbrev pub RefusesLine : ℕ → CertTextFault → Said → Type 0
+RefusesLine before e s = (s ≡ said.CertificateLineRefused (before + e.line) e.fault) × (e.fault ≢ text_fault.OutOfMemory)
 
 -- the refusal of the lines before the certificate, else the refusal of the certificate's first wrong line, counted over the
 -- whole input, else what is said of the facts

@@ -79,8 +79,8 @@ fn answer_decide(alloc: Global, with_certificate: bool, shape: &Shape) -> Result
 fn answer_verify(alloc: Global, cert: &Cert, shape: &Shape) -> Result<Said, OutOfMemory>
     ensures { IfOk result (VerifySays cert.now.lines.items shape.now.sealed.facts.plan shape.now.sealed.history) }
 {
-    let _ = shape.plan();
-    let _ = shape.history();
+    let _within = shape.plan();
+    let _sound = shape.history();
     if check_cert(alloc, shape, cert)? {
         Ok(Said::Verdict(Verdict::NotOpaque))
     } else {

@@ -1,8 +1,8 @@
 //! Runs over the lines of an input.
 
-ghost use Rattle.std.specs.Prelude.{◌≡◌, ◌≢◌, ◌⊎◌, ◌+◌, ◌<◌, ◌^◌, Ok, IfOk, length};
+ghost use Rattle.std.specs.Prelude.{◌≡◌, ◌⊎◌, ◌+◌, ◌<◌, ◌^◌, Ok, IfOk, length};
 ghost use Rattle.aud_cert.specs.CertText.{cert_read};
-ghost use Rattle.aud_cli.specs.Line.{CertifiedSays, FactsSay, InputSays, Line, QuestionSays, SetSays};
+ghost use Rattle.aud_cli.specs.Line.{CertifiedSays, FactsSay, InputSays, Line, QuestionSays, RefusesLine, SetSays};
 ghost use Rattle.aud_cli.specs.Inputs.{input_read};
 ghost use Rattle.aud_cli.specs.Outcomes.{IsLine, RunOutcome};
 
@@ -54,7 +54,7 @@ fn judge(alloc: Global, question: Question, text: &[u8]) -> Result<Said, OutOfMe
 /// What is said where a line of the certificate is refused, which begins after so many lines.
 fn refuse_line(lines: usize, refused: CertTextFault) -> Result<Said, OutOfMemory>
     requires { (refused.fault ≡ TextFault.OutOfMemory) ⊎ (lines + refused.line < 2 ^ 64) }
-    ensures { IfOk result (λ s. (s ≡ Said.CertificateLineRefused (lines + refused.line) refused.fault) × (refused.fault ≢ TextFault.OutOfMemory)) }
+    ensures { IfOk result (RefusesLine lines refused) }
 {
     match refused.fault {
         TextFault::OutOfMemory => Err(OutOfMemory),

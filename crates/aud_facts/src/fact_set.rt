@@ -130,9 +130,11 @@ impl<A: Allocator + Copy> Facts<A> {
     /// Puts the fact in. One that is there already needs no allocation. A sealed set that gains a new fact is in conflict.
     pub fn insert(&mut self, fact: &Fact) -> Result<(), OutOfMemory>
         requires { first_fact_fault self.old.plan fact.now ≡ None }
-        ensures ok { OnOk result (self.new ≡ record { plan = self.old.plan; facts = with_item fact_ord.ghosts.cmp fact.now self.old.facts }) }
+        ensures ok { OnOk result (self.new ≡
+            record { plan = self.old.plan; facts = with_item fact_ord.ghosts.cmp fact.now self.old.facts }) }
         ensures err { OnErr result (self.new ≡ self.old) }
-        ensures grows { AreSealed self.old → has fact_ord.ghosts.cmp self.old.facts fact.now ≡ false → OnOk result (AreInConflict self.new) }
+        ensures grows { AreSealed self.old → has fact_ord.ghosts.cmp self.old.facts fact.now ≡ false →
+            OnOk result (AreInConflict self.new) }
     {
         let _ordered = self.set.iter();
         self.set.insert(*fact)?;

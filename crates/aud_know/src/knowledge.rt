@@ -45,9 +45,13 @@ impl<A: Allocator + Copy> Model for Knowledge<A> {
 
     ghost Value = { KnowledgeOf };
 
-    ghost view = { λ k. record { plan = k.facts.plan; held = record { facts = k.facts.facts; cover = k.cover.value; witness = linked k.witness } } };
+    ghost view = { λ k. record {
+      plan = k.facts.plan;
+      held = record { facts = k.facts.facts; cover = k.cover.value; witness = linked k.witness };
+    } };
 
-    ghost invariant = { λ k. IsKnowledge k.facts.plan (record { facts = k.facts.facts; cover = k.cover.value; witness = linked k.witness }) };
+    ghost invariant = { λ k. IsKnowledge k.facts.plan
+        (record { facts = k.facts.facts; cover = k.cover.value; witness = linked k.witness }) };
 }
 
 impl<A: Allocator + Copy> Knowledge<A> {

@@ -57,7 +57,7 @@ impl<'a, A: Allocator + Copy> Cursor<'a, A> {
         ensures { IfOk result (λ cursor. cursor ≡ record { shape = shape.entry.now; path = [] }) }
     {
         let placing = Placing::root(alloc, shape.plan(), shape.agenda())?;
-        let _ = shape.history();
+        let _sound = shape.history();
         Ok(Cursor {
             shape,
             placing,
@@ -79,7 +79,7 @@ impl<'a, A: Allocator + Copy> Cursor<'a, A> {
                 return Ok(None);
             }
         }
-        let _ = cursor.prefix();
+        let _good = cursor.prefix();
         Ok(Some(cursor))
     }
 
@@ -93,7 +93,8 @@ impl<'a, A: Allocator + Copy> Cursor<'a, A> {
 
     /// The states of all objects after the blocks with fate C.
     pub fn store(&self) -> &Store<A>
-        ensures { result.now.now ≡ states_after (map opening_of (objects_of self.now.shape)) (kept (history_of self.now.shape) self.now.path) }
+        ensures { result.now.now ≡
+            states_after (map opening_of (objects_of self.now.shape)) (kept (history_of self.now.shape) self.now.path) }
     {
         self.placing.store()
     }

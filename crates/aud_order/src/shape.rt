@@ -68,7 +68,7 @@ impl<A: Allocator + Copy> Shape<A> {
         ensures sound { IsWithinLimits (plan_of self.now) (history_of self.now) }
     {
         let history = self.history();
-        let _ = history.events();
+        let _within = history.events();
         history.plan()
     }
 
@@ -84,7 +84,7 @@ impl<A: Allocator + Copy> Shape<A> {
     pub fn silent(&self, tx: u32) -> Option<Fate>
         ensures { result ≡ silent_fate (history_of self.now) tx }
     {
-        let _ = self.history();
+        let _sound = self.history();
         let table = self.table();
         match table.place(tx) {
             Some(place) => silent_of(&table.rows()[place]),

@@ -61,7 +61,8 @@ impl<T> Outcome<Option<T>, Tally<T>> for Takes {
 pub struct Drains;
 
 impl<T> Outcome<Option<T>, Tally<T>> for Drains {
-    ghost then = { λ v xs w. (w ≡ after_take v xs) × (v.stopped ≡ true → tasks_in xs ≡ []) × (v.parts ≡ 1024 → length w.taken ≤ length v.put) };
+    ghost then = { λ v xs w. (w ≡ after_take v xs)
+        × (v.stopped ≡ true → tasks_in xs ≡ []) × (v.parts ≡ 1024 → length w.taken ≤ length v.put) };
 
     ghost empty = { λ v. v.parts ≡ 1024 → IsPermutation v.put v.taken };
 }

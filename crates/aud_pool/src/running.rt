@@ -49,10 +49,12 @@ fn make_room<T: Drop, S: Drop>(
     tasks: usize,
 ) -> Result<Room<T, S>, OutOfMemory>
     ensures fresh { IfOk result (λ r. worker_view r.queue ≡ tally 1024 true [] [] false) }
-    ensures queue { IfOk result (λ r. (worker_flavor r.queue ≡ 0) × (worker_index r.queue ≡ 0) × (tasks + count ≤ worker_capacity r.queue)) }
+    ensures queue { IfOk result (λ r. (worker_flavor r.queue ≡ 0) × (worker_index r.queue ≡ 0)
+        × (tasks + count ≤ worker_capacity r.queue)) }
     ensures taker { IfOk result (λ r. stealer_deque r.taker ≡ worker_deque r.queue) }
     ensures lists { IfOk result (λ r. (r.members.items ≡ []) × (r.workers.items ≡ []) × (r.left.items ≡ [])) }
-    ensures room { IfOk result (λ r. (count ≤ vec_capacity r.members) × (count ≤ vec_capacity r.workers) × (tasks ≤ vec_capacity r.left)) }
+    ensures room { IfOk result (λ r. (count ≤ vec_capacity r.members) × (count ≤ vec_capacity r.workers)
+        × (tasks ≤ vec_capacity r.left)) }
 {
     let Some(size) = tasks.checked_add(count) else {
         return Err(OutOfMemory);

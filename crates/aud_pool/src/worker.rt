@@ -103,7 +103,8 @@ fn work_all<
     let count = members.len();
     let each = |i: usize, member: &mut Member<T, S>|
         requires { (i < 1024) × IsStarting (stealer_deque taker.now) (W.may_work work.now) member.now }
-        ensures { IsDone (stealer_deque taker.entry.now) (W.done work.entry.now) member.exit.now × W.grows work.entry.now member.entry.now.seat member.exit.now.seat }
+        ensures { IsDone (stealer_deque taker.entry.now) (W.done work.entry.now) member.exit.now
+            × W.grows work.entry.now member.entry.now.seat member.exit.now.seat }
     { work_through(rt, taker, work, gate, i as u32, member) };
     thread::for_each_mut(rt, members, count, &each);
 }

@@ -80,7 +80,8 @@ pub fn run_pool<
     gate: &G,
 ) -> Result<PoolEnd<J>, (Vec<Pass<J>>, PoolFault)>
     ensures all { IfOk result (λ e. IsPermutation tasks.items (map (λ d. d.1) e.drawn.items ++ e.left.items)) }
-    ensures left { IfOk result (λ e. (e.left.items ≡ []) ⊎ ((w : ℕ) → w < vec_len e.passes → faulted w e.faults.items ≡ true)) }
+    ensures left { IfOk result (λ e. (e.left.items ≡ [])
+        ⊎ ((w : ℕ) → w < vec_len e.passes → faulted w e.faults.items ≡ true)) }
     ensures passes { IfOk result (λ e. HaveSearched shape.value passes.items e.passes.items) }
     ensures settled { IfOk result (λ e. AreSettled shape.value budget e.passes.items e.faults.items e.drawn.items) }
     ensures workers { IfOk result (λ e. All (λ d. d.0 < vec_len e.passes) e.drawn.items) }

@@ -97,7 +97,8 @@ fn object_in<'v>(value: &'v Value, kind: Option<ObjKind>) -> Option<ObjectLine<'
 }
 
 fn judge_object(value: &Value) -> Result<ObjectLine<'_>, TextFault>
-    ensures { MatchResult result (λ o. object_judged (view value.now) ≡ Ok (declared o)) (λ e. object_judged (view value.now) ≡ Err e) }
+    ensures { MatchResult result (λ o. object_judged (view value.now) ≡ Ok (declared o))
+        (λ e. object_judged (view value.now) ≡ Err e) }
 {
     let Some(members) = value.as_object() else {
         return Err(TextFault::NotObject);

@@ -41,9 +41,16 @@ impl<'a, A: Allocator + Copy> Model for Placing<'a, A> {
 
     ghost Value = { PlacingOf };
 
-    ghost view = { λ p. record { agenda = p.agenda.now; spot = record { placed = p.placed; states = p.store.now }; path = p.path.items; past = spots_before p.placed p.store.now p.store.past (reverse p.steps.items) } };
+    ghost view = { λ p. record {
+      agenda = p.agenda.now;
+      spot = record { placed = p.placed; states = p.store.now };
+      path = p.path.items;
+      past = spots_before p.placed p.store.now p.store.past (reverse p.steps.items);
+    } };
 
-    ghost invariant = { λ p. (length p.placed ≡ length p.agenda.now.rows) × (length p.path.items ≡ length p.steps.items) × CanGoBack p.agenda.now.ends p.placed p.store.past p.earliest (reverse p.steps.items) };
+    ghost invariant = { λ p. (length p.placed ≡ length p.agenda.now.rows)
+        × (length p.path.items ≡ length p.steps.items)
+        × CanGoBack p.agenda.now.ends p.placed p.store.past p.earliest (reverse p.steps.items) };
 }
 
 /// How many of the ends are placed from the first one on, where the first `from` are.
@@ -210,7 +217,9 @@ impl<'a, A: Allocator + Copy> Placing<'a, A> {
     ) -> Result<Result<(), OrderFault>, OutOfMemory>
         requires inside { place < length self.old.spot.placed }
         requires fresh { slice_index_or self.old.spot.placed place false ≡ false }
-        ensures placed { IfOk result (λ r. MatchResult r (λ _. Advances self.old decision self.new (block_stepped self.old.spot decision place row.now)) (λ fault. (block_stepped self.old.spot decision place row.now ≡ Err fault) × (self.new ≡ self.old))) }
+        ensures placed { IfOk result (λ r. MatchResult r
+            (λ _. Advances self.old decision self.new (block_stepped self.old.spot decision place row.now))
+            (λ fault. (block_stepped self.old.spot decision place row.now ≡ Err fault) × (self.new ≡ self.old))) }
         ensures refused { OnErr result (self.new ≡ self.old) }
     {
         self.steps.reserve(1)?;
@@ -234,7 +243,9 @@ impl<'a, A: Allocator + Copy> Placing<'a, A> {
     /// the history, is placed already, cannot have the fate, comes before one that ended before it began, or got an
     /// answer that it cannot get here. A refusal leaves the placing as it was.
     pub fn place(&mut self, decision: Decision) -> Result<Result<(), OrderFault>, OutOfMemory>
-        ensures placed { IfOk result (λ r. MatchResult r (λ _. Advances self.old decision self.new (stepped self.old.agenda.rows self.old.spot decision)) (λ fault. (stepped self.old.agenda.rows self.old.spot decision ≡ Err fault) × (self.new ≡ self.old))) }
+        ensures placed { IfOk result (λ r. MatchResult r
+            (λ _. Advances self.old decision self.new (stepped self.old.agenda.rows self.old.spot decision))
+            (λ fault. (stepped self.old.agenda.rows self.old.spot decision ≡ Err fault) × (self.new ≡ self.old))) }
         ensures refused { OnErr result (self.new ≡ self.old) }
     {
         let agenda = self.agenda;

@@ -66,7 +66,8 @@ fn feed<A: Allocator + Copy>(
     requires { number < length nodes.old.items }
     ensures gains { OnOk result (Gains number (norms.fact item.now ∷ []) nodes.old.items nodes.new.items) }
     ensures plans { map (λ k. k.plan) nodes.new.items ≡ map (λ k. k.plan) nodes.old.items }
-    ensures fault { (plan : PlanOf) → AreOfPlan plan nodes.old.items → TellsWhetherTaken (first_fact_fault plan item.now ≡ None) result }
+    ensures fault { (plan : PlanOf) → AreOfPlan plan nodes.old.items →
+        TellsWhetherTaken (first_fact_fault plan item.now ≡ None) result }
     ensures err { OnErr result (nodes.new.items ≡ nodes.old.items) }
 {
     nodes[number].take_fact(item)?;

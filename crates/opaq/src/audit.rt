@@ -22,7 +22,8 @@ pub fn run_audit_job<R: Read, W: Write, T: Threads + Wait + Sync>(
     writer: &mut W,
 ) -> Ended
     requires { IsAuditJob job.now }
-    ensures { WhereKnown (R.remaining reader.old) (λ input. HasAudited job.now input (W.contents writer.old) (W.contents writer.new) result) }
+    ensures { WhereKnown (R.remaining reader.old)
+        (λ input. HasAudited job.now input (W.contents writer.old) (W.contents writer.new) result) }
 {
     let mut bytes = Vec::new(alloc);
     if let Err(error) = reader.read_to_end(&mut bytes) {
