@@ -6,7 +6,7 @@ use aud_cli::Cause;
 use aud_event::OutOfMemory;
 
 /// Why an audit is not carried out.
-#[derive(Clone, Copy, Debug, PartialEq, Eq)]
+#[derive(Clone, Copy, PartialEq, Eq)]
 pub(crate) enum AuditFault {
     OutOfMemory,
     /// A reader's place at a node was not to be had.

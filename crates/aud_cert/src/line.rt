@@ -21,7 +21,7 @@ pub const CERT_LINE_MAX: usize = 65_536;
 type OrderText = Option<Result<Prefix, TextFault>>;
 
 /// The order texts of a line.
-#[derive(Debug, Drop)]
+#[derive(Drop)]
 struct OrderTexts {
     prefix: OrderText,
     decision: OrderText,

@@ -8,7 +8,7 @@ use aud_text::word_of;
 use serde_json::Value;
 
 /// The words of `by`.
-#[derive(Clone, Copy, Debug, PartialEq, Eq)]
+#[derive(Clone, Copy, PartialEq, Eq)]
 pub(crate) enum Reason {
     Kids,
     Silent,

@@ -8,7 +8,7 @@ use aud_text::{LINE_MAX, TextFault, first_line, has_required, json_in};
 use std::alloc::Global;
 
 /// An input that has a certificate: what stands before it, in how many lines, and from where it begins.
-#[derive(Clone, Copy, Debug)]
+#[derive(Clone, Copy)]
 pub(crate) struct CertifiedText<'a> {
     pub before: &'a [u8],
     pub lines: usize,

@@ -1,7 +1,7 @@
 //! What an operation changed of a state.
 
 /// What has to be known to take a change back.
-#[derive(Clone, Copy, Debug, PartialEq, Eq)]
+#[derive(Clone, Copy, PartialEq, Eq)]
 pub(crate) enum Change {
     /// A register or a counter had this value.
     Value(i64),

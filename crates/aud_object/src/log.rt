@@ -2,7 +2,7 @@
 
 use crate::change::Change;
 
-#[derive(Clone, Copy, Debug, PartialEq, Eq)]
+#[derive(Clone, Copy, PartialEq, Eq)]
 pub(crate) enum Entry {
     /// Here a block began.
     Mark,

@@ -12,7 +12,7 @@ use aud_witness::{Decision, Fate, allows};
 use std::alloc::Allocator;
 
 /// What others see of a transaction with a fate.
-#[derive(Clone, Copy, Debug, PartialEq, Eq, PartialOrd, Ord)]
+#[derive(Clone, Copy, PartialEq, Eq, PartialOrd, Ord)]
 pub(crate) enum Effect {
     /// Nothing, whatever its fate: it may be placed at once wherever it is good.
     Silent,
@@ -26,7 +26,7 @@ pub(crate) enum Effect {
 ///
 /// Choices are ordered as a search tries them: first those of silent transactions, then those that abort, then by when the
 /// transaction did its last event, as most memories let their transactions take effect about when they end.
-#[derive(Clone, Copy, Debug, PartialEq, Eq, PartialOrd, Ord)]
+#[derive(Clone, Copy, PartialEq, Eq, PartialOrd, Ord)]
 pub(crate) struct Choice {
     pub effect: Effect,
     pub last: u32,

@@ -8,7 +8,7 @@ use aud_object::{Block, Store};
 use std::alloc::{Allocator, Global};
 
 /// What an object adds to the digest of all, and whether a block touched it since.
-#[derive(Clone, Copy, Debug)]
+#[derive(Clone, Copy)]
 struct Share {
     digest: u64,
     is_touched: bool,

@@ -7,14 +7,14 @@ use aud_event::OutOfMemory;
 use std::alloc::{Allocator, Global};
 
 /// The upper half of a hash and a place, counted from 1; the place 0 says that the slot is free.
-#[derive(Clone, Copy, Debug)]
+#[derive(Clone, Copy)]
 struct Slot {
     hash: u32,
     place: u32,
 }
 
 /// What stands in a slot.
-#[derive(Clone, Copy, Debug, PartialEq, Eq)]
+#[derive(Clone, Copy, PartialEq, Eq)]
 pub(crate) enum Look {
     /// Nothing, nor in the slots after it.
     Free,

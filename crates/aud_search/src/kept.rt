@@ -23,14 +23,14 @@ pub(crate) enum Kept<A: Allocator = Global> {
 }
 
 /// From the states under a number by the block of a transaction.
-#[derive(Clone, Copy, Debug, PartialEq, Eq)]
+#[derive(Clone, Copy, PartialEq, Eq)]
 pub(crate) struct Step {
     pub from: usize,
     pub tx: u32,
 }
 
 /// How many blocks run, and how many operations are in them.
-#[derive(Clone, Copy, Debug, PartialEq, Eq)]
+#[derive(Clone, Copy, PartialEq, Eq)]
 pub(crate) struct Cost {
     pub blocks: usize,
     pub operations: usize,

@@ -26,7 +26,7 @@ use std::alloc::{Allocator, Global};
 use std::marker::Model;
 
 /// The block of the transaction leads from the states of one number to those of another.
-#[derive(Clone, Copy, Debug, PartialEq, Eq)]
+#[derive(Clone, Copy, PartialEq, Eq)]
 pub(crate) struct Lead {
     pub from: usize,
     pub tx: u32,
@@ -34,7 +34,7 @@ pub(crate) struct Lead {
 }
 
 /// Why a list is refuted.
-#[derive(Clone, Copy, Debug)]
+#[derive(Clone, Copy)]
 pub(crate) enum Reason<N> {
     /// It is not full, and each good list that is one decision longer was noted.
     Kids,

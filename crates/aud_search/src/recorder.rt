@@ -52,7 +52,7 @@ pub trait Recorder<N>: Drop {
 }
 
 /// What names a list where none is noted.
-#[derive(Clone, Copy, Debug)]
+#[derive(Clone, Copy)]
 pub(crate) struct Unnoted;
 
 /// Notes nothing.

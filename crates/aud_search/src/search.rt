@@ -195,7 +195,7 @@ fn reason_of<N>(silent: Option<Decision>) -> Reason<N>
 
 /// Which choice after a list is tried next, the number of the states there, if they have one, and the choice of a silent
 /// transaction that was followed, if one was.
-#[derive(Clone, Copy, Debug, PartialEq, Eq)]
+#[derive(Clone, Copy, PartialEq, Eq)]
 struct Turn {
     next: usize,
     states: Option<usize>,

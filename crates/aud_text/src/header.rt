@@ -14,7 +14,7 @@ use serde_json::Value;
 use std::alloc::Global;
 
 /// How many logs a plan has, and how many lines of objects follow.
-#[derive(Clone, Copy, Debug, PartialEq, Eq)]
+#[derive(Clone, Copy, PartialEq, Eq)]
 pub(crate) struct Header {
     pub logs: u32,
     pub objects: u32,

@@ -18,7 +18,7 @@ static CLOSED_KEYS: [&str; 2] = ["kind", "name"];
 static OPEN_KEYS: [&str; 3] = ["kind", "name", "open"];
 
 /// What an object line says, with its name in the line's value.
-#[derive(Clone, Copy, Debug)]
+#[derive(Clone, Copy)]
 struct ObjectLine<'v> {
     name: &'v str,
     kind: ObjKind,

@@ -16,7 +16,7 @@ use std::alloc::Allocator;
 pub const ORDER_MAX: usize = 32_768;
 
 /// A word, and what stands after the space at its end, if one stands there.
-#[derive(Clone, Copy, Debug)]
+#[derive(Clone, Copy)]
 struct WordAt<'a> {
     word: &'a [u8],
     rest: Option<&'a [u8]>,

@@ -9,7 +9,7 @@ use aud_event::OpName;
 use serde_json::Value;
 
 /// What kind of line it is, as far as its keys hang on that.
-#[derive(Clone, Copy, Debug, PartialEq, Eq)]
+#[derive(Clone, Copy, PartialEq, Eq)]
 pub(crate) enum Shape {
     EndMark,
     /// An invocation, of an operation where `op` has the word of one.

@@ -8,7 +8,7 @@ use aud_event::limits::TRANSACTIONS;
 use aud_witness::{Decision, Fate};
 
 /// What a word of an order text says.
-#[derive(Clone, Copy, Debug, PartialEq, Eq)]
+#[derive(Clone, Copy, PartialEq, Eq)]
 pub(crate) enum WordRead {
     Decided(Decision),
     TooGreat,

@@ -2,7 +2,7 @@
 
 /// What a placed decision changed: the row placed, whether its block stays replayed, and how many of the earliest ends
 /// were placed before it.
-#[derive(Clone, Copy, Debug, PartialEq, Eq)]
+#[derive(Clone, Copy, PartialEq, Eq)]
 pub(crate) struct Step {
     pub row: usize,
     pub is_kept: bool,
