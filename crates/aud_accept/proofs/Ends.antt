@@ -42,8 +42,8 @@ ends-by {X} lines line some last = (
     whole : map prefix_in lines ≡ map prefix_in (take (length lines - 1) lines) ++ prefix_in line ∷ []
     whole = ap (λ (l : List (CertLine X)). map prefix_in l) parts ∙ map-append prefix_in (take (length lines - 1) lines) (line ∷ [])
 
-pub empty-told : (p : List Decision) (b : Bool) → b ≡ nat_eq (length p) 0 → IsTrue b ↔ (p ≡ [])
-empty-told p b is = (
+pub empty-reported : (p : List Decision) (b : Bool) → b ≡ nat_eq (length p) 0 → IsTrue b ↔ (p ≡ [])
+empty-reported p b is = (
   (λ holds. nil_from_length p (eqb-true (length p) 0 (sym is ∙ holds))),
   λ none. is ∙ eq-eqb (length p) 0 (ap length none),
 )

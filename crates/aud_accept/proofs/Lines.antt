@@ -21,24 +21,24 @@ use Rattle.aud_accept.proofs.Ends.{first-more, here-in}
 
 pub all-not : (seen : List (List Decision)) (p ks : List Decision) (n : ℕ) (next : List Decision) (b : Bool) → n < length ks → next ≡ p ++ get_or ks n no_decision ∷ [] →
     (IsTrue b ↔ Contains seen next) → b ≡ false → IsTrue false ↔ HasLines seen p ks
-all-not seen p ks n next b inside is told fails = (
+all-not seen p ks n next b inside is reported fails = (
   (λ e. absurd (cc)),
-  λ all. let clash : b ≡ true = told.1 (subst (λ (l : List Decision). Contains seen l) (sym is) (all (get_or ks n no_decision) (here-in ks n inside))) in absurd (cc),
+  λ all. let clash : b ≡ true = reported.1 (subst (λ (l : List Decision). Contains seen l) (sym is) (all (get_or ks n no_decision) (here-in ks n inside))) in absurd (cc),
 )
 
 pub all-more : (seen : List (List Decision)) (p ks : List Decision) (n : ℕ) (next : List Decision) (b : Bool) → n < length ks → next ≡ p ++ get_or ks n no_decision ∷ [] →
     (IsTrue b ↔ Contains seen next) → b ≡ true → HasLines seen p (take n ks) → HasLines seen p (take (n + 1) ks)
-all-more seen p ks n next b inside is told holds before =
-    first-more (λ d. Contains seen (p ++ d ∷ [])) ks n inside before (subst (λ (l : List Decision). Contains seen l) is (told.0 holds))
+all-more seen p ks n next b inside is reported holds before =
+    first-more (λ d. Contains seen (p ++ d ∷ [])) ks n inside before (subst (λ (l : List Decision). Contains seen l) is (reported.0 holds))
 
-pub kids-told : (objects : List Declared) (h : History) (seen : List (List Decision)) (path p kids ks : List Decision) (full has : Bool) → path ≡ p →
+pub kids-reported : (objects : List Declared) (h : History) (seen : List (List Decision)) (path p kids ks : List Decision) (full has : Bool) → path ≡ p →
     (IsTrue full ↔ IsFull h path) → full ≡ false → AreKids objects h path kids → ks ≡ kids → (IsTrue has ↔ HasLines seen p ks) → IsTrue has ↔ HasKids objects h seen p
-kids-told objects h seen path p kids ks full has here is_full unfull are same told = (
+kids-reported objects h seen path p kids ks full has here is_full unfull are same reported = (
   (λ holds. record {
     unfull = λ whole. let clash : full ≡ true = is_full.1 (subst (λ l. IsFull h l) (sym here) whole) in absurd (cc);
-    kids = λ d next. told.0 holds d (subst (λ (l : List Decision). Contains l d) (sym same) ((are.each d).1 (subst (λ l. IsGoodNext objects h l d) (sym here) next)));
+    kids = λ d next. reported.0 holds d (subst (λ (l : List Decision). Contains l d) (sym same) ((are.each d).1 (subst (λ l. IsGoodNext objects h l d) (sym here) next)));
   }),
-  λ holds. told.1 (λ d member. holds.kids d (subst (λ l. IsGoodNext objects h l d) here ((are.each d).0 (subst (λ (l : List Decision). Contains l d) same member)))),
+  λ holds. reported.1 (λ d member. holds.kids d (subst (λ l. IsGoodNext objects h l d) here ((are.each d).0 (subst (λ (l : List Decision). Contains l d) same member)))),
 )
 
 -- # Other lists
@@ -46,12 +46,12 @@ kids-told objects h seen path p kids ks full has here is_full unfull are same to
 pub not-placed : (shape other : ShapeOf) (seen : List (List Decision)) (path p q : List Decision) (b : Bool) → other ≡ shape →
     ((l : List Decision) → Contains seen l → IsGood (objects_of shape) (history_of shape) l) → q ≡ p → (IsTrue b ↔ IsGood (objects_of other) (history_of other) q) → b ≡ false →
     IsTrue false ↔ HasSame (objects_of shape) (history_of shape) seen path p
-not-placed shape other seen path p q b same goods is told fails = (
+not-placed shape other seen path p q b same goods is reported fails = (
   (λ e. absurd (cc)),
   λ has.
       let good : IsGood (objects_of other) (history_of other) q =
       subst (λ (s : ShapeOf). IsGood (objects_of s) (history_of s) q) (sym same) (subst (IsGood (objects_of shape) (history_of shape)) (sym is) (goods p has.line)) in
-      let clash : b ≡ true = told.1 good in absurd (cc),
+      let clash : b ≡ true = reported.1 good in absurd (cc),
 )
 
 pub good-at : (shape other : ShapeOf) (p : List Decision) → other ≡ shape → IsGood (objects_of shape) (history_of shape) p → IsGood (objects_of other) (history_of other) p
@@ -71,14 +71,14 @@ module _ {X : Type 0} (objects : List Declared) (h : History) where
   -- so many lines were accepted, and their prefixes seen
   pub record Passed (lines : List (CertLine X)) (count : ℕ) (seen : List (List Decision)) : Type 0 where
     pub earlier : List (List Decision)
-    pub tells : (p : List Decision) → Contains seen p ↔ Contains earlier p
+    pub reports : (p : List Decision) → Contains seen p ↔ Contains earlier p
     pub good : (p : List Decision) → Contains seen p → IsGood objects h p
     pub rest : AreAccepted objects h [] lines ↔ AreAccepted objects h earlier (drop count lines)
 
   pub passed-none : (lines : List (CertLine X)) (seen : List (List Decision)) → seen ≡ [] → Passed lines 0 seen
   passed-none lines seen none = record {
     earlier = [];
-    tells = λ p. ((λ there. subst (λ l. Contains l p) none there), λ there. subst (λ l. Contains l p) (sym none) there);
+    reports = λ p. ((λ there. subst (λ l. Contains l p) none there), λ there. subst (λ l. Contains l p) (sym none) there);
     good = λ p there. let (k, inside, is) = subst (λ l. Contains l p) none there in absurd (omega arith);
     rest = ((λ all. all), λ all. all);
   }
@@ -87,13 +87,13 @@ module _ {X : Type 0} (objects : List Declared) (h : History) where
       IsAcceptedLine objects h seen line → ((p : List Decision) → Contains new p ↔ (Contains seen p ⊎ (p ≡ prefix_in line))) → Passed lines (count + 1) new
   passed-more lines count line seen new was inside here accepted grown = record {
     earlier = was.earlier ++ prefix_in line ∷ [];
-    tells = λ p. (
+    reports = λ p. (
       (λ there. elim ((grown p).0 there) [
-        | inl old ↦ Contains-append_left was.earlier (prefix_in line ∷ []) p ((was.tells p).0 old)
+        | inl old ↦ Contains-append_left was.earlier (prefix_in line ∷ []) p ((was.reports p).0 old)
         | inr same ↦ subst (λ (l : List Decision). Contains (was.earlier ++ prefix_in line ∷ []) l) (sym same) (Contains-push was.earlier (prefix_in line))
       ]),
       λ there. elim (Contains-push_cases was.earlier (prefix_in line) p there) [
-        | inl old ↦ (grown p).1 (inl ((was.tells p).1 old))
+        | inl old ↦ (grown p).1 (inl ((was.reports p).1 old))
         | inr same ↦ (grown p).1 (inr (sym same))
       ],
     );
@@ -103,7 +103,7 @@ module _ {X : Type 0} (objects : List Declared) (h : History) where
     ];
     rest = (
       (λ all. (subst (AreAccepted objects h was.earlier) left (was.rest.0 all)).1),
-      λ more. was.rest.1 (subst (AreAccepted objects h was.earlier) (sym left) (line-moved seen was.earlier line (λ p there. (was.tells p).0 there) accepted, more)),
+      λ more. was.rest.1 (subst (AreAccepted objects h was.earlier) (sym left) (line-moved seen was.earlier line (λ p there. (was.reports p).0 there) accepted, more)),
     );
   }
     where
@@ -112,11 +112,11 @@ module _ {X : Type 0} (objects : List Declared) (h : History) where
 
   pub passed-bad : (lines : List (CertLine X)) (count : ℕ) (line : CertLine X) (seen : List (List Decision)) (b : Bool) → Passed lines count seen → count < length lines → line ≡ get_or lines count line →
       (IsTrue b ↔ IsAcceptedLine objects h seen line) → b ≡ false → IsTrue false ↔ IsAccepted objects h lines
-  passed-bad lines count line seen b was inside here told fails = (
+  passed-bad lines count line seen b was inside here reported fails = (
     (λ e. absurd (cc)),
     λ accepted.
         let both = subst (AreAccepted objects h was.earlier) left (was.rest.0 accepted.each) in
-        let clash : b ≡ true = told.1 (line-moved was.earlier seen line (λ p there. (was.tells p).1 there) both.0) in absurd (cc),
+        let clash : b ≡ true = reported.1 (line-moved was.earlier seen line (λ p there. (was.reports p).1 there) both.0) in absurd (cc),
   )
     where
       left : drop count lines ≡ line ∷ drop (count + 1) lines

@@ -74,8 +74,8 @@ module _ (kept : KnownIsKept) (s : ShapeOf) (budget : ℕ) (t : List Decision) w
 -- # Lists
 
 pub none_of : {T : Type 0} (b : Bool) (n : ℕ) (xs : List T) → b ≡ (n == 0) → n ≡ length xs → b ≡ true → xs ≡ []
-none_of b n [] told long is = refl
-none_of b n (x ∷ xs) told long is = let none : n ≡ 0 = nat_eq-is n 0 (sym told ∙ is) in absurd (omega (arith, none, long))
+none_of b n [] reported long is = refl
+none_of b n (x ∷ xs) reported long is = let none : n ≡ 0 = nat_eq-is n 0 (sym reported ∙ is) in absurd (omega (arith, none, long))
 
 -- # One crew more
 

@@ -9,7 +9,7 @@ use Rattle.aud_event.specs.declared.fact.FactFault.{FactFault}
 use Rattle.aud_text.specs.declared.fault.TextFault.{TextFault}
 use Rattle.aud_text.specs.Json.{json_read, has_all, has_only}
 use Rattle.aud_text.specs.FactText.{fact_read, judged_json, judged_members, fact_or_word, fact_of, checked, shape_of, required, allowed, types_fit}
-use Rattle.aud_cli.specs.Inputs.{told_at, fact_at}
+use Rattle.aud_cli.specs.Inputs.{reported_at, fact_at}
 
 module _ (plan : PlanOf) (g : Fact) where
   by_check : (f : Fact) (o : Option FactFault) → first_fact_fault plan f ≡ o → checked f o ≡ Ok g → first_fact_fault plan g ≡ None
@@ -33,9 +33,9 @@ module _ (plan : PlanOf) (g : Fact) where
   by_json (Err x) e = absurd (cc)
   by_json (Ok d) e = by_members d (as_object d) e
 
-  told : (n : ℕ) (r : Result Fact TextFault) → told_at n r ≡ Ok g → r ≡ Ok g
-  told n (Err x) e = absurd (cc)
-  told n (Ok f) e = cc
+  reported : (n : ℕ) (r : Result Fact TextFault) → reported_at n r ≡ Ok g → r ≡ Ok g
+  reported n (Err x) e = absurd (cc)
+  reported n (Ok f) e = cc
 
   pub read_passes : (n : ℕ) (line : List ℕ) → fact_at plan n line ≡ Ok g → first_fact_fault plan g ≡ None
-  read_passes n line e = by_json (json_read 4096 line) (told n (fact_read plan line) e)
+  read_passes n line e = by_json (json_read 4096 line) (reported n (fact_read plan line) e)

@@ -19,12 +19,12 @@ abbrev pub lines_after : ℕ → List ℕ → List Filled
 lines_after used text = filter (λ l. nat_lt used l.ends) (filled_lines text)
 
 -- what a line says, with the number of the line where it is refused
-abbrev pub told_at : ℕ → Result Fact TextFault → Result Fact InputFault
-told_at n (Err e) = Err (Record n e)
-told_at n (Ok f) = Ok f
+abbrev pub reported_at : ℕ → Result Fact TextFault → Result Fact InputFault
+reported_at n (Err e) = Err (Record n e)
+reported_at n (Ok f) = Ok f
 
 abbrev pub fact_at : PlanOf → ℕ → List ℕ → Result Fact InputFault
-fact_at plan n line = told_at n (fact_read plan line)
+fact_at plan n line = reported_at n (fact_read plan line)
 
 -- a line's fact before those of the later lines; of two refused lines the earlier is reported
 abbrev pub with_fact : Result Fact InputFault → Result (List Fact) InputFault → Result (List Fact) InputFault

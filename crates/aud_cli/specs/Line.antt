@@ -9,7 +9,7 @@ use Rattle.aud_witness.specs.OrderFaults.{first_order_fault}
 use Rattle.aud_facts.specs.Status.{hist}
 use Rattle.aud_event.specs.contracts.fact.FactOrd.TheImpl as fact_ord
 use Rattle.aud_lattice.specs.Sets.{inserted}
-use Rattle.aud_know.specs.Verdicts.{FactsTell}
+use Rattle.aud_know.specs.Verdicts.{FactsReport}
 use Rattle.aud_know.specs.declared.verdict.Verdict.TheVariants as verdict
 use Rattle.aud_search.specs.Searches.{SpentBy}
 use Rattle.aud_text.specs.Orders.{order_read}
@@ -74,7 +74,7 @@ QuestionSays (question.Accepts cert) = VerifySays cert.lines.items
 -- of a set of facts: the status, if they are not sealed, ill-formedness, if their history is not well-formed, else the
 -- answer
 abbrev pub SetSays : Answers → PlanOf → List Fact → Said → Type 0
-SetSays A plan facts s = FactsTell said.Verdict plan.logs facts (A plan (hist facts)) s
+SetSays A plan facts s = FactsReport said.Verdict plan.logs facts (A plan (hist facts)) s
 
 -- the same of the facts of an input, as a set
 abbrev pub FactsSay : Answers → InputOf → Said → Type 0

@@ -9,7 +9,7 @@ use Rattle.aud_cli.specs.declared.job.AuditJob.{AuditJob}
 use Rattle.aud_cli.specs.declared.job.Command.{Command}
 use Rattle.aud_cli.specs.declared.job.Command.TheVariants.{Lines, Audit}
 use Rattle.aud_cli.specs.declared.job.Usage.{Usage}
-use Rattle.aud_cli.specs.declared.job.Usage.TheVariants.{Told, OutOfMemory}
+use Rattle.aud_cli.specs.declared.job.Usage.TheVariants.{Printed, OutOfMemory}
 
 -- the text is digits, perhaps after a plus, and they say the number, which is at most so great
 abbrev pub IsNumberUpTo : ℕ → Text → ℕ → Type 0
@@ -65,5 +65,5 @@ pub record Asked (words : List Text) (command : Command) : Type 0 where
 
 -- what the user reads
 abbrev pub usage_text : Usage → List ℕ
-usage_text (Told text) = string_bytes text
+usage_text (Printed text) = string_bytes text
 usage_text OutOfMemory = codes "opaq: out of memory\n"

@@ -39,7 +39,7 @@ pub enum Command {
 #[derive(Debug, Drop)]
 pub enum Usage {
     /// What the user reads.
-    Told(String),
+    Printed(String),
     OutOfMemory,
 }
 
@@ -49,7 +49,7 @@ impl Usage {
         ensures { result.now ≡ usage_text self.now }
     {
         match self {
-            Usage::Told(text) => text.as_str(),
+            Usage::Printed(text) => text.as_str(),
             Usage::OutOfMemory => "opaq: out of memory\n",
         }
     }

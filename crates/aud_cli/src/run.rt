@@ -27,7 +27,7 @@ pub fn judge_facts(alloc: Global, question: Question, facts: &Facts) -> Result<S
 {
     match well_formed_history(facts)? {
         Ok(sealed) => question.answer(alloc, sealed),
-        Err(told) => Ok(Said::Verdict(told)),
+        Err(reported) => Ok(Said::Verdict(reported)),
     }
 }
 

@@ -145,9 +145,9 @@ fn command_of(
     }
 }
 
-fn told(alloc: Global, text: &str) -> Usage {
+fn printed(alloc: Global, text: &str) -> Usage {
     match String::from_str(alloc, text) {
-        Ok(text) => Usage::Told(text),
+        Ok(text) => Usage::Printed(text),
         Err(_) => Usage::OutOfMemory,
     }
 }
@@ -160,7 +160,7 @@ fn usage_of(alloc: Global, error: &Error) -> Usage
         return Usage::OutOfMemory;
     }
     match error.to_string(alloc) {
-        Ok(text) => Usage::Told(text),
+        Ok(text) => Usage::Printed(text),
         Err(_) => Usage::OutOfMemory,
     }
 }
@@ -192,11 +192,11 @@ pub fn job_of(alloc: Global, words: &[String]) -> Result<Command, Usage>
         Err(error) => return Err(usage_of(alloc, &error)),
     };
     let Some((name, inner)) = met(&matches) else {
-        return Err(told(alloc, "error: a subcommand is needed\n"));
+        return Err(printed(alloc, "error: a subcommand is needed\n"));
     };
     match command_of(alloc, name, inner) {
         Ok(Some(command)) => Ok(command),
-        Ok(None) => Err(told(alloc, wrong_number(name, inner))),
+        Ok(None) => Err(printed(alloc, wrong_number(name, inner))),
         Err(_) => Err(Usage::OutOfMemory),
     }
 }

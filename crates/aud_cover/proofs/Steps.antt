@@ -50,9 +50,9 @@ module _ (objects : List Declared) (h : History) (cover : List (List Decision)) 
   -- one kid is not closed
   pub at-open_kid : (p : List Decision) (d : Decision) (b : Bool) → IsGood objects h p → (IsCovered cover p → ⊥) × IsInside cover p → IsGoodNext objects h p d →
       (IsTrue b ↔ IsClosed objects h cover (p ++ d ∷ [])) → b ≡ false → IsTrue false ↔ IsClosed objects h cover p
-  at-open_kid p d b good inner next told fails = (
+  at-open_kid p d b good inner next reported fails = (
     (λ e. absurd (cc)),
-    λ closed. let clash : b ≡ true = told.1 ((only_by_kids p good inner.0 closed).1.1 d (IsGood-push objects h p d good next)) in absurd (cc),
+    λ closed. let clash : b ≡ true = reported.1 ((only_by_kids p good inner.0 closed).1.1 d (IsGood-push objects h p d good next)) in absurd (cc),
   )
 
   -- all kids are closed
@@ -66,10 +66,10 @@ module _ (objects : List Declared) (h : History) (cover : List (List Decision)) 
   pub closed-more : (p ks : List Decision) (n : ℕ) (b : Bool) → n < length ks → ((e : Decision) → Contains (take n ks) e → IsClosed objects h cover (p ++ e ∷ [])) →
       (IsTrue b ↔ IsClosed objects h cover (p ++ get_or ks n no_decision ∷ [])) → b ≡ true →
       (e : Decision) → Contains (take (n + 1) ks) e → IsClosed objects h cover (p ++ e ∷ [])
-  closed-more p ks n b inside before told holds e member =
+  closed-more p ks n b inside before reported holds e member =
       elim (Contains-push_cases (take n ks) (get_or ks n no_decision) e (subst (λ (l : List Decision). Contains l e) (take_more ks n no_decision inside) member)) [
         | inl old ↦ before e old
-        | inr same ↦ subst (λ (x : Decision). IsClosed objects h cover (p ++ x ∷ [])) same (told.0 holds)
+        | inr same ↦ subst (λ (x : Decision). IsClosed objects h cover (p ++ x ∷ [])) same (reported.0 holds)
       ]
 
 -- # With a cursor
@@ -106,7 +106,7 @@ cursor-back start old pushed again new d r is grown same root back =
     there = same ∙ grown
 
 -- what is reported of a kid
-pub kid-told : (cover : List (List Decision)) (start cur pushed : CursorOf) (d : Decision) (b : Bool) → cur ≡ start → pushed ≡ cursor_with cur d →
+pub kid-reported : (cover : List (List Decision)) (start cur pushed : CursorOf) (d : Decision) (b : Bool) → cur ≡ start → pushed ≡ cursor_with cur d →
     (IsTrue b ↔ IsClosedAt cover pushed) → IsTrue b ↔ IsClosedAt cover (cursor_with start d)
-kid-told cover start cur pushed d b is grown told =
-    subst (λ (c : CursorOf). IsTrue b ↔ IsClosedAt cover c) (grown ∙ ap (λ (c : CursorOf). cursor_with c d) is) told
+kid-reported cover start cur pushed d b is grown reported =
+    subst (λ (c : CursorOf). IsTrue b ↔ IsClosedAt cover c) (grown ∙ ap (λ (c : CursorOf). cursor_with c d) is) reported

@@ -15,8 +15,8 @@ abbrev pub LeadsTo : {A : Type 0} → List (List Decision) → List Decision →
 LeadsTo cover p node = (q : List Decision) → mark_of decision_cmp cover (p ++ q) ≡ walk_mark decision_cmp node q
 
 -- whether the cursor's list is closed by each cover in which it leads to the node
-abbrev pub TellsClosed : {A : Type 0} → CursorOf → Trie Decision A → Bool → Type 0
-TellsClosed c node closed = (cover : List (List Decision)) → LeadsTo cover c.path node → IsTrue closed ↔ IsClosed (objects_of c.shape) (history_of c.shape) cover c.path
+abbrev pub ReportsClosed : {A : Type 0} → CursorOf → Trie Decision A → Bool → Type 0
+ReportsClosed c node closed = (cover : List (List Decision)) → LeadsTo cover c.path node → IsTrue closed ↔ IsClosed (objects_of c.shape) (history_of c.shape) cover c.path
 
 -- what is open from the cursor's list on is added, for each cover in which it is reached and leads to the node
 abbrev pub AddsOpen : {A : Type 0} → CursorOf → Trie Decision A → List (List Decision) → List (List Decision) → Type 0

@@ -3,7 +3,7 @@
 ghost use Rattle.std.specs.Prelude.{◌≡◌, ◌↔◌, IfOk, OnOk, IsTrue};
 ghost use Rattle.aud_order.specs.Shapes.{objects_of, history_of};
 ghost use Rattle.aud_cover.specs.Closings.{IsClosed};
-ghost use Rattle.aud_cover.specs.Leading.{TellsClosed};
+ghost use Rattle.aud_cover.specs.Leading.{ReportsClosed};
 
 use aud_event::OutOfMemory;
 use aud_lattice::{Cover, Mark, Trie};
@@ -17,7 +17,7 @@ fn closed_here<A: Allocator + Copy>(
     node: &Trie<Decision, A>,
     cursor: &mut Cursor<A>,
 ) -> Result<bool, OutOfMemory>
-    ensures closed { IfOk result (TellsClosed cursor.old node.now) }
+    ensures closed { IfOk result (ReportsClosed cursor.old node.now) }
     ensures back { OnOk result (cursor.new ≡ cursor.old) }
 {
     let _good = cursor.prefix();

@@ -21,7 +21,7 @@ use Rattle.aud_facts.specs.declared.status.FactStatus.{FactStatus}
 use Rattle.aud_facts.specs.Clashes.{Place, conflict, clashes, is_against, is_same, is_place, place_of, least_place, least_with}
 use Rattle.aud_facts.specs.Growth.{IsConflict, SealedIsFull}
 use Rattle.aud_facts.specs.Order.{AreOrdered}
-use Rattle.aud_facts.specs.Status.{fact_status, is_waiting, is_record_of, is_mark_within, count, told}
+use Rattle.aud_facts.specs.Status.{fact_status, is_waiting, is_record_of, is_mark_within, count, reported}
 use Rattle.aud_facts.specs.Scans.{is_past, first_place}
 use Rattle.aud_facts.proofs.Ordered.{ordered, same_self}
 use Rattle.aud_facts.proofs.Conflicts.{any_same, all_map, Strict, Beyond, strict, twins_is, past_is}
@@ -29,24 +29,24 @@ use Rattle.aud_facts.proofs.Sealing.{not_first, IsSealed, sealed_says, none_belo
 use Rattle.aud_event.proofs.Bools.{unnegated, or_right, true_or, or_false}
 
 -- a conflict of some kind is reported
-told_after : (k : Kind) (o : Option Place) (s : FactStatus) → IsConflict s → IsConflict (told k o s)
-told_after k None s c = c
-told_after k (Some p) s c = tt
+reported_after : (k : Kind) (o : Option Place) (s : FactStatus) → IsConflict s → IsConflict (reported k o s)
+reported_after k None s c = c
+reported_after k (Some p) s c = tt
 
-told_here : (k : Kind) (o : Option Place) (s : FactStatus) → (o ≡ None → ⊥) → IsConflict (told k o s)
-told_here k None s c = absurd (c refl)
-told_here k (Some p) s c = tt
+reported_here : (k : Kind) (o : Option Place) (s : FactStatus) → (o ≡ None → ⊥) → IsConflict (reported k o s)
+reported_here k None s c = absurd (c refl)
+reported_here k (Some p) s c = tt
 
 pub in_conflict : (k : Kind) (logs : ℕ) (facts : List Fact) → (conflict k facts ≡ None → ⊥) → IsConflict (fact_status logs facts)
-in_conflict TwoRecords logs facts c = told_here TwoRecords (conflict TwoRecords facts) _ c
-in_conflict StampTwice logs facts c = told_after TwoRecords (conflict TwoRecords facts) _ (told_here StampTwice (conflict StampTwice facts) _ c)
-in_conflict TwoCounts logs facts c = told_after TwoRecords (conflict TwoRecords facts) _ (told_after StampTwice (conflict StampTwice facts) _ (told_here TwoCounts (conflict TwoCounts facts) _ c))
+in_conflict TwoRecords logs facts c = reported_here TwoRecords (conflict TwoRecords facts) _ c
+in_conflict StampTwice logs facts c = reported_after TwoRecords (conflict TwoRecords facts) _ (reported_here StampTwice (conflict StampTwice facts) _ c)
+in_conflict TwoCounts logs facts c = reported_after TwoRecords (conflict TwoRecords facts) _ (reported_after StampTwice (conflict StampTwice facts) _ (reported_here TwoCounts (conflict TwoCounts facts) _ c))
 in_conflict PastCount logs facts c =
-    told_after TwoRecords (conflict TwoRecords facts) _ (told_after StampTwice (conflict StampTwice facts) _ (told_after TwoCounts (conflict TwoCounts facts) _
-    (told_here PastCount (conflict PastCount facts) _ c)))
+    reported_after TwoRecords (conflict TwoRecords facts) _ (reported_after StampTwice (conflict StampTwice facts) _ (reported_after TwoCounts (conflict TwoCounts facts) _
+    (reported_here PastCount (conflict PastCount facts) _ c)))
 in_conflict StampOrder logs facts c =
-    told_after TwoRecords (conflict TwoRecords facts) _ (told_after StampTwice (conflict StampTwice facts) _ (told_after TwoCounts (conflict TwoCounts facts) _
-    (told_after PastCount (conflict PastCount facts) _ (told_here StampOrder (conflict StampOrder facts) _ c))))
+    reported_after TwoRecords (conflict TwoRecords facts) _ (reported_after StampTwice (conflict StampTwice facts) _ (reported_after TwoCounts (conflict TwoCounts facts) _
+    (reported_after PastCount (conflict PastCount facts) _ (reported_here StampOrder (conflict StampOrder facts) _ c))))
 
 least_some : (p : Place) (o : Option Place) → least_with p o ≡ None → ⊥
 least_some p None e = cc
@@ -111,10 +111,10 @@ other_mark e n (End g) h d = counted (nat_eq e.count g.count) refl
     same_log = grind (arith, h)
 
     counted : (b : Bool) → nat_eq e.count g.count ≡ b → (nat_eq e.log g.log && not b) ≡ true
-    counted true c = absurd (told_same (grind (arith, c)))
+    counted true c = absurd (reported_same (grind (arith, c)))
       where
-        told_same : e.count ≡ g.count → ⊥
-        told_same c =
+        reported_same : e.count ≡ g.count → ⊥
+        reported_same c =
             let path : e ≡ g = λ i. record { log = sym same_log i; count = c i } in
             let t : true ≡ false = sym (same_self (End e)) ∙ (ap (λ (k : EndMark). is_same (End e) (End k)) path ∙ d) in
             cc

@@ -26,45 +26,45 @@ use Rattle.aud_facts.proofs.Lists.{missing_beyond}
 use Rattle.aud_facts.proofs.Sealing.{IsSealed, sealed_says, none_below, length-placed, placed_is}
 
 -- a test that reported nothing failed, and what comes after it reported nothing
-untold : (b : Bool) (x : FactFault) (o : Option FactFault) → (if b then Some x else o) ≡ None → (b ≡ false) × (o ≡ None)
-untold true x o e = cc
-untold false x o e = (refl, e)
+unreported : (b : Bool) (x : FactFault) (o : Option FactFault) → (if b then Some x else o) ≡ None → (b ≡ false) × (o ≡ None)
+unreported true x o e = cc
+unreported false x o e = (refl, e)
 
 under : (a b : ℕ) → nat_le b a ≡ false → a < b
 under a b e = grind (arith, e)
 
 record_fits : (plan : PlanOf) (r : Record) → first_fact_fault plan (Rec r) ≡ None → FitsPlan plan (r.tx, r.event)
 record_fits plan r e =
-    let log = untold (nat_le plan.logs r.log) _ _ e in
-    let at = untold (nat_le PLACES r.at) _ _ log.1 in
-    let stamp = untold (nat_le STAMPS r.stamp) _ _ at.1 in
-    let tx = untold (nat_le TRANSACTIONS r.tx) _ _ stamp.1 in
+    let log = unreported (nat_le plan.logs r.log) _ _ e in
+    let at = unreported (nat_le PLACES r.at) _ _ log.1 in
+    let stamp = unreported (nat_le STAMPS r.stamp) _ _ at.1 in
+    let tx = unreported (nat_le TRANSACTIONS r.tx) _ _ stamp.1 in
     (under r.tx TRANSACTIONS tx.0, tx.1)
 
 logs_few : (logs : ℕ) (objects : List Declared) → first_plan_fault logs objects ≡ None → logs ≤ LOGS_MAX
 logs_few logs objects e =
-    let some = told_not (nat_eq logs 0) _ _ e in
-    let few = told_not (nat_lt LOGS_MAX logs) _ _ some in
-    grind (arith, told_false (nat_lt LOGS_MAX logs) _ _ some)
+    let some = reported_not (nat_eq logs 0) _ _ e in
+    let few = reported_not (nat_lt LOGS_MAX logs) _ _ some in
+    grind (arith, reported_false (nat_lt LOGS_MAX logs) _ _ some)
   where
-    told_not : (b : Bool) (x : PlanFault) (o : Option PlanFault) → (if b then Some x else o) ≡ None → o ≡ None
-    told_not true x o e = cc
-    told_not false x o e = e
+    reported_not : (b : Bool) (x : PlanFault) (o : Option PlanFault) → (if b then Some x else o) ≡ None → o ≡ None
+    reported_not true x o e = cc
+    reported_not false x o e = e
 
-    told_false : (b : Bool) (x : PlanFault) (o : Option PlanFault) → (if b then Some x else o) ≡ None → b ≡ false
-    told_false true x o e = cc
-    told_false false x o e = refl
+    reported_false : (b : Bool) (x : PlanFault) (o : Option PlanFault) → (if b then Some x else o) ≡ None → b ≡ false
+    reported_false true x o e = cc
+    reported_false false x o e = refl
 
 fact_within : (plan : PlanOf) (f : Fact) → plan.logs ≤ LOGS_MAX → first_fact_fault plan f ≡ None → IsWithin f
 fact_within plan (Rec r) few e =
-    let log = untold (nat_le plan.logs r.log) _ _ e in
-    let at = untold (nat_le PLACES r.at) _ _ log.1 in
-    let stamp = untold (nat_le STAMPS r.stamp) _ _ at.1 in
+    let log = unreported (nat_le plan.logs r.log) _ _ e in
+    let at = unreported (nat_le PLACES r.at) _ _ log.1 in
+    let stamp = unreported (nat_le STAMPS r.stamp) _ _ at.1 in
     let below = under r.log plan.logs log.0 in
     (omega arith, under r.at PLACES at.0, under r.stamp STAMPS stamp.0)
 fact_within plan (End g) few e =
-    let log = untold (nat_le plan.logs g.log) _ _ e in
-    let count = untold (nat_lt PLACES g.count) _ _ log.1 in
+    let log = unreported (nat_le plan.logs g.log) _ _ e in
+    let count = unreported (nat_lt PLACES g.count) _ _ log.1 in
     let below = under g.log plan.logs log.0 in
     (omega arith, grind (arith, count.0))
 

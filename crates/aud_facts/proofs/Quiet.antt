@@ -54,30 +54,30 @@ no_conflict : (k : Kind) (facts : List Fact) → AreQuiet facts → conflict k f
 no_conflict k facts quiet = no_least (is_against k facts) facts (none_against k facts quiet)
 
 -- what is reported once there is no conflict is none
-not_told : (waits gap : Option ℕ) → IsConflict (or_waiting waits (or_gap gap)) → ⊥
-not_told (Some log) gap c = c
-not_told None (Some stamp) c = c
-not_told None None c = c
+not_reported : (waits gap : Option ℕ) → IsConflict (or_waiting waits (or_gap gap)) → ⊥
+not_reported (Some log) gap c = c
+not_reported None (Some stamp) c = c
+not_reported None None c = c
 
 quiet_status : (logs : ℕ) (facts : List Fact) → AreQuiet facts → fact_status logs facts ≡ or_waiting (least_below (is_waiting facts) logs) (or_gap (least_below (is_missing facts) (count is_record facts)))
 quiet_status logs facts quiet =
     rw (no_conflict TwoRecords facts quiet, no_conflict StampTwice facts quiet, no_conflict TwoCounts facts quiet, no_conflict PastCount facts quiet, no_conflict StampOrder facts quiet) refl
 
 clash_is_conflict : (k : Kind) (logs : ℕ) (facts : List Fact) (f g : Fact) → Contains facts f → Contains facts g → clashes k f g ≡ true → IsConflict (fact_status logs facts)
-clash_is_conflict k logs facts f g there other e = in_conflict k logs facts told_some
+clash_is_conflict k logs facts f g there other e = in_conflict k logs facts reported_some
   where
     against : list_any (is_against k facts) facts ≡ true
     against = one_passes (is_against k facts) facts f there (one_passes (clashes k f) facts g other e)
 
-    told_some : conflict k facts ≡ None → ⊥
-    told_some nothing = true≢false (sym against ∙ none_passes (is_against k facts) facts nothing)
+    reported_some : conflict k facts ≡ None → ⊥
+    reported_some nothing = true≢false (sym against ∙ none_passes (is_against k facts) facts nothing)
 
 pub quiet_is_no_conflict : QuietIsNoConflict
 quiet_is_no_conflict logs facts = (from, to)
   where
     from : AreQuiet facts → IsConflict (fact_status logs facts) → ⊥
     from quiet c =
-        not_told (least_below (is_waiting facts) logs) (least_below (is_missing facts) (count is_record facts))
+        not_reported (least_below (is_waiting facts) logs) (least_below (is_missing facts) (count is_record facts))
         (subst IsConflict (quiet_status logs facts quiet) c)
 
     to : (IsConflict (fact_status logs facts) → ⊥) → AreQuiet facts

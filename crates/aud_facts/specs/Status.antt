@@ -49,9 +49,9 @@ least_below test zero = None
 least_below test (suc n) = option_or (least_below test n) (if test n then Some n else None)
 
 -- a place of a kind is reported before what comes after
-abbrev pub told : Kind → Option Place → FactStatus → FactStatus
-told k None s = s
-told k (Some p) s = Conflict k p.0 p.1
+abbrev pub reported : Kind → Option Place → FactStatus → FactStatus
+reported k None s = s
+reported k (Some p) s = Conflict k p.0 p.1
 
 -- a log that waits is reported before a gap
 abbrev pub or_waiting : Option ℕ → FactStatus → FactStatus
@@ -66,11 +66,11 @@ or_gap (Some stamp) = Gap stamp
 -- the status of facts of a plan of so many logs: the first that holds
 abbrev pub fact_status : ℕ → List Fact → FactStatus
 fact_status logs facts =
-    told TwoRecords (conflict TwoRecords facts)
-    (told StampTwice (conflict StampTwice facts)
-    (told TwoCounts (conflict TwoCounts facts)
-    (told PastCount (conflict PastCount facts)
-    (told StampOrder (conflict StampOrder facts)
+    reported TwoRecords (conflict TwoRecords facts)
+    (reported StampTwice (conflict StampTwice facts)
+    (reported TwoCounts (conflict TwoCounts facts)
+    (reported PastCount (conflict PastCount facts)
+    (reported StampOrder (conflict StampOrder facts)
     (or_waiting (least_below (is_waiting facts) logs)
     (or_gap (least_below (is_missing facts) (count is_record facts))))))))
 

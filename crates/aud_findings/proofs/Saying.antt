@@ -13,7 +13,7 @@ use Rattle.aud_know.specs.Known.{KnowledgeOf}
 use Rattle.aud_know.specs.Laws.{KnowledgeIsNorm}
 use Rattle.aud_know.specs.Norms.{atoms_of}
 use Rattle.aud_know.specs.Truth.{AreRefutedAt, AreShownBy, IsKnowledge}
-use Rattle.aud_know.specs.Verdicts.{IsVerdict, OfWellFormed, StatusTells, status_told}
+use Rattle.aud_know.specs.Verdicts.{IsVerdict, OfWellFormed, StatusReports, status_reported}
 use Rattle.aud_know.specs.declared.verdict.Verdict.{Verdict}
 use Rattle.aud_know.specs.declared.verdict.Verdict.TheVariants as verdict
 use Rattle.aud_split.specs.Laws.{KnownIsKept, SearchIsSaid}
@@ -46,9 +46,9 @@ audit_says (Some b) plan h said.CertificateRefused says = says
 audit_says (Some b) plan h (said.Certified cert) says = says
 
 pub decided : (budget : Option ℕ) (plan : PlanOf) (facts : List Fact) (s : Said) → SetSays (DecideSays None false) plan facts s → SetSays (AuditSays budget) plan facts s
-decided budget plan facts s = by_status (status_told (fact_status plan.logs facts))
+decided budget plan facts s = by_status (status_reported (fact_status plan.logs facts))
   where
-    by_status : (o : Option (Verdict Global)) → StatusTells said.Verdict (hist facts) (DecideSays None false plan (hist facts)) o s → StatusTells said.Verdict (hist facts) (AuditSays budget plan (hist facts)) o s
+    by_status : (o : Option (Verdict Global)) → StatusReports said.Verdict (hist facts) (DecideSays None false plan (hist facts)) o s → StatusReports said.Verdict (hist facts) (AuditSays budget plan (hist facts)) o s
     by_status (Some v) is = is
     by_status None (inl fault) = inl fault
     by_status None (inr (well, answer)) = inr (well, audit_says budget plan (hist facts) s answer)
@@ -94,7 +94,7 @@ module _ (kept : KnownIsKept) (norm : KnowledgeIsNorm) (law : SearchIsSaid Globa
   pub said_of : (found : Option Search) (v : Verdict Global) → IsVerdict k v → WasSearched facts budget k found → (v ≡ verdict.Unfinished → WasSearchedWith budget found) →
       ((p : List Decision) → v ≡ verdict.Opaque p → AreShownBy k.plan k.held.facts p) → (v ≡ verdict.NotOpaque → AreRefutedAt k.plan k.held.facts []) →
       SetSays (AuditSays budget) facts.plan facts.facts (said.Verdict v)
-  said_of found v is was searched shows refutes = subst (λ (f : FactsOf). SetSays (AuditSays budget) f.plan f.facts (said.Verdict v)) (sym same) (by_status (IsClosed k.plan.objects (hist k.held.facts) k.held.cover []) (status_told (fact_status k.plan.logs k.held.facts)) is)
+  said_of found v is was searched shows refutes = subst (λ (f : FactsOf). SetSays (AuditSays budget) f.plan f.facts (said.Verdict v)) (sym same) (by_status (IsClosed k.plan.objects (hist k.held.facts) k.held.cover []) (status_reported (fact_status k.plan.logs k.held.facts)) is)
     where
       Says_so : Type 0
       Says_so = AuditSays budget k.plan (hist k.held.facts) (said.Verdict v)
@@ -113,7 +113,7 @@ module _ (kept : KnownIsKept) (norm : KnowledgeIsNorm) (law : SearchIsSaid Globa
       by_witness C None (inl (e, closed)) = refuted e
       by_witness C None (inr (e, not_closed)) = left_open e
 
-      by_status : (C : Type 0) (o : Option (Verdict Global)) → StatusTells (λ told. told) (hist k.held.facts) (OfWellFormed C k.held.witness) o v → StatusTells said.Verdict (hist k.held.facts) (AuditSays budget k.plan (hist k.held.facts)) o (said.Verdict v)
+      by_status : (C : Type 0) (o : Option (Verdict Global)) → StatusReports (λ reported. reported) (hist k.held.facts) (OfWellFormed C k.held.witness) o v → StatusReports said.Verdict (hist k.held.facts) (AuditSays budget k.plan (hist k.held.facts)) o (said.Verdict v)
       by_status C (Some w) e = ap said.Verdict e
       by_status C None (inl (stamp, (rule, (fault, e)))) = inl (stamp, (rule, (fault, ap said.Verdict e)))
       by_status C None (inr (well, answer)) = inr (well, by_witness C k.held.witness answer)

@@ -9,7 +9,7 @@ use Rattle.aud_order.specs.Shapes.{ShapeOf, objects_of, history_of}
 use Rattle.aud_cover.specs.Closings.{IsCovered}
 use Rattle.aud_search.specs.Searches.{SpentBy}
 use Rattle.aud_know.specs.Known.{KnowledgeOf}
-use Rattle.aud_know.specs.Verdicts.{FactsTellAtOnce}
+use Rattle.aud_know.specs.Verdicts.{FactsReportAtOnce}
 use Rattle.aud_know.specs.declared.verdict.Verdict.{Verdict}
 use Rattle.aud_split.specs.Searched.{HasWitness}
 use Rattle.aud_split.specs.Tasks.{AreTasks}
@@ -30,8 +30,8 @@ pub record IsSearchOf (facts : FactsOf) (s : ShapeOf) (tasks : List (List Decisi
   pub split : AreTasks (objects_of s) (history_of s) [] 2 tasks
 
 -- a verdict on these facts needs no search: they are not sealed, or their history is not well-formed
-abbrev pub IsToldAtOnce : FactsOf → Type 0
-IsToldAtOnce facts = (told : Verdict Global) × FactsTellAtOnce facts.plan.logs facts.facts told
+abbrev pub IsReportedAtOnce : FactsOf → Type 0
+IsReportedAtOnce facts = (reported : Verdict Global) × FactsReportAtOnce facts.plan.logs facts.facts reported
 
 -- the search is of these facts, with this budget for each task
 abbrev pub IsSearchWith : FactsOf → Option ℕ → Search → Type 0

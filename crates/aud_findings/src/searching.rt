@@ -1,7 +1,7 @@
 //! What the workers of all nodes search: the tasks of one history.
 
 ghost use Rattle.std.specs.Prelude.{◌≡◌, ◌≤◌, ◌<◌, None, IfOk, IfSome, length, take};
-ghost use Rattle.aud_findings.specs.Searches.{IsSearchOf, IsToldAtOnce, task_budget, IsSearchWith, IsFirstOf};
+ghost use Rattle.aud_findings.specs.Searches.{IsSearchOf, IsReportedAtOnce, task_budget, IsSearchWith, IsFirstOf};
 
 use aud_event::{Dup, OutOfMemory};
 use aud_facts::Facts;
@@ -41,7 +41,7 @@ pub fn search_of(
     budget: Option<u64>,
 ) -> Result<Option<Search>, OutOfMemory>
     ensures some { IfOk result (λ found. IfSome found (IsSearchWith facts.now budget)) }
-    ensures none { IfOk result (λ found. found ≡ None → IsToldAtOnce facts.now) }
+    ensures none { IfOk result (λ found. found ≡ None → IsReportedAtOnce facts.now) }
 {
     let Ok(sealed) = well_formed_history(facts)? else {
         return Ok(None);

@@ -36,8 +36,8 @@ abbrev pub HasOfferedIt : Packet → PassOf → PassOf → Type 0
 HasOfferedIt p old new = (mine new ≡ mine old ++ item.Known p.known ∷ []) × (new.offers ≡ old.offers + 1)
 
 -- the test says whether the packet is of the plan, and was offered; else the pass is as it was
-abbrev pub TellsWhetherOffered : Bool → PlanOf → Packet → PassOf → PassOf → Type 0
-TellsWhetherOffered test plan p old new = MatchBool test (IsOf plan p × HasOfferedIt p old new) ((IsOf plan p → ⊥) × (new ≡ old))
+abbrev pub ReportsWhetherOffered : Bool → PlanOf → Packet → PassOf → PassOf → Type 0
+ReportsWhetherOffered test plan p old new = MatchBool test (IsOf plan p × HasOfferedIt p old new) ((IsOf plan p → ⊥) × (new ≡ old))
 
 -- the same pass, whose view begins with the old one
 abbrev pub GoesFurther : PassOf → PassOf → Type 0

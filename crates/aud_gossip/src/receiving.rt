@@ -2,7 +2,7 @@
 
 ghost use Rattle.std.specs.Prelude.{◌≡◌, IfErr, IfOk, OnErr, OnOk};
 ghost use Rattle.aud_node.specs.Meanings.{IsAt};
-ghost use Rattle.aud_gossip.specs.Receiving.{GoesFurther, HasOffered, IsOf, IsStop, TellsWhetherOffered};
+ghost use Rattle.aud_gossip.specs.Receiving.{GoesFurther, HasOffered, IsOf, IsStop, ReportsWhetherOffered};
 
 use aud_know::Item;
 use aud_node::{Fleet, OfferFault, Packet, Pass, Running};
@@ -37,7 +37,7 @@ fn offer_packet<J: Fleet, S: Wait + Drop, R: Wait>(
     packet: Packet,
 ) -> Result<bool, Packet>
     requires { IsAt node.now pass.old }
-    ensures told { IfOk result (λ b. TellsWhetherOffered b node.now.plan packet pass.old pass.new) }
+    ensures reported { IfOk result (λ b. ReportsWhetherOffered b node.now.plan packet pass.old pass.new) }
     ensures further { GoesFurther pass.old pass.new }
     ensures back { IfErr result (λ p. (p ≡ packet) × IsOf node.now.plan p) }
     ensures unchanged { OnErr result (pass.new ≡ pass.old) }

@@ -144,7 +144,7 @@ goes_on es e (Ok next) leads ok = Continues-from_Passes Idle (es ++ e ∷ []) (P
 goes_on es e (Err rule) breaks ok = absurd (cc)
 
 -- after a beginning of `O F` the table is in a state, and reports a rule exactly where the next event does not fit
-pub told_rule : (es : List Event) → IsTransaction es → (s : TxState) × ((run Idle es ≡ Ok s) × ((e : Event) → IsTransaction (es ++ e ∷ []) ↔ IsOk (after s e)))
-told_rule es goes =
+pub reported_rule : (es : List Event) → IsTransaction es → (s : TxState) × ((run Idle es ≡ Ok s) × ((e : Event) → IsTransaction (es ++ e ∷ []) ↔ IsOk (after s e)))
+reported_rule es goes =
     let (s, leads) = run-from_Passes Idle es (Passes-from_IsTransaction es goes) in
     (s, (leads, λ e. (taken es e (after s e) (run-push Idle es s e leads), goes_on es e (after s e) (run-push Idle es s e leads))))

@@ -21,8 +21,8 @@ abbrev pub TableIsDefinition : Type 0
 TableIsDefinition = (es : List Event) → IsTransaction es ↔ Passes Idle es
 
 -- after a beginning of O F the table is in a state, and the next event goes on exactly where the table reports no rule
-abbrev pub TableTellsTheRule : Type 0
-TableTellsTheRule = (es : List Event) → IsTransaction es →
+abbrev pub TableReportsTheRule : Type 0
+TableReportsTheRule = (es : List Event) → IsTransaction es →
     (s : TxState) × ((run Idle es ≡ Ok s) × ((e : Event) → IsTransaction (es ++ e ∷ []) ↔ IsOk (after s e)))
 
 -- real time by recursion and by places

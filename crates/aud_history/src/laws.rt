@@ -1,6 +1,6 @@
 //! Laws of the definitions. Each function does nothing: its contract is the law.
 
-ghost use Rattle.aud_history.specs.Laws.{BeginningsAreWellFormed, TableIsDefinition, TableTellsTheRule, BeforeIsByPlaces, BlockIsEvents, BeforeIsByStamps, OnlyPendingCommit, CompletedIsWellFormed};
+ghost use Rattle.aud_history.specs.Laws.{BeginningsAreWellFormed, TableIsDefinition, TableReportsTheRule, BeforeIsByPlaces, BlockIsEvents, BeforeIsByStamps, OnlyPendingCommit, CompletedIsWellFormed};
 
 /// A beginning of a well-formed history is well-formed.
 pub fn beginnings_are_well_formed()
@@ -13,8 +13,8 @@ pub fn table_is_definition()
 {}
 
 /// The table reports a rule exactly for an event that a well-formed transaction cannot go on with.
-pub fn table_tells_the_rule()
-    ensures { TableTellsTheRule }
+pub fn table_reports_the_rule()
+    ensures { TableReportsTheRule }
 {}
 
 /// Real time, computed along the history, is what a cut of the history shows.

@@ -25,7 +25,7 @@ use Rattle.aud_cover.specs.Closings.{IsClosed}
 use Rattle.aud_cover.specs.Laws.{ClosedIsRefuted}
 use Rattle.aud_know.specs.Known.{Held, KnowledgeOf}
 use Rattle.aud_know.specs.Truth.{AreWhole, IsKnowledge}
-use Rattle.aud_know.specs.Verdicts.{OfWellFormed, StatusTells, FactsTell, FactsTellAtOnce, status_told, IsVerdict}
+use Rattle.aud_know.specs.Verdicts.{OfWellFormed, StatusReports, FactsReport, FactsReportAtOnce, status_reported, IsVerdict}
 use Rattle.aud_know.specs.Laws.{VerdictIsOne, OpaqueIsShown, NotOpaqueIsRefuted}
 use Rattle.aud_know.specs.declared.verdict.Verdict.{Verdict}
 use Rattle.aud_know.specs.declared.verdict.Verdict.TheVariants as verdict
@@ -33,44 +33,44 @@ use Rattle.aud_know.specs.declared.verdict.Verdict.TheVariants as verdict
 -- # What is said
 
 abbrev pub OfStatus : {X : Type 0} → PlanOf → Held → FactStatus → Verdict X → Type 0
-OfStatus plan held s v = StatusTells (λ told. told) (hist held.facts) (OfWellFormed (IsClosed plan.objects (hist held.facts) held.cover []) held.witness) (status_told s) v
+OfStatus plan held s v = StatusReports (λ reported. reported) (hist held.facts) (OfWellFormed (IsClosed plan.objects (hist held.facts) held.cover []) held.witness) (status_reported s) v
 
 -- only of sealed facts the status says nothing
-pub tells_nothing : (X : Type 0) (s : FactStatus) → status_told {X = X} s ≡ None → s ≡ status.Sealed
-tells_nothing X (status.Conflict kind log at) e = cc
-tells_nothing X (status.Waiting log) e = cc
-tells_nothing X (status.Gap stamp) e = cc
-tells_nothing X status.Sealed e = refl
+pub reports_nothing : (X : Type 0) (s : FactStatus) → status_reported {X = X} s ≡ None → s ≡ status.Sealed
+reports_nothing X (status.Conflict kind log at) e = cc
+reports_nothing X (status.Waiting log) e = cc
+reports_nothing X (status.Gap stamp) e = cc
+reports_nothing X status.Sealed e = refl
 
 -- of facts with a well-formed history the answer is reported
-pub answered : {X S : Type 0} (told : Verdict X → S) (logs : ℕ) (facts : List Fact) (Answers : S → Type 0) (s : S) →
-    fact_status logs facts ≡ status.Sealed → IsWellFormed (hist facts) → Answers s → FactsTell told logs facts Answers s
-answered told logs facts Answers s sealed well answer = subst (λ st. StatusTells told (hist facts) Answers (status_told st) s) (sym sealed) (inr (well, answer))
+pub answered : {X S : Type 0} (reported : Verdict X → S) (logs : ℕ) (facts : List Fact) (Answers : S → Type 0) (s : S) →
+    fact_status logs facts ≡ status.Sealed → IsWellFormed (hist facts) → Answers s → FactsReport reported logs facts Answers s
+answered reported logs facts Answers s sealed well answer = subst (λ st. StatusReports reported (hist facts) Answers (status_reported st) s) (sym sealed) (inr (well, answer))
 
 -- of facts with a history the rule is reported that it breaks first
 pub ill_formed : (X : Type 0) (facts : FactsOf) (h : History) (stamp : ℕ) (rule : Rule) → IsSealedWith facts h → IsFirstFault h stamp rule →
-    FactsTellAtOnce {X = X} facts.plan.logs facts.facts (verdict.IllFormed stamp rule)
+    FactsReportAtOnce {X = X} facts.plan.logs facts.facts (verdict.IllFormed stamp rule)
 ill_formed X facts h stamp rule s fault =
-    subst (λ st. StatusTells {X = X} (λ told. told) (hist facts.facts) (λ answer. ⊥) (status_told st) (verdict.IllFormed stamp rule)) (sym s.sealed)
+    subst (λ st. StatusReports {X = X} (λ reported. reported) (hist facts.facts) (λ answer. ⊥) (status_reported st) (verdict.IllFormed stamp rule)) (sym s.sealed)
     (inl (stamp, (rule, (subst (λ (e : History). IsFirstFault e stamp rule) s.events fault, refl))))
 
 -- what is read of the history of facts is read of the facts
 pub read : {X Y : Type 0} (facts : FactsOf) (v : SealedOf) (value : Y → SealedOf) (r : Result Y (Verdict X)) → v.facts ≡ facts → IsSealedWith facts v.history →
-    MatchResult r (λ s. (value s ≡ v) × IsWellFormed v.history) (λ told. FactsTellAtOnce v.facts.plan.logs v.facts.facts told) →
-    MatchResult r (λ s. ((value s).facts ≡ facts) × IsSealedWith facts (value s).history × IsWellFormed (value s).history) (λ told. FactsTellAtOnce facts.plan.logs facts.facts told)
+    MatchResult r (λ s. (value s ≡ v) × IsWellFormed v.history) (λ reported. FactsReportAtOnce v.facts.plan.logs v.facts.facts reported) →
+    MatchResult r (λ s. ((value s).facts ≡ facts) × IsSealedWith facts (value s).history × IsWellFormed (value s).history) (λ reported. FactsReportAtOnce facts.plan.logs facts.facts reported)
 read facts v value (Ok s) is sealed h =
     let both : IsSealedWith facts (value s).history × IsWellFormed (value s).history = subst (λ (w : SealedOf). IsSealedWith facts w.history × IsWellFormed w.history) (sym h.0) (sealed, h.1) in
     (ap (λ (w : SealedOf). w.facts) h.0 ∙ is, both.0, both.1)
-read facts v value (Err told) is sealed h = subst (λ (f : FactsOf). FactsTellAtOnce f.plan.logs f.facts told) is h
+read facts v value (Err reported) is sealed h = subst (λ (f : FactsOf). FactsReportAtOnce f.plan.logs f.facts reported) is h
 
 -- what is reported at once is reported whatever is asked
-pub told_at_once : {X S : Type 0} (told : Verdict X → S) (logs : ℕ) (facts : List Fact) (Answers : S → Type 0) (v : Verdict X) →
-    FactsTellAtOnce logs facts v → FactsTell told logs facts Answers (told v)
-told_at_once {X} {S} told logs facts Answers v = by_status (status_told (fact_status logs facts))
+pub reported_at_once : {X S : Type 0} (reported : Verdict X → S) (logs : ℕ) (facts : List Fact) (Answers : S → Type 0) (v : Verdict X) →
+    FactsReportAtOnce logs facts v → FactsReport reported logs facts Answers (reported v)
+reported_at_once {X} {S} reported logs facts Answers v = by_status (status_reported (fact_status logs facts))
   where
-    by_status : (o : Option (Verdict X)) → StatusTells (λ w. w) (hist facts) (λ answer. ⊥) o v → StatusTells told (hist facts) Answers o (told v)
-    by_status (Some w) is = ap told is
-    by_status None (inl (stamp, (rule, (fault, is)))) = inl (stamp, (rule, (fault, ap told is)))
+    by_status : (o : Option (Verdict X)) → StatusReports (λ w. w) (hist facts) (λ answer. ⊥) o v → StatusReports reported (hist facts) Answers o (reported v)
+    by_status (Some w) is = ap reported is
+    by_status None (inl (stamp, (rule, (fault, is)))) = inl (stamp, (rule, (fault, ap reported is)))
     by_status None (inr both) = absurd both.1
 
 quiet_of_sealed : QuietIsNoConflict → (logs : ℕ) (facts : List Fact) → fact_status logs facts ≡ status.Sealed → AreQuiet facts

@@ -19,32 +19,32 @@ OfWellFormed Closed (Some p) v = v ≡ verdict.Opaque p
 OfWellFormed Closed None v = ((v ≡ verdict.NotOpaque) × Closed) ⊎ ((v ≡ verdict.Unfinished) × (Closed → ⊥))
 
 -- what is reported of facts by their status alone
-abbrev pub status_told : {X : Type 0} → FactStatus → Option (Verdict X)
-status_told (status.Conflict kind log at) = Some (verdict.Conflict kind log at)
-status_told (status.Waiting log) = Some (verdict.Waiting log)
-status_told (status.Gap stamp) = Some (verdict.Gap stamp)
-status_told status.Sealed = None
+abbrev pub status_reported : {X : Type 0} → FactStatus → Option (Verdict X)
+status_reported (status.Conflict kind log at) = Some (verdict.Conflict kind log at)
+status_reported (status.Waiting log) = Some (verdict.Waiting log)
+status_reported (status.Gap stamp) = Some (verdict.Gap stamp)
+status_reported status.Sealed = None
 
 -- of a history: the first rule that it breaks, or what is answered of it where it is well-formed
-abbrev pub HistoryTells : {X S : Type 0} → (Verdict X → S) → History → (S → Type 0) → S → Type 0
-HistoryTells told h Answers s =
-    ((stamp : _) × ((rule : _) × (IsFirstFault h stamp rule × (s ≡ told (verdict.IllFormed stamp rule))))) ⊎ (IsWellFormed h × Answers s)
+abbrev pub HistoryReports : {X S : Type 0} → (Verdict X → S) → History → (S → Type 0) → S → Type 0
+HistoryReports reported h Answers s =
+    ((stamp : _) × ((rule : _) × (IsFirstFault h stamp rule × (s ≡ reported (verdict.IllFormed stamp rule))))) ⊎ (IsWellFormed h × Answers s)
 
-abbrev pub StatusTells : {X S : Type 0} → (Verdict X → S) → History → (S → Type 0) → Option (Verdict X) → S → Type 0
-StatusTells told h Answers (Some v) s = s ≡ told v
-StatusTells told h Answers None s = HistoryTells told h Answers s
+abbrev pub StatusReports : {X S : Type 0} → (Verdict X → S) → History → (S → Type 0) → Option (Verdict X) → S → Type 0
+StatusReports reported h Answers (Some v) s = s ≡ reported v
+StatusReports reported h Answers None s = HistoryReports reported h Answers s
 
 -- of facts: the first that holds of a conflict, a log that waits, a gap, and a rule that their history breaks, as it is
 -- reported; else what is answered of the history
-abbrev pub FactsTell : {X S : Type 0} → (Verdict X → S) → ℕ → List Fact → (S → Type 0) → S → Type 0
-FactsTell told logs facts Answers s = StatusTells told (hist facts) Answers (status_told (fact_status logs facts)) s
+abbrev pub FactsReport : {X S : Type 0} → (Verdict X → S) → ℕ → List Fact → (S → Type 0) → S → Type 0
+FactsReport reported logs facts Answers s = StatusReports reported (hist facts) Answers (status_reported (fact_status logs facts)) s
 
 -- what is reported before any answer
-abbrev pub FactsTellAtOnce : {X : Type 0} → ℕ → List Fact → Verdict X → Type 0
-FactsTellAtOnce logs facts v = FactsTell (λ told. told) logs facts (λ answer. ⊥) v
+abbrev pub FactsReportAtOnce : {X : Type 0} → ℕ → List Fact → Verdict X → Type 0
+FactsReportAtOnce logs facts v = FactsReport (λ reported. reported) logs facts (λ answer. ⊥) v
 
 -- the verdict on what is known: what its facts say, the answer being the witness, or whether the cover closes all orders
 abbrev pub IsVerdict : {X : Type 0} → KnowledgeOf → Verdict X → Type 0
 IsVerdict k v =
-    FactsTell (λ told. told) k.plan.logs k.held.facts
+    FactsReport (λ reported. reported) k.plan.logs k.held.facts
     (OfWellFormed (IsClosed k.plan.objects (hist k.held.facts) k.held.cover []) k.held.witness) v

@@ -50,7 +50,7 @@ impl<A: Allocator + Copy> Knowledge<A> {
     {
         quiet_is_no_conflict();
         match Verdict::of_status(self.facts.status()) {
-            Some(told) => Ok(told),
+            Some(reported) => Ok(reported),
             None => {
                 let copy = order.dup()?;
                 Ok(Verdict::Opaque(copy))
@@ -65,7 +65,7 @@ impl<A: Allocator + Copy> Knowledge<A> {
     {
         match well_formed_history(&self.facts)? {
             Ok(sealed) => self.of_well_formed(sealed),
-            Err(told) => Ok(told),
+            Err(reported) => Ok(reported),
         }
     }
 

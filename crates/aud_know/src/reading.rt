@@ -3,7 +3,7 @@
 ghost use Rattle.std.specs.Prelude.{◌≡◌, IfOk, MatchResult};
 ghost use Rattle.aud_facts.specs.Sets.{IsSealedWith};
 ghost use Rattle.aud_history.specs.WellFormed.{IsWellFormed};
-ghost use Rattle.aud_know.specs.Verdicts.{FactsTellAtOnce, status_told};
+ghost use Rattle.aud_know.specs.Verdicts.{FactsReportAtOnce, status_reported};
 
 use crate::verdict::Verdict;
 use aud_event::OutOfMemory;
@@ -14,7 +14,7 @@ use std::sync::Arc;
 impl<A: Allocator> Verdict<A> {
     // What is reported of facts by their status alone, if it says anything.
     pub(crate) fn of_status(status: FactStatus) -> Option<Verdict<A>>
-        ensures { result ≡ status_told status }
+        ensures { result ≡ status_reported status }
     {
         match status {
             FactStatus::Conflict(kind, log, at) => Some(Verdict::Conflict(kind, log, at)),
@@ -32,13 +32,13 @@ pub fn well_formed_history<A: Allocator + Copy>(
 ) -> Result<Result<Arc<Sealed<A>, A>, Verdict<A>>, OutOfMemory>
     ensures { IfOk result (λ read. MatchResult read
         (λ sealed. (sealed.value.facts ≡ facts.now) × IsSealedWith facts.now sealed.value.history × IsWellFormed sealed.value.history)
-        (λ told. FactsTellAtOnce facts.now.plan.logs facts.now.facts told)) }
+        (λ reported. FactsReportAtOnce facts.now.plan.logs facts.now.facts reported)) }
 {
     if let Some(sealed) = facts.seal()? {
         return Ok(without_fault(sealed));
     }
     match Verdict::of_status(facts.status()) {
-        Some(told) => Ok(Err(told)),
+        Some(reported) => Ok(Err(reported)),
         None => unreachable!(),
     }
 }
@@ -49,7 +49,7 @@ fn without_fault<A: Allocator + Copy>(
 ) -> Result<Arc<Sealed<A>, A>, Verdict<A>>
     ensures { MatchResult result
         (λ same. (same.value ≡ sealed.value) × IsWellFormed sealed.value.history)
-        (λ told. FactsTellAtOnce sealed.value.facts.plan.logs sealed.value.facts.facts told) }
+        (λ reported. FactsReportAtOnce sealed.value.facts.plan.logs sealed.value.facts.facts reported) }
 {
     match sealed.history().first_fault() {
         Some((stamp, rule)) => Err(Verdict::IllFormed(stamp, rule)),

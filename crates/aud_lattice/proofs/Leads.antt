@@ -34,9 +34,9 @@ alike cmp (x ∷ p) (y ∷ q) = is_eq (cmp x y) && alike cmp p q
 abbrev pub held : {D : Type 0} → (D → D → Ordering) → List (List D) → List D → Bool
 held cmp ps q = list_any (λ p. alike cmp p q) ps
 
-pub told : (b : Bool) (P Q : Type 0) → (b ≡ true → P) → (b ≡ false → Q) → MatchBool b P Q
-told true P Q f g = f refl
-told false P Q f g = g refl
+pub reported : (b : Bool) (P Q : Type 0) → (b ≡ true → P) → (b ≡ false → Q) → MatchBool b P Q
+reported true P Q f g = f refl
+reported false P Q f g = g refl
 
 module _ {D : Type 0} (R : D → D → Ordering) where
   alike_itself : IsTotalOrder R → (p : List D) → alike R p p ≡ true

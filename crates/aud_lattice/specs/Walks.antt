@@ -127,8 +127,8 @@ IsLeft cmp f None = f ≡ nothing
 IsLeft cmp f (Some a) = IsTrie cmp (arc_value a) × IsLive cmp (arc_value a) × (leads cmp (arc_value a) ≡ f)
 
 -- the test says whether no list has a beginning in it
-abbrev pub TellsWhetherBare : {D A : Type 0} → (D → D → Ordering) → Bool → Trie D A → Type 0
-TellsWhetherBare cmp test t = MatchBool test (leads cmp t ≡ nothing) (IsLive cmp t)
+abbrev pub ReportsWhetherBare : {D A : Type 0} → (D → D → Ordering) → Bool → Trie D A → Type 0
+ReportsWhetherBare cmp test t = MatchBool test (leads cmp t ≡ nothing) (IsLive cmp t)
 
 -- under x all that f passes passes in the node found there; or a new node is to stand there, in which it does, and what passed
 abbrev pub IsMet : {D A : Type 0} → (D → D → Ordering) → BTreeMap D (Arc (Trie D A) A) A → D → (List D → Bool) → Option (Arc (Trie D A) A) → Type 0

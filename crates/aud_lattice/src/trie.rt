@@ -4,7 +4,7 @@ ghost use Rattle.std.specs.Prelude.{None, ◌≡◌, ◌++◌, OnOk, OnErr, IfOk
 ghost use Rattle.std.specs.Option.{option_copied};
 ghost use Rattle.std.specs.Arc.{arc_value};
 ghost use Rattle.std.specs.BTreeMap.{IsOrdered};
-ghost use Rattle.aud_lattice.specs.Walks.{walk, walk_mark, leads, nothing, but, after, starts, node_at, node_of, now_of, AreAlike, AreAlikeBut, IsTrie, IsLeft, IsLive, IsMet, IsWithin, PassesUnder, StandsUnder, TellsWhetherBare};
+ghost use Rattle.aud_lattice.specs.Walks.{walk, walk_mark, leads, nothing, but, after, starts, node_at, node_of, now_of, AreAlike, AreAlikeBut, IsTrie, IsLeft, IsLive, IsMet, IsWithin, PassesUnder, StandsUnder, ReportsWhetherBare};
 ghost use Rattle.aud_lattice.specs.Paths.{paths};
 ghost use Rattle.aud_lattice.specs.Covers.{begins};
 ghost use Rattle.aud_lattice.specs.Sets.{either};
@@ -350,7 +350,7 @@ impl<D: Key + Dup, A: Allocator + Copy> Trie<D, A> {
     /// Whether there is no list. It does not allocate.
     pub(crate) fn is_bare(&self) -> bool
         requires { IsTrie D.Ord.cmp self.now }
-        ensures { TellsWhetherBare D.Ord.cmp result self.now }
+        ensures { ReportsWhetherBare D.Ord.cmp result self.now }
     {
         match self {
             Trie::Member => false,

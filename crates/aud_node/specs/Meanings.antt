@@ -30,8 +30,8 @@ abbrev pub IsNoBeginning : FrontOf → FrontOf → Type 0
 IsNoBeginning front other = front.number ≡ other.number → IsPrefix other.log front.log
 
 -- the test says whether the first front begins the second
-abbrev pub TellsWhetherBegins : Bool → FrontOf → FrontOf → Type 0
-TellsWhetherBegins test front other = MatchBool test (Begins front other) (IsNoBeginning front other)
+abbrev pub ReportsWhetherBegins : Bool → FrontOf → FrontOf → Type 0
+ReportsWhetherBegins test front other = MatchBool test (Begins front other) (IsNoBeginning front other)
 
 -- a new history
 pub record OpenedOf : Type 0 where

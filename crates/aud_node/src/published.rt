@@ -2,7 +2,7 @@
 
 ghost use Rattle.std.specs.Prelude.{◌≡◌, IfOk};
 ghost use Rattle.aud_node.specs.Logs.{state_of};
-ghost use Rattle.aud_node.specs.Meanings.{TellsWhetherBegins};
+ghost use Rattle.aud_node.specs.Meanings.{ReportsWhetherBegins};
 
 use crate::book::{Fleet, Front};
 use aud_event::Plan;
@@ -103,7 +103,7 @@ impl<J: Fleet> Held<J> {
 
     /// Whether what the other holds begins with what this one holds, and is of the same node.
     pub fn begins(&self, other: &Held<J>) -> bool
-        ensures { TellsWhetherBegins result self.now.latest.front other.now.latest.front }
+        ensures { ReportsWhetherBegins result self.now.latest.front other.now.latest.front }
     {
         if self.latest.front.number() != other.latest.front.number() {
             return false;

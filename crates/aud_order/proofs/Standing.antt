@@ -24,19 +24,19 @@ use Rattle.aud_witness.specs.Placings.{PlacingOf, Advances, GoesBack}
 use Rattle.aud_witness.proofs.Good.{IsGood-empty, IsGood-push, place_of}
 use Rattle.aud_witness.proofs.Faults.{IsGoodNext-from_no_fault, no_fault-from_IsGoodNext}
 use Rattle.aud_witness.proofs.Bridge.{tx-rows, row-at, named-at, enabled-by_rows}
-use Rattle.aud_witness.proofs.BridgeSteps.{Stands, Stands-root, Told, stepped-told, fit-from_plan, lt-any, absent-from_position}
+use Rattle.aud_witness.proofs.BridgeSteps.{Stands, Stands-root, Reported, stepped-reported, fit-from_plan, lt-any, absent-from_position}
 use Rattle.aud_order.specs.Shapes.{ShapeOf, plan_of, objects_of, history_of}
 use Rattle.aud_order.specs.declared.pushed.Pushed.{Pushed}
-use Rattle.aud_order.specs.declared.pushed.Pushed.TheVariants as told
+use Rattle.aud_order.specs.declared.pushed.Pushed.TheVariants as reported
 use Rattle.aud_order.specs.Cursors.{Leads, ArePlaced, IsAt, pushed_by_fault}
 use Rattle.aud_order.proofs.Opens.{placed-before}
 use Rattle.aud_order.proofs.Lists.{length-push, push-parts, take-push}
 use Rattle.aud_order.proofs.KidLemmas.{in-transactions}
 
 -- what is reported of one more decision
-pub told-next : (plan : PlanOf) (h : History) (p : List Decision) (s : Spot) (d : Decision) → IsWellFormed h → IsWithinLimits plan h → Stands plan.objects h p s →
-    Told plan.objects h p d (stepped (table_of h) s d)
-told-next plan h p s d fine fits stands = stepped-told plan.objects h p s d fine (fit-from_plan plan d.tx h fits.1) stands
+pub reported-next : (plan : PlanOf) (h : History) (p : List Decision) (s : Spot) (d : Decision) → IsWellFormed h → IsWithinLimits plan h → Stands plan.objects h p s →
+    Reported plan.objects h p d (stepped (table_of h) s d)
+reported-next plan h p s d fine fits stands = stepped-reported plan.objects h p s d fine (fit-from_plan plan d.tx h fits.1) stands
 
 -- the decisions that lead somewhere are good, and they lead where the definition says
 pub standing : (plan : PlanOf) (h : History) (path : List Decision) (s : Spot) (past : List Spot) → IsWellFormed h → IsWithinLimits plan h →
@@ -48,9 +48,9 @@ standing plan h path s [] fine fits leads =
     )
 standing plan h path s (t ∷ past) fine fits (p, (d, (is, step, leads))) =
     let before = standing plan h p t past fine fits leads in
-    let told : Told plan.objects h p d (Ok s) = subst (λ r. Told plan.objects h p d r) step (told-next plan h p t d fine fits before.1) in (
-      subst (λ l. IsGood plan.objects h l) (sym is) (IsGood-push plan.objects h p d before.0 (IsGoodNext-from_no_fault plan.objects h p d told.0)),
-      subst (λ l. Stands plan.objects h l s) (sym is) told.1,
+    let reported : Reported plan.objects h p d (Ok s) = subst (λ r. Reported plan.objects h p d r) step (reported-next plan h p t d fine fits before.1) in (
+      subst (λ l. IsGood plan.objects h l) (sym is) (IsGood-push plan.objects h p d before.0 (IsGoodNext-from_no_fault plan.objects h p d reported.0)),
+      subst (λ l. Stands plan.objects h l s) (sym is) reported.1,
     )
 
 pub good-at : (shape : ShapeOf) (p : PlacingOf) (k : ℕ) → IsAt shape p k → IsGood (objects_of shape) (history_of shape) p.path
@@ -59,9 +59,9 @@ good-at shape p k at = (standing (plan_of shape) (history_of shape) p.path p.spo
 pub stands-at : (shape : ShapeOf) (p : PlacingOf) (k : ℕ) → IsAt shape p k → Stands (objects_of shape) (history_of shape) p.path p.spot
 stands-at shape p k at = (standing (plan_of shape) (history_of shape) p.path p.spot p.past at.fine at.fits at.leads).1
 
-pub told-at : (shape : ShapeOf) (p : PlacingOf) (k : ℕ) (d : Decision) → IsAt shape p k →
-    Told (objects_of shape) (history_of shape) p.path d (stepped (table_of (history_of shape)) p.spot d)
-told-at shape p k d at = told-next (plan_of shape) (history_of shape) p.path p.spot d at.fine at.fits (stands-at shape p k at)
+pub reported-at : (shape : ShapeOf) (p : PlacingOf) (k : ℕ) (d : Decision) → IsAt shape p k →
+    Reported (objects_of shape) (history_of shape) p.path d (stepped (table_of (history_of shape)) p.spot d)
+reported-at shape p k d at = reported-next (plan_of shape) (history_of shape) p.path p.spot d at.fine at.fits (stands-at shape p k at)
 
 -- # One decision
 
@@ -69,14 +69,14 @@ pub fault-ok : (shape : ShapeOf) (p new : PlacingOf) (k : ℕ) (d : Decision) �
     place_fault (objects_of shape) (history_of shape) p.path d ≡ None
 fault-ok shape p new k d at advances =
     let led : stepped (table_of (history_of shape)) p.spot d ≡ Ok new.spot = subst (λ rows. stepped rows p.spot d ≡ Ok new.spot) at.rows advances.spot in
-    let told : Told (objects_of shape) (history_of shape) p.path d (Ok new.spot) = subst (λ r. Told (objects_of shape) (history_of shape) p.path d r) led (told-at shape p k d at) in
-    told.0
+    let reported : Reported (objects_of shape) (history_of shape) p.path d (Ok new.spot) = subst (λ r. Reported (objects_of shape) (history_of shape) p.path d r) led (reported-at shape p k d at) in
+    reported.0
 
 pub fault-err : (shape : ShapeOf) (p : PlacingOf) (k : ℕ) (d : Decision) (fault : OrderFault) → IsAt shape p k → stepped p.agenda.rows p.spot d ≡ Err fault →
     place_fault (objects_of shape) (history_of shape) p.path d ≡ Some fault
 fault-err shape p k d fault at is =
     let led : stepped (table_of (history_of shape)) p.spot d ≡ Err fault = subst (λ rows. stepped rows p.spot d ≡ Err fault) at.rows is in
-    subst (λ r. Told (objects_of shape) (history_of shape) p.path d r) led (told-at shape p k d at)
+    subst (λ r. Reported (objects_of shape) (history_of shape) p.path d r) led (reported-at shape p k d at)
 
 -- # What is placed
 
@@ -160,21 +160,21 @@ back-at shape p new count d q o at back is place =
 
 -- # What is reported
 
-pub good-told : (objects : List Declared) (h : History) (p : List Decision) (d : Decision) → place_fault objects h p d ≡ None → (told.Good ≡ told.Good) ↔ IsGoodNext objects h p d
-good-told objects h p d none = ((λ _. IsGoodNext-from_no_fault objects h p d none), (λ _. refl))
+pub good-reported : (objects : List Declared) (h : History) (p : List Decision) (d : Decision) → place_fault objects h p d ≡ None → (reported.Good ≡ reported.Good) ↔ IsGoodNext objects h p d
+good-reported objects h p d none = ((λ _. IsGoodNext-from_no_fault objects h p d none), (λ _. refl))
 
-told-bad : (fault : OrderFault) → pushed_by_fault fault ≡ told.Good → ⊥
-told-bad (UnknownTx _) is = cc
-told-bad (Twice _) is = cc
-told-bad (FateNotAllowed _) is = cc
-told-bad (RealTime _) is = cc
-told-bad (Illegal _) is = cc
-told-bad (Missing _) is = cc
+reported-bad : (fault : OrderFault) → pushed_by_fault fault ≡ reported.Good → ⊥
+reported-bad (UnknownTx _) is = cc
+reported-bad (Twice _) is = cc
+reported-bad (FateNotAllowed _) is = cc
+reported-bad (RealTime _) is = cc
+reported-bad (Illegal _) is = cc
+reported-bad (Missing _) is = cc
 
-pub bad-told : (objects : List Declared) (h : History) (p : List Decision) (d : Decision) (fault : OrderFault) (pushed : Pushed) → pushed ≡ pushed_by_fault fault → place_fault objects h p d ≡ Some fault →
-    (pushed ≡ told.Good) ↔ IsGoodNext objects h p d
-bad-told objects h p d fault pushed is some = (
-  (λ good. absurd (told-bad fault (sym is ∙ good))),
+pub bad-reported : (objects : List Declared) (h : History) (p : List Decision) (d : Decision) (fault : OrderFault) (pushed : Pushed) → pushed ≡ pushed_by_fault fault → place_fault objects h p d ≡ Some fault →
+    (pushed ≡ reported.Good) ↔ IsGoodNext objects h p d
+bad-reported objects h p d fault pushed is some = (
+  (λ good. absurd (reported-bad fault (sym is ∙ good))),
   (λ next. let none : place_fault objects h p d ≡ None = no_fault-from_IsGoodNext objects h p d next in absurd (cc)),
 )
 

@@ -11,7 +11,7 @@ use Rattle.aud_witness.specs.Orders.{IsGood, IsGoodNext}
 use Rattle.aud_witness.specs.Spots.{Spot, first_spot, stepped}
 use Rattle.aud_witness.specs.Placings.{PlacingOf}
 use Rattle.aud_order.specs.declared.pushed.Pushed.{Pushed}
-use Rattle.aud_order.specs.declared.pushed.Pushed.TheVariants as told
+use Rattle.aud_order.specs.declared.pushed.Pushed.TheVariants as reported
 use Rattle.aud_order.specs.Shapes.{ShapeOf, plan_of, objects_of, history_of}
 
 -- how contracts see a cursor
@@ -46,16 +46,16 @@ transaction_at c place = slice_index_or (transactions (history_of c.shape)) plac
 
 -- what a cursor says of a decision in which something is wrong
 abbrev pub pushed_by_fault : OrderFault → Pushed
-pushed_by_fault (UnknownTx _) = told.NotAChoice
-pushed_by_fault (Twice _) = told.NotAChoice
-pushed_by_fault (FateNotAllowed _) = told.NotAChoice
-pushed_by_fault (RealTime _) = told.NotEnabled
-pushed_by_fault (Illegal _) = told.Illegal
-pushed_by_fault (Missing _) = told.NotAChoice
+pushed_by_fault (UnknownTx _) = reported.NotAChoice
+pushed_by_fault (Twice _) = reported.NotAChoice
+pushed_by_fault (FateNotAllowed _) = reported.NotAChoice
+pushed_by_fault (RealTime _) = reported.NotEnabled
+pushed_by_fault (Illegal _) = reported.Illegal
+pushed_by_fault (Missing _) = reported.NotAChoice
 
 -- what a cursor says of a decision, by what is wrong with it
 abbrev pub pushed_by : Option OrderFault → Pushed
-pushed_by None = told.Good
+pushed_by None = reported.Good
 pushed_by (Some fault) = pushed_by_fault fault
 
 -- what a cursor says of a decision

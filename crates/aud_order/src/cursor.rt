@@ -126,7 +126,7 @@ impl<'a, A: Allocator + Copy> Cursor<'a, A> {
     /// Places a decision after the others if it is good there, or reports the first thing that is wrong with it. Only where
     /// it is good the cursor changes.
     pub fn push(&mut self, decision: Decision) -> Result<Pushed, OutOfMemory>
-        ensures told { IfOk result (λ pushed. pushed ≡ pushed_at self.old decision) }
+        ensures reported { IfOk result (λ pushed. pushed ≡ pushed_at self.old decision) }
         ensures good { IfOk result (λ pushed. (pushed ≡ Pushed.Good) ↔ IsGoodAt self.old decision) }
 
         // Only a good decision moves the cursor.

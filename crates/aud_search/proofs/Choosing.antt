@@ -269,8 +269,8 @@ marked-push old new t silent x grown mark of c there =
 pub marked-more : (h : History) (old mid new : List Choice) (t : ℕ) (silent : Option Fate) → AreMarked h old → AreMarkedFrom old mid t silent → AreMarkedFrom mid new t silent → silent ≡ silent_fate h t → AreMarked h new
 marked-more h old mid new t silent marked first second is c there mark =
     elim (second c there) [
-      | inl before ↦ elim (first c before) [ inl earlier ↦ marked c earlier mark | inr told ↦ by (told mark) ]
-      | inr told ↦ by (told mark)
+      | inl before ↦ elim (first c before) [ inl earlier ↦ marked c earlier mark | inr reported ↦ by (reported mark) ]
+      | inr reported ↦ by (reported mark)
     ]
   where
     by : (silent ≡ Some c.decision.fate) × (c.decision.tx ≡ t) → silent_fate h c.decision.tx ≡ Some c.decision.fate

@@ -15,7 +15,7 @@ use Rattle.aud_search.specs.declared.memo.Reason.{Reason}
 use Rattle.aud_search.specs.declared.search.Turn.{Turn}
 use Rattle.aud_search.specs.Choices.{AreChoices}
 use Rattle.aud_search.specs.Levels.{IsSearching}
-use Rattle.aud_search.specs.Memos.{MemoOf, NameWay, IsTold}
+use Rattle.aud_search.specs.Memos.{MemoOf, NameWay, IsReported}
 use Rattle.aud_search.specs.Recorders.{HasNote, HasSilent, IsReason, AreKept, IsSilentAt, reason_by}
 use Rattle.aud_search.specs.Tried.{IsFound, IsNextPlace, ArePassed}
 use Rattle.aud_search.proofs.Passing.{passed-search, passed-follows}
@@ -163,15 +163,15 @@ module _ {V N : Type 0} (noted : V → N → List Decision → Type 0) (grows : 
   pub note-on : (r s : V) → grows r s → (p : List Decision) → HasNote (noted r) p → HasNote (noted s) p
   note-on r s on p (note, was) = (note, stays r s note p on was)
 
-  pub told-on : (a b c : MemoOf V) → IsTold grows a b → IsTold grows b c → IsTold grows a c
-  told-on a b c first second = record {
+  pub reported-on : (a b c : MemoOf V) → IsReported grows a b → IsReported grows b c → IsReported grows a c
+  reported-on a b c first second = record {
     shape = second.shape ∙ first.shape;
     states = second.states ∙ first.states;
     recorder = onward a.recorder b.recorder c.recorder first.recorder second.recorder;
   }
 
-pub told-itself : {V : Type 0} (grows : V → V → Type 0) (itself : (r : V) → grows r r) (a : MemoOf V) → IsTold grows a a
-told-itself grows itself a = record { shape = refl; states = refl; recorder = itself a.recorder }
+pub reported-itself : {V : Type 0} (grows : V → V → Type 0) (itself : (r : V) → grows r r) (a : MemoOf V) → IsReported grows a a
+reported-itself grows itself a = record { shape = refl; states = refl; recorder = itself a.recorder }
 
 -- # The loop
 
@@ -187,14 +187,14 @@ pub record Round {V N : Type 0} (noted : V → N → List Decision → Type 0) (
   pub opens : AreOpen (HasNote (noted memo.recorder)) start.shape cs (reverse turns) cur.path
 
 pub round : {V N : Type 0} (noted : V → N → List Decision → Type 0) (grows : V → V → Type 0) (stays : (r s : V) (note : N) (p : List Decision) → grows r s → noted r note p → noted s note p) (start at cur : CursorOf) (was memo : MemoOf V) (cs : List Choice)
-    (used from : ℕ) (here : Turn) (turns : List Turn) → cur ≡ at → IsTold grows was memo → at.shape ≡ start.shape → was.shape ≡ start.shape → NameWay start.shape was.states (here.states ∷ reverse (map states_of turns)) at.path →
+    (used from : ℕ) (here : Turn) (turns : List Turn) → cur ≡ at → IsReported grows was memo → at.shape ≡ start.shape → was.shape ≡ start.shape → NameWay start.shape was.states (here.states ∷ reverse (map states_of turns)) at.path →
     IsSearching (objects_of start.shape) (history_of start.shape) start.path cs used at.path here.next (reverse (map next_of turns)) → IsHeard (HasNote (noted was.recorder)) start.shape cs at.path here.next here.silent →
     AreOpen (HasNote (noted was.recorder)) start.shape cs (reverse turns) at.path → ArePassed at cs here.next from → AreKept (HasNote (noted memo.recorder)) at.shape cs at.path here.next from → Round noted start cur memo cs used from here turns
-round noted grows stays start at cur was memo cs used from here turns is told same shape way searching heard opens passed kept =
+round noted grows stays start at cur was memo cs used from here turns is reported same shape way searching heard opens passed kept =
     subst (λ (v : CursorOf). Round noted start v memo cs used from here turns) (sym is) (record {
       same = same;
-      memo_same = told.shape ∙ shape;
-      way = subst (λ l. NameWay start.shape l (here.states ∷ reverse (map states_of turns)) at.path) (sym told.states) way;
+      memo_same = reported.shape ∙ shape;
+      way = subst (λ l. NameWay start.shape l (here.states ∷ reverse (map states_of turns)) at.path) (sym reported.states) way;
       before = searching;
       passed = passed;
       searching = passed-search start at cs used here.next from (reverse (map next_of turns)) same searching passed;
@@ -204,7 +204,7 @@ round noted grows stays start at cur was memo cs used from here turns is told sa
     })
   where
     on : (p : List Decision) → HasNote (noted was.recorder) p → HasNote (noted memo.recorder) p
-    on p (note, holds) = (note, stays was.recorder memo.recorder note p told.recorder holds)
+    on p (note, holds) = (note, stays was.recorder memo.recorder note p reported.recorder holds)
 
 reverse-push : {X : Type 0} (xs : List X) (x : X) → reverse (xs ++ x ∷ []) ≡ x ∷ reverse xs
 reverse-push xs x = reverse-append xs (x ∷ [])

@@ -30,10 +30,10 @@ use Rattle.aud_search.specs.declared.outcome.Outcome.TheVariants as outcome
 use Rattle.aud_search.specs.declared.outcome.Ended.{Ended}
 use Rattle.aud_search.specs.declared.outcome.Ended.TheVariants as ended
 use Rattle.aud_search.specs.Choices.{AreChoices}
-use Rattle.aud_search.specs.Searches.{SpentBy, Tells}
+use Rattle.aud_search.specs.Searches.{SpentBy, Reports}
 use Rattle.aud_search.specs.Levels.{AreTried, IsSearching, IsOneLess}
 use Rattle.aud_search.specs.Memos.{MemoOf, states_reached, Names, NameWay, IsStep}
-use Rattle.aud_search.specs.Tried.{IsTried, IsFound, IsNextPlace, Spends, TellsFrom, outcome_of}
+use Rattle.aud_search.specs.Tried.{IsTried, IsFound, IsNextPlace, Spends, ReportsFrom, outcome_of}
 use Rattle.aud_search.proofs.Levels.{there-below, tried-more, tried-after, search-on, search-deeper, search-spent, search-unspent, refuted-here, search-back, search-refuted, search-begins}
 use Rattle.aud_search.proofs.Weights.{weigh, lighter-deeper, lighter-on, lighter-back}
 
@@ -112,7 +112,7 @@ spends-more None None (Some rest) used spends less = absurd less
 spends-more (Some whole) (Some left) None used spends less = absurd less
 
 pub spent-from : (N X : Type 0) (noted : N → List Decision → Type 0) (objects : List Declared) (h : History) (p : List Decision) (budget left : Option ℕ) (used : ℕ) → Spends budget used left → left ≡ Some 0 → SpentBy objects h p used →
-    TellsFrom {N = N} {X = X} objects h noted p budget ended.Spent
+    ReportsFrom {N = N} {X = X} objects h noted p budget ended.Spent
 spent-from N X noted objects h p None None used spends none spent = absurd (cc)
 spent-from N X noted objects h p None (Some left) used spends none spent = absurd spends
 spent-from N X noted objects h p (Some whole) None used spends none spent = absurd (cc)
@@ -122,19 +122,19 @@ spent-from N X noted objects h p (Some whole) (Some left) used spends none spent
     let all : used ≡ whole + 1 = omega arith in
     subst (λ n. SpentBy objects h p n) all spent
 
-pub tells-spent : (X : Type 0) (objects : List Declared) (h : History) (p : List Decision) (budget : Option ℕ) → budget ≡ Some 0 → SpentBy objects h p 0 → Tells {X = X} objects h p budget outcome.Spent
-tells-spent X objects h p None none spent = absurd (cc)
-tells-spent X objects h p (Some whole) none spent = let zero_left : 0 ≡ whole = cc in subst (λ n. SpentBy objects h p n) zero_left spent
+pub reports-spent : (X : Type 0) (objects : List Declared) (h : History) (p : List Decision) (budget : Option ℕ) → budget ≡ Some 0 → SpentBy objects h p 0 → Reports {X = X} objects h p budget outcome.Spent
+reports-spent X objects h p None none spent = absurd (cc)
+reports-spent X objects h p (Some whole) none spent = let zero_left : 0 ≡ whole = cc in subst (λ n. SpentBy objects h p n) zero_left spent
 
-pub tells-from : (N X : Type 0) (noted : N → List Decision → Type 0) (objects : List Declared) (h : History) (p : List Decision) (budget left : Option ℕ) (o : Ended N X) → IsOneLess budget left → TellsFrom objects h noted p left o →
-    Tells {X = X} objects h p budget (outcome_of o)
-tells-from N X noted objects h p budget left (ended.Refuted note) less told = told.0
-tells-from N X noted objects h p budget left (ended.Witness q) less told = told
-tells-from N X noted objects h p None None ended.Spent less told = absurd told
-tells-from N X noted objects h p (Some whole) (Some left) ended.Spent less told =
-    let fewer : whole ≡ left + 1 = less in subst (λ n. SpentBy objects h p n) (sym fewer) told
-tells-from N X noted objects h p None (Some left) ended.Spent less told = absurd less
-tells-from N X noted objects h p (Some whole) None ended.Spent less told = absurd less
+pub reports-from : (N X : Type 0) (noted : N → List Decision → Type 0) (objects : List Declared) (h : History) (p : List Decision) (budget left : Option ℕ) (o : Ended N X) → IsOneLess budget left → ReportsFrom objects h noted p left o →
+    Reports {X = X} objects h p budget (outcome_of o)
+reports-from N X noted objects h p budget left (ended.Refuted note) less reported = reported.0
+reports-from N X noted objects h p budget left (ended.Witness q) less reported = reported
+reports-from N X noted objects h p None None ended.Spent less reported = absurd reported
+reports-from N X noted objects h p (Some whole) (Some left) ended.Spent less reported =
+    let fewer : whole ≡ left + 1 = less in subst (λ n. SpentBy objects h p n) (sym fewer) reported
+reports-from N X noted objects h p None (Some left) ended.Spent less reported = absurd less
+reports-from N X noted objects h p (Some whole) None ended.Spent less reported = absurd less
 
 -- # The loop
 
@@ -349,14 +349,14 @@ whole-witness shape cur p w is good full same =
     (([], same ∙ sym (append-nil p)), subst (λ l. Shows (objects_of shape) (history_of shape) l) (sym same) shown)
 
 pub whole-spent : (X : Type 0) (shape : ShapeOf) (cur : CursorOf) (p : List Decision) (budget : Option ℕ) → cur ≡ cursor_at shape p → IsGood (objects_of cur.shape) (history_of cur.shape) cur.path →
-    (IsFull (history_of cur.shape) cur.path → ⊥) → budget ≡ Some 0 → Tells {X = X} (objects_of shape) (history_of shape) p budget outcome.Spent
+    (IsFull (history_of cur.shape) cur.path → ⊥) → budget ≡ Some 0 → Reports {X = X} (objects_of shape) (history_of shape) p budget outcome.Spent
 whole-spent X shape cur p budget is good unfull none =
-    tells-spent X (objects_of shape) (history_of shape) p budget none
+    reports-spent X (objects_of shape) (history_of shape) p budget none
     (subst (λ (v : CursorOf). SpentBy (objects_of v.shape) (history_of v.shape) v.path 0) is (search-unspent (objects_of cur.shape) (history_of cur.shape) cur.path good unfull))
 
-pub whole-told : (N X : Type 0) (noted : N → List Decision → Type 0) (shape : ShapeOf) (cur : CursorOf) (p : List Decision) (budget left : Option ℕ) (o : Ended N X) (w : Outcome X) → cur ≡ cursor_at shape p → IsOneLess budget left →
-    TellsFrom (objects_of cur.shape) (history_of cur.shape) noted cur.path left o → w ≡ outcome_of o → Tells {X = X} (objects_of shape) (history_of shape) p budget w
-whole-told N X noted shape cur p budget left o w is less told same =
-    subst (λ (x : Outcome X). Tells {X = X} (objects_of shape) (history_of shape) p budget x) (sym same)
-    (tells-from N X noted (objects_of shape) (history_of shape) p budget left o less
-    (subst (λ (v : CursorOf). TellsFrom (objects_of v.shape) (history_of v.shape) noted v.path left o) is told))
+pub whole-reported : (N X : Type 0) (noted : N → List Decision → Type 0) (shape : ShapeOf) (cur : CursorOf) (p : List Decision) (budget left : Option ℕ) (o : Ended N X) (w : Outcome X) → cur ≡ cursor_at shape p → IsOneLess budget left →
+    ReportsFrom (objects_of cur.shape) (history_of cur.shape) noted cur.path left o → w ≡ outcome_of o → Reports {X = X} (objects_of shape) (history_of shape) p budget w
+whole-reported N X noted shape cur p budget left o w is less reported same =
+    subst (λ (x : Outcome X). Reports {X = X} (objects_of shape) (history_of shape) p budget x) (sym same)
+    (reports-from N X noted (objects_of shape) (history_of shape) p budget left o less
+    (subst (λ (v : CursorOf). ReportsFrom (objects_of v.shape) (history_of v.shape) noted v.path left o) is reported))

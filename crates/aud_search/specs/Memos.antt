@@ -72,7 +72,7 @@ pub record IsGrown {V : Type 0} (old new : MemoOf V) : Type 0 where
   pub recorder : new.recorder ≡ old.recorder
 
 -- only the recorder heard of something
-pub record IsTold {V : Type 0} (grows : V → V → Type 0) (old new : MemoOf V) : Type 0 where
+pub record IsReported {V : Type 0} (grows : V → V → Type 0) (old new : MemoOf V) : Type 0 where
   pub shape : new.shape ≡ old.shape
   pub states : new.states ≡ old.states
   pub recorder : grows old.recorder new.recorder

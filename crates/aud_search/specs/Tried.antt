@@ -46,11 +46,11 @@ Spends None used (Some left) = ⊥
 Spends (Some whole) used None = ⊥
 
 -- what is reported of the lists that begin with one that was expanded, where so much of the budget is left
-abbrev pub TellsFrom : {N X : Type 0} → List Declared → History → (N → List Decision → Type 0) → List Decision → Option ℕ → Ended N X → Type 0
-TellsFrom objects h noted p left (ended.Refuted note) = Refuted objects h p × noted note p
-TellsFrom objects h noted p left (ended.Witness q) = BeginsWith p q × Shows objects h q
-TellsFrom objects h noted p (Some left) ended.Spent = SpentBy objects h p (left + 1)
-TellsFrom objects h noted p None ended.Spent = ⊥
+abbrev pub ReportsFrom : {N X : Type 0} → List Declared → History → (N → List Decision → Type 0) → List Decision → Option ℕ → Ended N X → Type 0
+ReportsFrom objects h noted p left (ended.Refuted note) = Refuted objects h p × noted note p
+ReportsFrom objects h noted p left (ended.Witness q) = BeginsWith p q × Shows objects h q
+ReportsFrom objects h noted p (Some left) ended.Spent = SpentBy objects h p (left + 1)
+ReportsFrom objects h noted p None ended.Spent = ⊥
 
 -- the same without the note
 abbrev pub outcome_of : {N X : Type 0} → Ended N X → Outcome X
@@ -59,5 +59,5 @@ outcome_of (ended.Witness q) = outcome.Witness q
 outcome_of ended.Spent = outcome.Spent
 
 -- the same of the lists that begin with the cursor's
-abbrev pub TellsAt : {N X : Type 0} → CursorOf → (N → List Decision → Type 0) → Option ℕ → Ended N X → Type 0
-TellsAt at noted left e = TellsFrom (objects_of at.shape) (history_of at.shape) noted at.path left e
+abbrev pub ReportsAt : {N X : Type 0} → CursorOf → (N → List Decision → Type 0) → Option ℕ → Ended N X → Type 0
+ReportsAt at noted left e = ReportsFrom (objects_of at.shape) (history_of at.shape) noted at.path left e

@@ -96,7 +96,7 @@ fn leads_to<A: Allocator + Copy>(
     way: &[u32],
     other: &Store<A>,
 ) -> bool
-    ensures told { IsTrue result → run_way (history_of shape.now) store.old.now (reverse way.now) ≡ Some other.now.now }
+    ensures reported { IsTrue result → run_way (history_of shape.now) store.old.now (reverse way.now) ≡ Some other.now.now }
     ensures stays { store.new ≡ store.old }
 {
     let Some((tx, rest)) = way.split_last() else {
@@ -145,7 +145,7 @@ fn leads_from<A: Allocator + Copy>(
     way: &[u32],
     other: &Store<A>,
 ) -> bool
-    ensures told { IsTrue result → LeadsFrom (history_of shape.now) kept.old (reverse way.now) other.now.now }
+    ensures reported { IsTrue result → LeadsFrom (history_of shape.now) kept.old (reverse way.now) other.now.now }
     ensures stays { kept.new ≡ kept.old }
 {
     match kept {
@@ -162,7 +162,7 @@ fn is_kept<A: Allocator + Copy>(
     number: usize,
     store: &Store<A>,
 ) -> bool
-    ensures told { IsTrue result → Names (states_of (history_of shape.now) kept.old.items) (Some number) store.now.now }
+    ensures reported { IsTrue result → Names (states_of (history_of shape.now) kept.old.items) (Some number) store.now.now }
     ensures stays { kept.new.items ≡ kept.old.items }
 {
     let Some(first) = way_to(kept, way, number) else {
@@ -182,7 +182,7 @@ fn find_states<A: Allocator + Copy>(
     digest: u64,
     store: &Store<A>,
 ) -> Option<usize>
-    ensures told { Names (states_of (history_of shape.now) kept.old.items) result store.now.now }
+    ensures reported { Names (states_of (history_of shape.now) kept.old.items) result store.now.now }
     ensures stays { kept.new.items ≡ kept.old.items }
 {
     for step in 0..LOOKS {

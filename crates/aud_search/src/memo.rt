@@ -9,7 +9,7 @@ ghost use Rattle.aud_witness.specs.Orders.{Refuted};
 ghost use Rattle.aud_order.specs.Shapes.{objects_of, history_of};
 ghost use Rattle.aud_order.specs.Cursors.{IsGoodAt};
 ghost use Rattle.aud_search.specs.Kept.{LeadsTo};
-ghost use Rattle.aud_search.specs.Memos.{states_reached, Names, IsLead, IsGrown, IsTold, IsStep, IsNext, IsAfter, LeavesStates, IsRefutedAt, IsRefutedAfter};
+ghost use Rattle.aud_search.specs.Memos.{states_reached, Names, IsLead, IsGrown, IsReported, IsStep, IsNext, IsAfter, LeavesStates, IsRefutedAt, IsRefutedAfter};
 ghost use Rattle.aud_search.specs.Recorders.{IsReason, IsNotedAlike, HasNote, IsNotedAfter};
 ghost use Rattle.aud_search.specs.Spots.{AreWith};
 
@@ -173,7 +173,7 @@ impl<'a, N: Copy, R: Recorder<N>, A: Allocator + Copy> Memo<'a, N, R, A> {
         requires shape { self.old.shape ≡ cursor.now.shape }
         requires reason { IsReason (R.noted self.old.recorder) cursor.now.shape cursor.now.path reason }
         ensures noted { IfOk result (λ note. R.noted self.new.recorder note cursor.now.path) }
-        ensures told { IsTold R.grows self.old self.new }
+        ensures reported { IsReported R.grows self.old self.new }
     {
         let list = cursor.prefix();
         match reason {

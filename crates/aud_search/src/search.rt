@@ -9,10 +9,10 @@ ghost use Rattle.aud_order.specs.Shapes.{plan_of, objects_of, history_of};
 ghost use Rattle.aud_search.specs.Choices.{AreChoices};
 ghost use Rattle.aud_search.specs.Levels.{IsOneLess};
 ghost use Rattle.aud_search.specs.Readiness.{IsReady};
-ghost use Rattle.aud_search.specs.Searches.{Tells, TellsWith, Decides, DecidesByLetter};
+ghost use Rattle.aud_search.specs.Searches.{Reports, ReportsWith, Decides, DecidesByLetter};
 ghost use Rattle.aud_order.specs.Cursors.{IsGoodAt, cursor_back, cursor_with};
-ghost use Rattle.aud_search.specs.Tried.{IsTried, IsFound, IsNextPlace, ArePassed, TellsFrom, TellsAt};
-ghost use Rattle.aud_search.specs.Memos.{Names, states_reached, IsTold};
+ghost use Rattle.aud_search.specs.Tried.{IsTried, IsFound, IsNextPlace, ArePassed, ReportsFrom, ReportsAt};
+ghost use Rattle.aud_search.specs.Memos.{Names, states_reached, IsReported};
 ghost use Rattle.aud_search.specs.Recorders.{HasNote, IsNotedFor, IsNotedAlike, AreKept, IsSilentAt, reason_by, IsNotedAfter};
 
 use crate::choice::{Choice, Effect, choices_of};
@@ -83,7 +83,7 @@ fn pass<N: Copy, R: Recorder<N>, A: Allocator + Copy>(
     requires alike { IsNotedAfter cursor.old decision (R.noted memo.old.recorder note) }
     ensures noted { OnOk result (IsGoodAt cursor.old decision → HasNote (R.noted memo.new.recorder) (cursor.old.path ++ decision ∷ [])) }
     ensures stays { OnOk result (cursor.new ≡ cursor.old) }
-    ensures told { OnOk result (IsTold R.grows memo.old memo.new) }
+    ensures reported { OnOk result (IsReported R.grows memo.old memo.new) }
 {
     if memo.is_deaf() {
         return Ok(());
@@ -113,7 +113,7 @@ fn pass_known<N: Copy, R: Recorder<N>, A: Allocator + Copy>(
     ensures passed { IfOk result (ArePassed cursor.old choices.now here.next) }
     ensures kept { IfOk result (AreKept (HasNote (R.noted memo.new.recorder)) cursor.old.shape choices.now cursor.old.path here.next) }
     ensures stays { OnOk result (cursor.new ≡ cursor.old) }
-    ensures told { OnOk result (IsTold R.grows memo.old memo.new) }
+    ensures reported { OnOk result (IsReported R.grows memo.old memo.new) }
 {
     let mut from = here.next;
     while let Some(place) = ready.next(from) {
@@ -230,7 +230,7 @@ fn search_from<'a, N: Copy, R: Recorder<N>, A: Allocator + Copy>(
     requires unfull { IsFull (history_of cursor.old.shape) cursor.old.path → ⊥ }
     requires fine { IsWellFormed (history_of cursor.old.shape) }
     requires within { IsWithinLimits (plan_of cursor.old.shape) (history_of cursor.old.shape) }
-    ensures told { IfOk result (TellsAt cursor.old (R.noted memo.new.recorder) budget) }
+    ensures reported { IfOk result (ReportsAt cursor.old (R.noted memo.new.recorder) budget) }
     ensures shape { OnOk result (memo.new.shape ≡ memo.old.shape) }
 {
     let mut left = budget;
@@ -282,7 +282,7 @@ fn search<'a, A: Allocator + Copy>(
     memo: &mut Memo<'a, Unnoted, Unrecorded, A>,
 ) -> Result<Outcome<A>, OutOfMemory>
     requires { memo.old.shape ≡ shape.now }
-    ensures told { IfOk result (Tells (objects_of shape.now) (history_of shape.now) prefix.now budget) }
+    ensures reported { IfOk result (Reports (objects_of shape.now) (history_of shape.now) prefix.now budget) }
     ensures shape { OnOk result (memo.new.shape ≡ memo.old.shape) }
 {
     let Some(mut cursor) = Cursor::after(alloc, shape, prefix)? else {
@@ -336,7 +336,7 @@ impl<'a, A: Allocator + Copy> Memory<'a, A> {
     /// Whether some list that begins with the prefix shows the history, as `explore` says it. What it refutes is remembered, and
     /// what was remembered costs no expansion. Where memory is refused all is forgotten.
     pub fn explore(&mut self, prefix: &Prefix<A>, budget: u64) -> Result<Outcome<A>, OutOfMemory>
-        ensures told { IfOk result (Tells (objects_of self.old) (history_of self.old) prefix.now (Some budget)) }
+        ensures reported { IfOk result (Reports (objects_of self.old) (history_of self.old) prefix.now (Some budget)) }
         ensures shape { self.new ≡ self.old }
     {
         self.memo.move_away();
@@ -366,7 +366,7 @@ pub fn explore<A: Allocator + Copy>(
     prefix: &Prefix<A>,
     budget: u64,
 ) -> Result<Outcome<A>, OutOfMemory>
-    ensures { IfOk result (Tells (objects_of shape.now) (history_of shape.now) prefix.now (Some budget)) }
+    ensures { IfOk result (Reports (objects_of shape.now) (history_of shape.now) prefix.now (Some budget)) }
 {
     Memory::new(alloc, shape).explore(prefix, budget)
 }
@@ -393,7 +393,7 @@ pub fn search_with<N: Copy, R: Recorder<N>, A: Allocator + Copy>(
     recorder: R,
 ) -> Result<Searched<R, N, A>, OutOfMemory>
     requires { R.is_for recorder shape.now }
-    ensures { IfOk result (TellsWith (objects_of shape.now) (history_of shape.now) (IsNotedFor R.is_for R.noted shape.now)) }
+    ensures { IfOk result (ReportsWith (objects_of shape.now) (history_of shape.now) (IsNotedFor R.is_for R.noted shape.now)) }
 {
     let mut cursor = Cursor::root(alloc, shape)?;
     let _ = cursor.prefix();

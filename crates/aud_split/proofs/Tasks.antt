@@ -24,14 +24,14 @@ Lists = List (List Decision)
 
 -- by its length a list is known to be empty
 pub none_by_length : (b : Bool) (n : ℕ) (ks : List Decision) → b ≡ (n == 0) → n ≡ length ks → b ≡ true → ks ≡ []
-none_by_length b n [] told long is = refl
-none_by_length b n (k ∷ ks) told long is = let none : n ≡ 0 = nat_eq-is n 0 (sym told ∙ is) in absurd (omega arith)
+none_by_length b n [] reported long is = refl
+none_by_length b n (k ∷ ks) reported long is = let none : n ≡ 0 = nat_eq-is n 0 (sym reported ∙ is) in absurd (omega arith)
 
 pub some_by_length : (b : Bool) (n : ℕ) (ks : List Decision) → b ≡ (n == 0) → n ≡ length ks → b ≡ false → ks ≡ [] → ⊥
-some_by_length b n ks told long is empty =
+some_by_length b n ks reported long is empty =
     let short : length ks ≡ 0 = ap length empty in
     let none : n ≡ 0 = omega arith in
-    let clash : b ≡ true = told ∙ ap (λ m. m == 0) none in
+    let clash : b ≡ true = reported ∙ ap (λ m. m == 0) none in
     absurd (cc)
 
 module _ (objects : List Declared) (h : History) where

@@ -152,9 +152,9 @@ abbrev pub objects_left : List ℕ → List ℕ → ℕ → ℕ → Result (List
 objects_left text left number count = objects_read (length (lines_of text) + 1) (length text - length left) count (filled_left (length text) number left)
 
 -- a fault of the objects together, as it is reported
-abbrev pub told_as : PlanFault → TextFault
-told_as OutOfMemory = fault.OutOfMemory
-told_as e = fault.Plan e
+abbrev pub reported_as : PlanFault → TextFault
+reported_as OutOfMemory = fault.OutOfMemory
+reported_as e = fault.Plan e
 
 abbrev pub plan_checked : PlanOf → ℕ → Option PlanFault → Result (PlanOf × ℕ) PlanTextFault
 plan_checked plan used None = Ok (plan, used)

@@ -2,7 +2,7 @@
 
 ghost use Rattle.std.specs.Prelude.{◌≡◌, ◌+◌, ◌≤◌, ◌⊎◌, Ok, Err, length, MatchResult};
 ghost use Rattle.aud_text.specs.Lines.{lines_of};
-ghost use Rattle.aud_text.specs.PlanText.{plan_read, objects_left, at_line, told_as};
+ghost use Rattle.aud_text.specs.PlanText.{plan_read, objects_left, at_line, reported_as};
 
 use crate::fault::{PlanTextFault, TextFault};
 use crate::header::{fault_of_header, read_header};
@@ -23,15 +23,15 @@ fn ends_early(text: &[u8]) -> PlanTextFault
 
 /// A fault of the objects together: it stands at no line.
 fn whole_fault(fault: PlanFault) -> PlanTextFault
-    ensures { result ≡ at_line 0 (told_as fault) }
+    ensures { result ≡ at_line 0 (reported_as fault) }
 {
-    let told = match fault {
+    let reported = match fault {
         PlanFault::OutOfMemory => TextFault::OutOfMemory,
         other => TextFault::Plan(other),
     };
     PlanTextFault {
         line: 0,
-        fault: told,
+        fault: reported,
     }
 }
 

@@ -266,9 +266,9 @@ set-named f g (x ∷ ts) (suc k) t d differ inside at placed others =
 -- # One decision
 
 -- what a step says of a decision after a list
-abbrev pub Told : List Declared → History → List Decision → Decision → Result Spot OrderFault → Type 0
-Told objects h p d (Ok s) = (place_fault objects h p d ≡ None) × Stands objects h (p ++ d ∷ []) s
-Told objects h p d (Err fault) = place_fault objects h p d ≡ Some fault
+abbrev pub Reported : List Declared → History → List Decision → Decision → Result Spot OrderFault → Type 0
+Reported objects h p d (Ok s) = (place_fault objects h p d ≡ None) × Stands objects h (p ++ d ∷ []) s
+Reported objects h p d (Err fault) = place_fault objects h p d ≡ Some fault
 
 -- the tests of a decision in turn, and what is reported of the first that fails
 abbrev fault_by : Bool → Bool → Bool → Bool → Bool → ℕ → Option OrderFault
@@ -332,15 +332,15 @@ Stands-next objects h p s d k d0 after fine stands inside at allowed legal is =
         }
 
 -- a decision of which nothing is wrong but perhaps its block
-told-block : (objects : List Declared) (h : History) (p : List Decision) (s : Spot) (d : Decision) (k d0 : ℕ) → IsWellFormed h → AllFit objects (events_of d.tx h) → Stands objects h p s →
+reported-block : (objects : List Declared) (h : History) (p : List Decision) (s : Spot) (d : Decision) (k d0 : ℕ) → IsWellFormed h → AllFit objects (events_of d.tx h) → Stands objects h p s →
     k < length (transactions h) → get_or (transactions h) k d0 ≡ d.tx → is_in h d.tx ≡ true → is_named p d.tx ≡ false → is_allowed h d.tx d.fate ≡ true → is_enabled h p d.tx ≡ true →
-    Told objects h p d (block_stepped s d k (row_of h d.tx))
-told-block objects h p s d k d0 fine fit stands inside at there new allowed enabled =
+    Reported objects h p d (block_stepped s d k (row_of h d.tx))
+reported-block objects h p s d k d0 fine fit stands inside at there new allowed enabled =
     go (replayed s.states (block_of (events_of d.tx h)))
     (subst (λ l. Replays objects (kept h p ++ block h d) (replayed l (block_of (events_of d.tx h)))) (sym stands.states) (replays objects h (kept h p) d fine fit stands.whole stands.legal))
   where
     go : (o : Option (List ObjState)) → Replays objects (kept h p ++ block h d) o →
-        Told objects h p d (elim o as (λ (_ : Option (List ObjState)). Result Spot OrderFault) [ None ↦ Err (Illegal d.tx) | Some after ↦ Ok (record { placed = slice_set s.placed k true; states = states_with d.fate s.states after }) ])
+        Reported objects h p d (elim o as (λ (_ : Option (List ObjState)). Result Spot OrderFault) [ None ↦ Err (Illegal d.tx) | Some after ↦ Ok (record { placed = slice_set s.placed k true; states = states_with d.fate s.states after }) ])
     go None illegal = place-by objects h p d true false true true false there new allowed enabled illegal
     go (Some after) (legal, (all, is)) =
         (place-by objects h p d true false true true true there new allowed enabled legal, Stands-next objects h p s d k d0 after fine stands inside at allowed all is)
@@ -350,23 +350,23 @@ early_by named allowed enabled t =
     if named then Some (Twice t) else (if not allowed then Some (FateNotAllowed t) else (if not enabled then Some (RealTime t) else None))
 
 -- a decision on the row of its transaction
-told-row : (objects : List Declared) (h : History) (p : List Decision) (s : Spot) (d : Decision) (k d0 : ℕ) → IsWellFormed h → AllFit objects (events_of d.tx h) → Stands objects h p s →
-    k < length (transactions h) → get_or (transactions h) k d0 ≡ d.tx → is_in h d.tx ≡ true → Told objects h p d (row_stepped (table_of h) s d k (row_of h d.tx))
-told-row objects h p s d k d0 fine fit stands inside at there =
+reported-row : (objects : List Declared) (h : History) (p : List Decision) (s : Spot) (d : Decision) (k d0 : ℕ) → IsWellFormed h → AllFit objects (events_of d.tx h) → Stands objects h p s →
+    k < length (transactions h) → get_or (transactions h) k d0 ≡ d.tx → is_in h d.tx ≡ true → Reported objects h p d (row_stepped (table_of h) s d k (row_of h d.tx))
+reported-row objects h p s d k d0 fine fit stands inside at there =
     elim (split (is_named p d.tx)) [
-      | inl named ↦ told (Twice d.tx) (λ i. early_by (named i) (is_allowed h d.tx d.fate) (is_enabled h p d.tx) d.tx)
+      | inl named ↦ reported (Twice d.tx) (λ i. early_by (named i) (is_allowed h d.tx d.fate) (is_enabled h p d.tx) d.tx)
           (λ i. fault_by (there i) (named i) (is_allowed h d.tx d.fate) (is_enabled h p d.tx) (is_legal_from 0 objects (kept h p ++ block h d)) d.tx)
       | inr new ↦
           elim (split (is_allowed h d.tx d.fate)) [
-            | inr refused ↦ told (FateNotAllowed d.tx) (λ i. early_by (new i) (refused i) (is_enabled h p d.tx) d.tx)
+            | inr refused ↦ reported (FateNotAllowed d.tx) (λ i. early_by (new i) (refused i) (is_enabled h p d.tx) d.tx)
                 (λ i. fault_by (there i) (new i) (refused i) (is_enabled h p d.tx) (is_legal_from 0 objects (kept h p ++ block h d)) d.tx)
             | inl allowed ↦
                 elim (split (is_enabled h p d.tx)) [
-                  | inr early ↦ told (RealTime d.tx) (λ i. early_by (new i) (allowed i) (early i) d.tx)
+                  | inr early ↦ reported (RealTime d.tx) (λ i. early_by (new i) (allowed i) (early i) d.tx)
                       (λ i. fault_by (there i) (new i) (allowed i) (early i) (is_legal_from 0 objects (kept h p ++ block h d)) d.tx)
                   | inl enabled ↦
-                      subst (λ o. Told objects h p d (row_by o)) (sym (is_early ∙ (λ i. early_by (new i) (allowed i) (enabled i) d.tx)))
-                      (told-block objects h p s d k d0 fine fit stands inside at there new allowed enabled)
+                      subst (λ o. Reported objects h p d (row_by o)) (sym (is_early ∙ (λ i. early_by (new i) (allowed i) (enabled i) d.tx)))
+                      (reported-block objects h p s d k d0 fine fit stands inside at there new allowed enabled)
                 ]
           ]
     ]
@@ -386,20 +386,20 @@ told-row objects h p s d k d0 fine fit stands inside at there =
     is_early : early_fault (table_of h) s d k (row_of h d.tx) ≡ early_by (is_named p d.tx) (is_allowed h d.tx d.fate) (is_enabled h p d.tx) d.tx
     is_early = λ i. early_by (at_row i) (by_status i) (by_time i) d.tx
 
-    told : (fault : OrderFault) → early_by (is_named p d.tx) (is_allowed h d.tx d.fate) (is_enabled h p d.tx) d.tx ≡ Some fault → place_fault objects h p d ≡ Some fault →
-        Told objects h p d (row_stepped (table_of h) s d k (row_of h d.tx))
-    told fault early is = subst (λ o. Told objects h p d (row_by o)) (sym (is_early ∙ early)) is
+    reported : (fault : OrderFault) → early_by (is_named p d.tx) (is_allowed h d.tx d.fate) (is_enabled h p d.tx) d.tx ≡ Some fault → place_fault objects h p d ≡ Some fault →
+        Reported objects h p d (row_stepped (table_of h) s d k (row_of h d.tx))
+    reported fault early is = subst (λ o. Reported objects h p d (row_by o)) (sym (is_early ∙ early)) is
 
 -- a step by the rows of the table is a step by the definition
-pub stepped-told : (objects : List Declared) (h : History) (p : List Decision) (s : Spot) (d : Decision) → IsWellFormed h → AllFit objects (events_of d.tx h) → Stands objects h p s →
-    Told objects h p d (stepped (table_of h) s d)
-stepped-told objects h p s d fine fit stands = go (position (nat_eq d.tx) (map (λ (r : RowOf). r.tx) (table_of h))) refl
+pub stepped-reported : (objects : List Declared) (h : History) (p : List Decision) (s : Spot) (d : Decision) → IsWellFormed h → AllFit objects (events_of d.tx h) → Stands objects h p s →
+    Reported objects h p d (stepped (table_of h) s d)
+stepped-reported objects h p s d fine fit stands = go (position (nat_eq d.tx) (map (λ (r : RowOf). r.tx) (table_of h))) refl
   where
     keys : map (λ (r : RowOf). r.tx) (table_of h) ≡ transactions h
     keys = tx-rows h (transactions h)
 
     go : (o : Option ℕ) → position (nat_eq d.tx) (map (λ (r : RowOf). r.tx) (table_of h)) ≡ o →
-        Told objects h p d (elim o as (λ (_ : Option ℕ). Result Spot OrderFault) [ None ↦ Err (UnknownTx d.tx) | Some k ↦ elim (slice_get (table_of h) k) as (λ (_ : Option RowOf). Result Spot OrderFault) [ None ↦ Err (UnknownTx d.tx) | Some r ↦ row_stepped (table_of h) s d k r ] ])
+        Reported objects h p d (elim o as (λ (_ : Option ℕ). Result Spot OrderFault) [ None ↦ Err (UnknownTx d.tx) | Some k ↦ elim (slice_get (table_of h) k) as (λ (_ : Option RowOf). Result Spot OrderFault) [ None ↦ Err (UnknownTx d.tx) | Some r ↦ row_stepped (table_of h) s d k r ] ])
     go None none =
         let absent : is_in h d.tx ≡ false = sym (any-transactions h d.tx) ∙ absent-from_position (nat_eq d.tx) (transactions h) (ap (position (nat_eq d.tx)) (sym keys) ∙ none) in
         λ i. fault_by (absent i) (is_named p d.tx) (is_allowed h d.tx d.fate) (is_enabled h p d.tx) (is_legal_from 0 objects (kept h p ++ block h d)) d.tx
@@ -408,5 +408,5 @@ stepped-told objects h p s d fine fit stands = go (position (nat_eq d.tx) (map (
         let at : get_or (transactions h) k 0 ≡ d.tx = sym (nat_eq-is d.tx (get_or (transactions h) k 0) place.1) in
         let there : is_in h d.tx ≡ true = sym (any-transactions h d.tx) ∙ any-at d.tx (transactions h) k 0 place.0 place.1 in
         let row : slice_get (table_of h) k ≡ Some (row_of h d.tx) = row-at h (transactions h) k 0 place.0 ∙ ap (λ t. Some (row_of h t)) at in
-        subst (λ o. Told objects h p d (elim o as (λ (_ : Option RowOf). Result Spot OrderFault) [ None ↦ Err (UnknownTx d.tx) | Some r ↦ row_stepped (table_of h) s d k r ])) (sym row)
-        (told-row objects h p s d k 0 fine fit stands place.0 at there)
+        subst (λ o. Reported objects h p d (elim o as (λ (_ : Option RowOf). Result Spot OrderFault) [ None ↦ Err (UnknownTx d.tx) | Some r ↦ row_stepped (table_of h) s d k r ])) (sym row)
+        (reported-row objects h p s d k 0 fine fit stands place.0 at there)

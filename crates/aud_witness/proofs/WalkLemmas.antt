@@ -22,7 +22,7 @@ use Rattle.aud_witness.specs.Walks.{walked, are_all_placed, WalksSay, WalksAreGo
 use Rattle.aud_witness.proofs.Beginnings.{IsGood-from_Shows}
 use Rattle.aud_witness.proofs.Good.{IsGood-empty, IsGood-push, Shows-from_IsGood}
 use Rattle.aud_witness.proofs.Faults.{IsGoodNext-from_no_fault, no_fault-from_IsGoodNext, IsFull-from_IsGood, Shows-from_no_fault, no_fault-from_Shows}
-use Rattle.aud_witness.proofs.BridgeSteps.{AllFit, fit-from_plan, Stands, Stands-root, Told, stepped-told}
+use Rattle.aud_witness.proofs.BridgeSteps.{AllFit, fit-from_plan, Stands, Stands-root, Reported, stepped-reported}
 
 -- every event of every transaction fits the objects
 abbrev pub Fits : List Declared → History → Type 0
@@ -40,22 +40,22 @@ walked-good objects h p [] s t fine fits stands good led =
     let same : s ≡ t = cc in
     subst (λ l. IsGood objects h l × Stands objects h l t) (sym (append-nil p)) (good, subst (λ u. Stands objects h p u) same stands)
 walked-good objects h p (d ∷ rest) s t fine fits stands good led =
-    elim (stepped (table_of h) s d) as (λ (r : Result Spot OrderFault). Told objects h p d r → (elim r as (λ (_ : Result Spot OrderFault). Option Spot) [ Err _ ↦ None | Ok u ↦ walked (table_of h) u rest ]) ≡ Some t → IsGood objects h (p ++ d ∷ rest) × Stands objects h (p ++ d ∷ rest) t) [
-      | Err fault ↦ λ told none. absurd (cc)
-      | Ok u ↦ λ told on.
+    elim (stepped (table_of h) s d) as (λ (r : Result Spot OrderFault). Reported objects h p d r → (elim r as (λ (_ : Result Spot OrderFault). Option Spot) [ Err _ ↦ None | Ok u ↦ walked (table_of h) u rest ]) ≡ Some t → IsGood objects h (p ++ d ∷ rest) × Stands objects h (p ++ d ∷ rest) t) [
+      | Err fault ↦ λ reported none. absurd (cc)
+      | Ok u ↦ λ reported on.
           subst (λ l. IsGood objects h l × Stands objects h l t) (append_assoc p (d ∷ []) rest)
-          (walked-good objects h (p ++ d ∷ []) rest u t fine fits told.1 (IsGood-push objects h p d good (IsGoodNext-from_no_fault objects h p d told.0)) on)
-    ] (stepped-told objects h p s d fine (fits d.tx) stands) led
+          (walked-good objects h (p ++ d ∷ []) rest u t fine fits reported.1 (IsGood-push objects h p d good (IsGoodNext-from_no_fault objects h p d reported.0)) on)
+    ] (stepped-reported objects h p s d fine (fits d.tx) stands) led
 
 -- a good list can be walked
 pub good-walked : (objects : List Declared) (h : History) (p rest : List Decision) (s : Spot) → IsWellFormed h → Fits objects h → Stands objects h p s →
     IsGood objects h (p ++ rest) → (t : Spot) × (walked (table_of h) s rest ≡ Some t)
 good-walked objects h p [] s fine fits stands good = (s, refl)
 good-walked objects h p (d ∷ rest) s fine fits stands good =
-    elim (stepped (table_of h) s d) as (λ (r : Result Spot OrderFault). Told objects h p d r → (t : Spot) × ((elim r as (λ (_ : Result Spot OrderFault). Option Spot) [ Err _ ↦ None | Ok u ↦ walked (table_of h) u rest ]) ≡ Some t)) [
-      | Err fault ↦ λ told. let none : place_fault objects h p d ≡ None = no_fault-from_IsGoodNext objects h p d (good p d rest refl) in absurd (cc)
-      | Ok u ↦ λ told. good-walked objects h (p ++ d ∷ []) rest u fine fits told.1 (subst (λ l. IsGood objects h l) (sym (append_assoc p (d ∷ []) rest)) good)
-    ] (stepped-told objects h p s d fine (fits d.tx) stands)
+    elim (stepped (table_of h) s d) as (λ (r : Result Spot OrderFault). Reported objects h p d r → (t : Spot) × ((elim r as (λ (_ : Result Spot OrderFault). Option Spot) [ Err _ ↦ None | Ok u ↦ walked (table_of h) u rest ]) ≡ Some t)) [
+      | Err fault ↦ λ reported. let none : place_fault objects h p d ≡ None = no_fault-from_IsGoodNext objects h p d (good p d rest refl) in absurd (cc)
+      | Ok u ↦ λ reported. good-walked objects h (p ++ d ∷ []) rest u fine fits reported.1 (subst (λ l. IsGood objects h l) (sym (append_assoc p (d ∷ []) rest)) good)
+    ] (stepped-reported objects h p s d fine (fits d.tx) stands)
 
 all-named : (f : ℕ → Bool) (ts : List ℕ) → list_all (λ b. b) (map f ts) ≡ true → (t : ℕ) → list_any (nat_eq t) ts ≡ true → f t ≡ true
 all-named f [] all t there = absurd (cc)
@@ -136,22 +136,22 @@ next-fault objects h p i d d0 inside is = ap (fault_after objects h (take i p)) 
 pub Goes-on : (objects : List Declared) (h : History) (p : List Decision) (i : ℕ) (d d0 : Decision) (s t : Spot) → IsWellFormed h → Fits objects h → i < length p → get_or p i d0 ≡ d →
     Goes objects h p i s → stepped (table_of h) s d ≡ Ok t → Goes objects h p (i + 1) t
 Goes-on objects h p i d d0 s t fine fits inside is goes led =
-    let told : Told objects h (take i p) d (Ok t) = subst (λ r. Told objects h (take i p) d r) led (stepped-told objects h (take i p) s d fine (fits d.tx) goes.stands) in
+    let reported : Reported objects h (take i p) d (Ok t) = subst (λ r. Reported objects h (take i p) d r) led (stepped-reported objects h (take i p) s d fine (fits d.tx) goes.stands) in
     let longer : take (i + 1) p ≡ take i p ++ d ∷ [] = take_more p i d0 inside ∙ ap (λ x. take i p ++ x ∷ []) is in
     let on : fault_after objects h (take i p) (d ∷ drop (i + 1) p) ≡ fault_after objects h (take i p ++ d ∷ []) (drop (i + 1) p) =
-    ap (λ (o : Option OrderFault). elim o as (λ (_ : Option OrderFault). Option OrderFault) [ Some fault ↦ Some fault | None ↦ fault_after objects h (take i p ++ d ∷ []) (drop (i + 1) p) ]) told.0 in
+    ap (λ (o : Option OrderFault). elim o as (λ (_ : Option OrderFault). Option OrderFault) [ Some fault ↦ Some fault | None ↦ fault_after objects h (take i p ++ d ∷ []) (drop (i + 1) p) ]) reported.0 in
     record {
-      stands = subst (λ l. Stands objects h l t) (sym longer) told.1;
+      stands = subst (λ l. Stands objects h l t) (sym longer) reported.1;
       fault = ap (λ l. fault_after objects h l (drop (i + 1) p)) longer ∙ (sym on ∙ (sym (next-fault objects h p i d d0 inside is) ∙ goes.fault));
     }
 
 pub Goes-wrong : (objects : List Declared) (h : History) (p : List Decision) (i : ℕ) (d d0 : Decision) (s : Spot) (fault : OrderFault) → IsWellFormed h → Fits objects h → i < length p → get_or p i d0 ≡ d →
     Goes objects h p i s → stepped (table_of h) s d ≡ Err fault → first_order_fault objects h p ≡ Some fault
 Goes-wrong objects h p i d d0 s fault fine fits inside is goes led =
-    let told : place_fault objects h (take i p) d ≡ Some fault = subst (λ r. Told objects h (take i p) d r) led (stepped-told objects h (take i p) s d fine (fits d.tx) goes.stands) in
+    let reported : place_fault objects h (take i p) d ≡ Some fault = subst (λ r. Reported objects h (take i p) d r) led (stepped-reported objects h (take i p) s d fine (fits d.tx) goes.stands) in
     sym goes.fault
     ∙ (next-fault objects h p i d d0 inside is
-    ∙ ap (λ (o : Option OrderFault). elim o as (λ (_ : Option OrderFault). Option OrderFault) [ Some fault ↦ Some fault | None ↦ fault_after objects h (take i p ++ d ∷ []) (drop (i + 1) p) ]) told)
+    ∙ ap (λ (o : Option OrderFault). elim o as (λ (_ : Option OrderFault). Option OrderFault) [ Some fault ↦ Some fault | None ↦ fault_after objects h (take i p ++ d ∷ []) (drop (i + 1) p) ]) reported)
 
 unplaced-are_unnamed : (h : History) (f : ℕ → Bool) (ts : List ℕ) → unplaced (map (row_of h) ts) (map f ts) ≡ filter (λ t. not (f t)) ts
 unplaced-are_unnamed h f [] = refl
@@ -182,7 +182,7 @@ Goes-out objects h p i s past goes =
 
 pub not-shown : (objects : List Declared) (h : History) (p : List Decision) (fault : OrderFault) → first_order_fault objects h p ≡ Some fault →
     (false ≡ true → Shows objects h p) × (Shows objects h p → false ≡ true)
-not-shown objects h p fault told = (
+not-shown objects h p fault reported = (
   λ e. absurd (cc),
   λ shown. (let none : first_order_fault objects h p ≡ None = no_fault-from_Shows objects h p shown in absurd (cc)),
 )
@@ -195,14 +195,14 @@ is-shown objects h p none = (λ _. Shows-from_no_fault objects h p none, λ _. r
 pub step-refused : (old new : PlacingOf) (d : Decision) (r : Result (Unit {0}) OrderFault) (fault : OrderFault) →
     MatchResult r (λ _. Advances old d new (stepped old.agenda.rows old.spot d)) (λ f. (stepped old.agenda.rows old.spot d ≡ Err f) × (new ≡ old)) → r ≡ Err fault →
     stepped old.agenda.rows old.spot d ≡ Err fault
-step-refused old new d (Ok _) fault told is = absurd (cc)
-step-refused old new d (Err f) fault told is = let same : f ≡ fault = cc in told.0 ∙ ap Err same
+step-refused old new d (Ok _) fault reported is = absurd (cc)
+step-refused old new d (Err f) fault reported is = let same : f ≡ fault = cc in reported.0 ∙ ap Err same
 
 pub step-taken : (old new : PlacingOf) (d : Decision) (r : Result (Unit {0}) OrderFault) →
     MatchResult r (λ _. Advances old d new (stepped old.agenda.rows old.spot d)) (λ f. (stepped old.agenda.rows old.spot d ≡ Err f) × (new ≡ old)) → r ≡ Ok tt →
     (stepped old.agenda.rows old.spot d ≡ Ok new.spot) × (new.agenda ≡ old.agenda)
-step-taken old new d (Ok _) told is = (told.spot, told.agenda)
-step-taken old new d (Err f) told is = absurd (cc)
+step-taken old new d (Ok _) reported is = (reported.spot, reported.agenda)
+step-taken old new d (Err f) reported is = absurd (cc)
 
 -- the same over what a loop has at hand
 pub Goes-wrong-here : (objects : List Declared) (h : History) (p items : List Decision) (i : ℕ) (d d0 : Decision) (s : Spot) (fault : OrderFault) (rows : List RowOf) → IsWellFormed h → Fits objects h →

@@ -44,8 +44,8 @@ abbrev pub first_order_fault : List Declared → History → List Decision → O
 first_order_fault objects h p = fault_after objects h [] p
 
 -- that there is no fault is reported, or the first one
-abbrev pub TellsOrderFault : {T : Type 0} → List Declared → History → List Decision → Result T OrderFault → Type 0
-TellsOrderFault objects h p r = MatchResult r (λ none. first_order_fault objects h p ≡ None) (λ fault. first_order_fault objects h p ≡ Some fault)
+abbrev pub ReportsOrderFault : {T : Type 0} → List Declared → History → List Decision → Result T OrderFault → Type 0
+ReportsOrderFault objects h p r = MatchResult r (λ none. first_order_fault objects h p ≡ None) (λ fault. first_order_fault objects h p ≡ Some fault)
 
 abbrev pub is_good_next : List Declared → History → List Decision → Decision → Bool
 is_good_next objects h p d =

@@ -3,7 +3,7 @@
 ghost use Rattle.std.specs.Prelude.{◌≡◌, ◌↔◌, None, Some, IfOk, IsOk, MatchResult};
 ghost use Rattle.aud_history.specs.WellFormed.{IsWellFormed};
 ghost use Rattle.aud_witness.specs.Orders.{Shows};
-ghost use Rattle.aud_witness.specs.OrderFaults.{TellsOrderFault};
+ghost use Rattle.aud_witness.specs.OrderFaults.{ReportsOrderFault};
 
 use crate::agenda::Agenda;
 use crate::decision::Prefix;
@@ -24,7 +24,7 @@ pub fn shows<A: Allocator + Copy>(
     order: &Prefix<A>,
 ) -> Result<Result<(), OrderFault>, OutOfMemory>
     requires { IsWellFormed history.now.events }
-    ensures fault { IfOk result (TellsOrderFault history.now.plan.objects history.now.events order.now) }
+    ensures fault { IfOk result (ReportsOrderFault history.now.plan.objects history.now.events order.now) }
     ensures shown { IfOk result (λ r. IsOk r ↔ Shows history.now.plan.objects history.now.events order.now) }
 {
     let _sound = history.events();

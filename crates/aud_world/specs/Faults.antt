@@ -76,6 +76,6 @@ IsTakeFault IsOfPlan PlanMismatch = IsOfPlan → ⊥
 IsTakeFault IsOfPlan OutOfMemory = IsOfPlan
 
 -- one node takes exactly what is of its plan, or is refused memory for it
-abbrev pub TellsWhetherTaken : {U : Type 0} → Type 0 → Result U MoveFault → Type 0
-TellsWhetherTaken IsOfPlan (Ok _) = IsOfPlan
-TellsWhetherTaken IsOfPlan (Err fault) = IsTakeFault IsOfPlan fault
+abbrev pub ReportsWhetherTaken : {U : Type 0} → Type 0 → Result U MoveFault → Type 0
+ReportsWhetherTaken IsOfPlan (Ok _) = IsOfPlan
+ReportsWhetherTaken IsOfPlan (Err fault) = IsTakeFault IsOfPlan fault

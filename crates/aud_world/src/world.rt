@@ -11,7 +11,7 @@ ghost use Rattle.aud_know.specs.Findings.{found};
 ghost use Rattle.aud_world.specs.Clouds.{Cloud, Gains};
 ghost use Rattle.aud_world.specs.Moves.{after_move, after_moves, at_first, IsTrueMove};
 ghost use Rattle.aud_world.specs.Worlds.{IsWorldOf, AreOfPlan};
-ghost use Rattle.aud_world.specs.Faults.{IsAllowed, AreAllowed, IsFaultOf, TellsWhetherTaken, made};
+ghost use Rattle.aud_world.specs.Faults.{IsAllowed, AreAllowed, IsFaultOf, ReportsWhetherTaken, made};
 ghost use Rattle.aud_world.specs.Headline.{KeepsHeadline};
 
 use crate::laws::headline_holds;
@@ -67,7 +67,7 @@ fn feed<A: Allocator + Copy>(
     ensures gains { OnOk result (Gains number (norms.fact item.now ∷ []) nodes.old.items nodes.new.items) }
     ensures plans { map (λ k. k.plan) nodes.new.items ≡ map (λ k. k.plan) nodes.old.items }
     ensures fault { (plan : PlanOf) → AreOfPlan plan nodes.old.items →
-        TellsWhetherTaken (first_fact_fault plan item.now ≡ None) result }
+        ReportsWhetherTaken (first_fact_fault plan item.now ≡ None) result }
     ensures err { OnErr result (nodes.new.items ≡ nodes.old.items) }
 {
     nodes[number].take_fact(item)?;

@@ -18,9 +18,9 @@ use std::thread::Threads;
 /// What the user reads where a word is no text.
 const NO_TEXT: &str = "error: a word is not UTF-8\n";
 
-fn told(alloc: Global, text: &str) -> Usage {
+fn printed(alloc: Global, text: &str) -> Usage {
     match String::from_str(alloc, text) {
-        Ok(text) => Usage::Told(text),
+        Ok(text) => Usage::Printed(text),
         Err(_) => Usage::OutOfMemory,
     }
 }
@@ -30,7 +30,7 @@ fn unread(alloc: Global, kind: ErrorKind) -> Usage {
     if kind == ErrorKind::OutOfMemory {
         return Usage::OutOfMemory;
     }
-    told(alloc, NO_TEXT)
+    printed(alloc, NO_TEXT)
 }
 
 /// The words, the program's name first.

@@ -1,5 +1,5 @@
 use Rattle.std.proofs.Common.{[], Some, subst}
-use Rattle.aud_search.specs.Searches.{Tells}
+use Rattle.aud_search.specs.Searches.{Reports}
 use Rattle.aud_cli.specs.Line.{NoneSays, DecideSays}
 use Rattle.aud_cli.proofs.HistoryLemmas.{none-from_refuted, none-decides, if_ok}
 use Rattle.aud_cli.proofs.question.answer_explore.Goals as goal
@@ -8,8 +8,8 @@ pub said_of_none-requires : goal.said_of_none-requires
 said_of_none-requires c =
     let shape = c.args.shape.now.sealed in
     none-from_refuted shape.facts.plan.objects shape.history
-    (subst (λ o. Tells shape.facts.plan.objects shape.history [] (Some c.args.budget) o) c.in-Refuted.is
-    (subst (λ p. Tells shape.facts.plan.objects shape.history p (Some c.args.budget) c.in_ok-order.field-0) c.empty.ensures c.in_ok-order.ensures))
+    (subst (λ o. Reports shape.facts.plan.objects shape.history [] (Some c.args.budget) o) c.in-Refuted.is
+    (subst (λ p. Reports shape.facts.plan.objects shape.history p (Some c.args.budget) c.in_ok-order.field-0) c.empty.ensures c.in_ok-order.ensures))
 
 pub returns-in-Refuted : goal.returns-in-Refuted
 returns-in-Refuted c =

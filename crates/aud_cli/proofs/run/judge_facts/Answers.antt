@@ -3,8 +3,8 @@ use Rattle.std.specs.Prelude.{MatchResult}
 use Rattle.aud_history.specs.WellFormed.{IsWellFormed}
 use Rattle.aud_facts.specs.Sets.{IsSealedWith}
 use Rattle.aud_facts.specs.Status.{hist}
-use Rattle.aud_know.specs.Verdicts.{FactsTellAtOnce}
-use Rattle.aud_know.proofs.Judging.{told_at_once}
+use Rattle.aud_know.specs.Verdicts.{FactsReportAtOnce}
+use Rattle.aud_know.proofs.Judging.{reported_at_once}
 use Rattle.aud_report.specs.declared.said.Said.TheVariants as said
 use Rattle.aud_cli.specs.Line.{QuestionSays, SetSays}
 use Rattle.aud_cli.proofs.HistoryLemmas.{says_of_facts, if_ok}
@@ -15,7 +15,7 @@ returns-in-Ok c =
     let facts = c.args.facts.now in
     let sealed = c.in-Ok.sealed.value in
     let read : (sealed.facts ≡ facts) × IsSealedWith facts sealed.history × IsWellFormed sealed.history =
-    subst (λ r. MatchResult r (λ s. (s.value.facts ≡ facts) × IsSealedWith facts s.value.history × IsWellFormed s.value.history) (λ t. FactsTellAtOnce facts.plan.logs facts.facts t))
+    subst (λ r. MatchResult r (λ s. (s.value.facts ≡ facts) × IsSealedWith facts s.value.history × IsWellFormed s.value.history) (λ t. FactsReportAtOnce facts.plan.logs facts.facts t))
     c.in-Ok.is c.in_ok-sealed.ensures in
     let asked = QuestionSays c.args.question in
     if_ok (asked sealed.facts.plan sealed.history) (SetSays asked facts.plan facts.facts) c.answer.result
@@ -24,7 +24,7 @@ returns-in-Ok c =
 pub returns-in-Err : goal.returns-in-Err
 returns-in-Err c =
     let facts = c.args.facts.now in
-    let told : FactsTellAtOnce facts.plan.logs facts.facts c.in-Err.told =
-    subst (λ r. MatchResult r (λ s. (s.value.facts ≡ facts) × IsSealedWith facts s.value.history × IsWellFormed s.value.history) (λ t. FactsTellAtOnce facts.plan.logs facts.facts t))
+    let reported : FactsReportAtOnce facts.plan.logs facts.facts c.in-Err.reported =
+    subst (λ r. MatchResult r (λ s. (s.value.facts ≡ facts) × IsSealedWith facts s.value.history × IsWellFormed s.value.history) (λ t. FactsReportAtOnce facts.plan.logs facts.facts t))
     c.in-Err.is c.in_ok-sealed.ensures in
-    told_at_once said.Verdict facts.plan.logs facts.facts (QuestionSays c.args.question facts.plan (hist facts.facts)) c.in-Err.told told
+    reported_at_once said.Verdict facts.plan.logs facts.facts (QuestionSays c.args.question facts.plan (hist facts.facts)) c.in-Err.reported reported

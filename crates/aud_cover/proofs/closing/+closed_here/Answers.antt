@@ -8,7 +8,7 @@ use Rattle.aud_witness.specs.declared.decision.Decision.{Decision}
 use Rattle.aud_witness.specs.Orders.{IsFull}
 use Rattle.aud_order.specs.Shapes.{objects_of, history_of}
 use Rattle.aud_order.specs.Kids.{AreKids}
-use Rattle.aud_cover.proofs.Steps.{no_decision, at-covered, at-outside, at-full, at-open_kid, at-kids, closed-more, kid-good, kid-told, cursor-back}
+use Rattle.aud_cover.proofs.Steps.{no_decision, at-covered, at-outside, at-full, at-open_kid, at-kids, closed-more, kid-good, kid-reported, cursor-back}
 use Rattle.aud_cover.proofs.Leads.{at-member, at-end, at-inner, pushed-leads, gone-closed, node-falls}
 use Rattle.aud_cover.proofs.closing.+closed_here.Goals as goal
 
@@ -70,7 +70,7 @@ returns-then-not-is_closed-clause-closed g t c =
     let grown = c.in_ok-push.ensures.goes (c.in_ok-push.ensures.good.1 one) in
     let found = sym c.get.ensures.value ∙ ap option_copied c.in-Some.is in
     λ cover leads. at-open_kid objects history cover start.path kid c.in_ok-is_closed.is_closed c.prefix-good.ensures.good (at-inner cover start.path c.args.node.now leads c.in-Fork.next at (λ z. true≢false (sym (c.is_empty.ensures.1 z) ∙ c.if-is_empty.false))) one_here
-    (kid-told cover start c.loop-kid.cursor c.push.new.self kid c.in_ok-is_closed.is_closed c.loop-kid.invariant.same grown
+    (kid-reported cover start c.loop-kid.cursor c.push.new.self kid c.in_ok-is_closed.is_closed c.loop-kid.invariant.same grown
     (c.in_ok-is_closed.ensures.closed cover (pushed-leads cover start c.args.node.now leads c.in-Fork.next at kid c.loop-kid.cursor c.push.new.self c.in-Some.below.now c.deref.result.now found c.deref.ensures c.loop-kid.invariant.same grown))) c.if-not-is_closed.true
 
 pub returns-then-not-is_closed-clause-back : goal.returns-then-not-is_closed-clause-back
@@ -98,7 +98,7 @@ loop-kid-preserved g t c =
       same = cursor-back start c.loop-kid.cursor c.push.new.self c.closed_here.new.cursor c.pop.new.self kid c.pop.result c.loop-kid.invariant.same
           grown c.in_ok-is_closed.ensures.back c.pop.ensures.root c.pop.ensures.back;
       closed = λ cover leads. closed-more objects history cover start.path c.deref-kid-items.result.now c.loop-kid.kid-index c.in_ok-is_closed.is_closed
-          c.loop-kid-test.true (c.loop-kid.invariant.closed cover leads) (kid-told cover start c.loop-kid.cursor c.push.new.self kid c.in_ok-is_closed.is_closed c.loop-kid.invariant.same grown
+          c.loop-kid-test.true (c.loop-kid.invariant.closed cover leads) (kid-reported cover start c.loop-kid.cursor c.push.new.self kid c.in_ok-is_closed.is_closed c.loop-kid.invariant.same grown
           (c.in_ok-is_closed.ensures.closed cover (pushed-leads cover start c.args.node.now leads c.in-Fork.next at kid c.loop-kid.cursor c.push.new.self c.in-Some.below.now c.deref.result.now found c.deref.ensures c.loop-kid.invariant.same grown))) c.if-not-is_closed.false;
     }
 

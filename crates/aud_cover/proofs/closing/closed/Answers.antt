@@ -10,7 +10,7 @@ use Rattle.aud_witness.specs.DecisionOrder.{decision_cmp}
 use Rattle.aud_order.specs.Shapes.{objects_of, history_of}
 use Rattle.aud_order.specs.Cursors.{CursorOf, IsBehind}
 use Rattle.aud_cover.specs.Closings.{IsCovered}
-use Rattle.aud_cover.specs.Leading.{LeadsTo, TellsClosed}
+use Rattle.aud_cover.specs.Leading.{LeadsTo, ReportsClosed}
 use Rattle.aud_cover.proofs.Beginnings.{marked-covered}
 use Rattle.aud_cover.proofs.Leads.{node-leads, nowhere-outside}
 use Rattle.aud_cover.proofs.Steps.{at-covered, at-bad, at-outside, IsClosedAt}
@@ -38,8 +38,8 @@ returns-in-Some-node g c =
     let found : IsBehind shape p (Some c.in-Some.cursor) = subst (IsBehind shape p) c.in-Some.is (subst (λ (l : List Decision). IsBehind shape l c.in_ok-cursor.field-0) c.decisions-2.ensures c.in_ok-cursor.ensures) in
     let at : node_at decision_cmp p c.trie.result.now ≡ Some node = ap (λ l. node_at decision_cmp l c.trie.result.now) (sym c.decisions-3.ensures) ∙ sym c.node.ensures ∙ ap option_copied c.in-Some-node.is in
     let leads : LeadsTo cover p node = node-leads cover c.trie.result.now c.trie.ensures.good c.trie.ensures.lists p node at in
-    if_both c.closed_here.result (TellsClosed c.in-Some.cursor node) (TellsClosed c.in-Some.cursor node) (λ b. IsTrue b ↔ IsClosedAt cover (record { shape = shape; path = p }))
-    (λ b told _. subst (λ (w : CursorOf). TellsClosed w node b) found.0 told cover leads) c.closed_here.ensures.closed c.closed_here.ensures.closed
+    if_both c.closed_here.result (ReportsClosed c.in-Some.cursor node) (ReportsClosed c.in-Some.cursor node) (λ b. IsTrue b ↔ IsClosedAt cover (record { shape = shape; path = p }))
+    (λ b reported _. subst (λ (w : CursorOf). ReportsClosed w node b) found.0 reported cover leads) c.closed_here.ensures.closed c.closed_here.ensures.closed
 
 pub returns : goal.returns
 returns g c =

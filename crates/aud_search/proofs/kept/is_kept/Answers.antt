@@ -5,11 +5,11 @@ use Rattle.aud_search.specs.Kept.{LeadsFrom, IsWay, states_of}
 use Rattle.aud_search.proofs.Keeping.{leads-way}
 use Rattle.aud_search.proofs.kept.is_kept.Goals as goal
 
-pub returns-in-Some-get_mut-clause-told : goal.returns-in-Some-get_mut-clause-told
-returns-in-Some-get_mut-clause-told g c =
+pub returns-in-Some-get_mut-clause-reported : goal.returns-in-Some-get_mut-clause-reported
+returns-in-Some-get_mut-clause-reported g c =
     let h = history_of c.args.shape.now in
     let whole = c.in-Some-get_mut.whole.now in
     let way = c.way_to.new.way.items in
     λ it. leads-way h c.args.kept.now.items c.in-Some.first c.args.number whole whole (reverse way) c.args.store.now.now c.in-Some-get_mut.ensures.item.3.0 c.in-Some-get_mut.ensures.value
-    (subst (λ (l : List ℕ). LeadsFrom h whole (reverse l) c.args.store.now.now) c.deref-in-Some-get_mut.ensures.value (c.leads_from.ensures.told it))
+    (subst (λ (l : List ℕ). LeadsFrom h whole (reverse l) c.args.store.now.now) c.deref-in-Some-get_mut.ensures.value (c.leads_from.ensures.reported it))
     (subst (λ (l : List _). IsWay h (states_of h l) c.in-Some.first (reverse way) c.args.number) c.deref.ensures.value (c.in-Some.ensures h))

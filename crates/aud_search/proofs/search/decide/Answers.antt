@@ -4,5 +4,5 @@ use Rattle.aud_search.proofs.search.decide.Goals as goal
 pub returns-in-NotOpaque-clause-letter : goal.returns-in-NotOpaque-clause-letter
 returns-in-NotOpaque-clause-letter g c = λ letter.
     let shape = c.args.shape.now in
-    let told = rw c.in-NotOpaque.is at c.in_ok-witness.ensures in
-    told.0 ((c.letter_is_opaque.ensures (objects_of shape) (history_of shape)).0 letter).1
+    let reported = rw c.in-NotOpaque.is at c.in_ok-witness.ensures in
+    reported.0 ((c.letter_is_opaque.ensures (objects_of shape) (history_of shape)).0 letter).1

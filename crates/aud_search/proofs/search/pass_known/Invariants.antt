@@ -1,5 +1,5 @@
 use Rattle.std.specs.Prelude.{◌≡◌, ◌-◌, length}
-use Rattle.aud_search.specs.Memos.{IsTold}
+use Rattle.aud_search.specs.Memos.{IsReported}
 use Rattle.aud_search.specs.Recorders.{HasNote, AreKept}
 use Rattle.aud_search.specs.Tried.{ArePassed}
 use Rattle.aud_search.proofs.search.pass_known.Given as goal
@@ -9,7 +9,7 @@ invariant-loop-place g l = record {
   passed : ArePassed l.fn.cursor l.choices l.fn.here.next l.from;
   kept : AreKept (HasNote (g.R.Recorder.noted l.memo.recorder)) l.fn.cursor.shape l.choices l.fn.cursor.path l.fn.here.next l.from;
   stays : l.cursor ≡ l.fn.cursor;
-  told : IsTold g.R.Recorder.grows l.fn.memo l.memo;
+  reported : IsReported g.R.Recorder.grows l.fn.memo l.memo;
 }
 
 abbrev pub decreases-loop-place : goal.decreases-loop-place

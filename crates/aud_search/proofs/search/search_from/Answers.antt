@@ -44,19 +44,19 @@ note-requires-clause-reason g c =
     let cur = c.pass_known.new.cursor in
     let p = c.in_ok-from.ensures in
     let from = c.in_ok-from.from in
-    let r = round g.R.Recorder.noted g.R.Recorder.grows g.met.R.Recorder.noted_stays start at.cursor cur at.memo c.pass_known.new.memo cs at.invariant.used from at.here at.turns.items p.stays p.told at.invariant.same at.invariant.memo at.invariant.way at.invariant.searching at.invariant.heard at.invariant.opens p.passed p.kept in
+    let r = round g.R.Recorder.noted g.R.Recorder.grows g.met.R.Recorder.noted_stays start at.cursor cur at.memo c.pass_known.new.memo cs at.invariant.used from at.here at.turns.items p.stays p.reported at.invariant.same at.invariant.memo at.invariant.way at.invariant.searching at.invariant.heard at.invariant.opens p.passed p.kept in
     let found = rw c.in_default.is at c.in_ok-place.ensures in
     round-reason r c.try_from.new.cursor c.reason_of.result c.requires.choices found c.reason_of.ensures
 
-pub returns-in_default-pop-clause-told : goal.returns-in_default-pop-clause-told
-returns-in_default-pop-clause-told g c =
+pub returns-in_default-pop-clause-reported : goal.returns-in_default-pop-clause-reported
+returns-in_default-pop-clause-reported g c =
     let at = c.search in
     let start = c.args.cursor.now in
     let cs = c.args.choices.now in
     let cur = c.pass_known.new.cursor in
     let p = c.in_ok-from.ensures in
     let from = c.in_ok-from.from in
-    let r = round g.R.Recorder.noted g.R.Recorder.grows g.met.R.Recorder.noted_stays start at.cursor cur at.memo c.pass_known.new.memo cs at.invariant.used from at.here at.turns.items p.stays p.told at.invariant.same at.invariant.memo at.invariant.way at.invariant.searching at.invariant.heard at.invariant.opens p.passed p.kept in
+    let r = round g.R.Recorder.noted g.R.Recorder.grows g.met.R.Recorder.noted_stays start at.cursor cur at.memo c.pass_known.new.memo cs at.invariant.used from at.here at.turns.items p.stays p.reported at.invariant.same at.invariant.memo at.invariant.way at.invariant.searching at.invariant.heard at.invariant.opens p.passed p.kept in
     let found = rw c.in_default.is at c.in_ok-place.ensures in
     let empty = rw c.in_default-pop.is at c.pop.ensures.cases in
     let none : at.turns.items ≡ [] = nil_from_length at.turns.items (omega (arith, empty.0, at.turns.ok.0)) in
@@ -73,7 +73,7 @@ learn-requires-clause-refuted g c =
     let cur = c.pass_known.new.cursor in
     let p = c.in_ok-from.ensures in
     let from = c.in_ok-from.from in
-    let r = round g.R.Recorder.noted g.R.Recorder.grows g.met.R.Recorder.noted_stays start at.cursor cur at.memo c.pass_known.new.memo cs at.invariant.used from at.here at.turns.items p.stays p.told at.invariant.same at.invariant.memo at.invariant.way at.invariant.searching at.invariant.heard at.invariant.opens p.passed p.kept in
+    let r = round g.R.Recorder.noted g.R.Recorder.grows g.met.R.Recorder.noted_stays start at.cursor cur at.memo c.pass_known.new.memo cs at.invariant.used from at.here at.turns.items p.stays p.reported at.invariant.same at.invariant.memo at.invariant.way at.invariant.searching at.invariant.heard at.invariant.opens p.passed p.kept in
     let found = rw c.in_default.is at c.in_ok-place.ensures in
     let refuted = loop-refuted start cur c.try_from.new.cursor cs at.invariant.used from (reverse (map next_of at.turns.items)) r.same c.requires.choices r.searching found in
     subst (λ (v : CursorOf). Refuted (objects_of v.shape) (history_of v.shape) v.path) (sym found.0)
@@ -87,7 +87,7 @@ search-smaller-in_default g c =
     let cur = c.pass_known.new.cursor in
     let p = c.in_ok-from.ensures in
     let from = c.in_ok-from.from in
-    let r = round g.R.Recorder.noted g.R.Recorder.grows g.met.R.Recorder.noted_stays start at.cursor cur at.memo c.pass_known.new.memo cs at.invariant.used from at.here at.turns.items p.stays p.told at.invariant.same at.invariant.memo at.invariant.way at.invariant.searching at.invariant.heard at.invariant.opens p.passed p.kept in
+    let r = round g.R.Recorder.noted g.R.Recorder.grows g.met.R.Recorder.noted_stays start at.cursor cur at.memo c.pass_known.new.memo cs at.invariant.used from at.here at.turns.items p.stays p.reported at.invariant.same at.invariant.memo at.invariant.way at.invariant.searching at.invariant.heard at.invariant.opens p.passed p.kept in
     let found = rw c.in_default.is at c.in_ok-place.ensures in
     let shorter = rw c.in-Some-pop.is at c.pop.ensures.items in
     subst (λ (v : CursorOf). weight start.shape cs c.go_back.new.cursor.path c.in-Some-pop.turn.next (map next_of c.pop.new.self.items) < weight start.shape cs v.path at.here.next (map next_of at.turns.items)) p.stays
@@ -102,26 +102,26 @@ search-preserved-in_default g c =
     let cur = c.pass_known.new.cursor in
     let p = c.in_ok-from.ensures in
     let from = c.in_ok-from.from in
-    let r = round g.R.Recorder.noted g.R.Recorder.grows g.met.R.Recorder.noted_stays start at.cursor cur at.memo c.pass_known.new.memo cs at.invariant.used from at.here at.turns.items p.stays p.told at.invariant.same at.invariant.memo at.invariant.way at.invariant.searching at.invariant.heard at.invariant.opens p.passed p.kept in
+    let r = round g.R.Recorder.noted g.R.Recorder.grows g.met.R.Recorder.noted_stays start at.cursor cur at.memo c.pass_known.new.memo cs at.invariant.used from at.here at.turns.items p.stays p.reported at.invariant.same at.invariant.memo at.invariant.way at.invariant.searching at.invariant.heard at.invariant.opens p.passed p.kept in
     let found = rw c.in_default.is at c.in_ok-place.ensures in
     let shorter = rw c.in-Some-pop.is at c.pop.ensures.items in
     let turn = c.in-Some-pop.turn in
     let memo = c.go_back.new.memo in
     let back = loop-back start cur c.try_from.new.cursor c.go_back.new.cursor cs at.invariant.used from turn.next (map next_of at.turns.items) (map next_of c.pop.new.self.items) r.same
     c.requires.choices r.searching found (more-turns next_of c.pop.new.self.items at.turns.items turn shorter) c.go_back.ensures.back in
-    let told = c.in_ok-note.ensures.told in
+    let reported = c.in_ok-note.ensures.reported in
     let grown : IsGrown c.note.new.self memo = subst (λ (m : MemoOf _). IsGrown c.note.new.self m) (sym c.go_back.ensures.memo) c.learn.ensures in
-    let heard = round-back r c.note.new.self.recorder (note-on g.R.Recorder.noted g.R.Recorder.grows g.met.R.Recorder.noted_stays g.met.R.Recorder.grows_onward c.pass_known.new.memo.recorder c.note.new.self.recorder told.recorder)
+    let heard = round-back r c.note.new.self.recorder (note-on g.R.Recorder.noted g.R.Recorder.grows g.met.R.Recorder.noted_stays g.met.R.Recorder.grows_onward c.pass_known.new.memo.recorder c.note.new.self.recorder reported.recorder)
     c.try_from.new.cursor c.go_back.new.cursor.path c.pop.new.self.items turn c.in_ok-note.note found shorter c.in_ok-note.ensures.noted back.2 in
     record {
       same = back.0;
       used = at.invariant.used;
       spends = at.invariant.spends;
-      memo = grown.shape ∙ told.shape ∙ r.memo_same;
+      memo = grown.shape ∙ reported.shape ∙ r.memo_same;
       way = subst (λ l. NameWay start.shape memo.states (turn.states ∷ reverse (map states_of c.pop.new.self.items)) l) (sym back.2)
           (way-back start.shape memo.states at.here.states turn.states (map states_of at.turns.items) (map states_of c.pop.new.self.items) cur.path
           (way-grown start.shape c.note.new.self memo (at.here.states ∷ reverse (map states_of at.turns.items)) cur.path grown
-          (subst (λ l. NameWay start.shape l (at.here.states ∷ reverse (map states_of at.turns.items)) cur.path) (sym told.states) r.way))
+          (subst (λ l. NameWay start.shape l (at.here.states ∷ reverse (map states_of at.turns.items)) cur.path) (sym reported.states) r.way))
           (more-turns states_of c.pop.new.self.items at.turns.items turn shorter));
       searching = back.1;
       heard = subst (λ v. IsHeard (HasNote (g.R.Recorder.noted v)) start.shape cs c.go_back.new.cursor.path turn.next turn.silent) (sym grown.recorder) heard.0;
@@ -130,15 +130,15 @@ search-preserved-in_default g c =
       ready = c.go_back.ensures.ready;
     }
 
-pub returns-then-full-clause-told : goal.returns-then-full-clause-told
-returns-then-full-clause-told g c =
+pub returns-then-full-clause-reported : goal.returns-then-full-clause-reported
+returns-then-full-clause-reported g c =
     let at = c.search in
     let start = c.args.cursor.now in
     let cs = c.args.choices.now in
     let cur = c.pass_known.new.cursor in
     let p = c.in_ok-from.ensures in
     let from = c.in_ok-from.from in
-    let r = round g.R.Recorder.noted g.R.Recorder.grows g.met.R.Recorder.noted_stays start at.cursor cur at.memo c.pass_known.new.memo cs at.invariant.used from at.here at.turns.items p.stays p.told at.invariant.same at.invariant.memo at.invariant.way at.invariant.searching at.invariant.heard at.invariant.opens p.passed p.kept in
+    let r = round g.R.Recorder.noted g.R.Recorder.grows g.met.R.Recorder.noted_stays start at.cursor cur at.memo c.pass_known.new.memo cs at.invariant.used from at.here at.turns.items p.stays p.reported at.invariant.same at.invariant.memo at.invariant.way at.invariant.searching at.invariant.heard at.invariant.opens p.passed p.kept in
     let new = c.try_from.new.cursor in
     let k = c.in-Some.place in
     let found = rw c.in-Some.is at c.in_ok-place.ensures in
@@ -154,7 +154,7 @@ follow-states-requires g c =
     let cur = c.pass_known.new.cursor in
     let p = c.in_ok-from.ensures in
     let from = c.in_ok-from.from in
-    let r = round g.R.Recorder.noted g.R.Recorder.grows g.met.R.Recorder.noted_stays start at.cursor cur at.memo c.pass_known.new.memo cs at.invariant.used from at.here at.turns.items p.stays p.told at.invariant.same at.invariant.memo at.invariant.way at.invariant.searching at.invariant.heard at.invariant.opens p.passed p.kept in
+    let r = round g.R.Recorder.noted g.R.Recorder.grows g.met.R.Recorder.noted_stays start at.cursor cur at.memo c.pass_known.new.memo cs at.invariant.used from at.here at.turns.items p.stays p.reported at.invariant.same at.invariant.memo at.invariant.way at.invariant.searching at.invariant.heard at.invariant.opens p.passed p.kept in
     let new = c.try_from.new.cursor in
     let k = c.in-Some.place in
     let found = rw c.in-Some.is at c.in_ok-place.ensures in
@@ -171,7 +171,7 @@ search-smaller-in-Some-knows g c =
     let cur = c.pass_known.new.cursor in
     let p = c.in_ok-from.ensures in
     let from = c.in_ok-from.from in
-    let r = round g.R.Recorder.noted g.R.Recorder.grows g.met.R.Recorder.noted_stays start at.cursor cur at.memo c.pass_known.new.memo cs at.invariant.used from at.here at.turns.items p.stays p.told at.invariant.same at.invariant.memo at.invariant.way at.invariant.searching at.invariant.heard at.invariant.opens p.passed p.kept in
+    let r = round g.R.Recorder.noted g.R.Recorder.grows g.met.R.Recorder.noted_stays start at.cursor cur at.memo c.pass_known.new.memo cs at.invariant.used from at.here at.turns.items p.stays p.reported at.invariant.same at.invariant.memo at.invariant.way at.invariant.searching at.invariant.heard at.invariant.opens p.passed p.kept in
     let new = c.try_from.new.cursor in
     let k = c.in-Some.place in
     let found = rw c.in-Some.is at c.in_ok-place.ensures in
@@ -187,7 +187,7 @@ search-preserved-in-Some-knows g c =
     let cur = c.pass_known.new.cursor in
     let p = c.in_ok-from.ensures in
     let from = c.in_ok-from.from in
-    let r = round g.R.Recorder.noted g.R.Recorder.grows g.met.R.Recorder.noted_stays start at.cursor cur at.memo c.pass_known.new.memo cs at.invariant.used from at.here at.turns.items p.stays p.told at.invariant.same at.invariant.memo at.invariant.way at.invariant.searching at.invariant.heard at.invariant.opens p.passed p.kept in
+    let r = round g.R.Recorder.noted g.R.Recorder.grows g.met.R.Recorder.noted_stays start at.cursor cur at.memo c.pass_known.new.memo cs at.invariant.used from at.here at.turns.items p.stays p.reported at.invariant.same at.invariant.memo at.invariant.way at.invariant.searching at.invariant.heard at.invariant.opens p.passed p.kept in
     let new = c.try_from.new.cursor in
     let k = c.in-Some.place in
     let found = rw c.in-Some.is at c.in_ok-place.ensures in
@@ -197,19 +197,19 @@ search-preserved-in-Some-knows g c =
     let went = went-back start cur new c.take_back.new.cursor cs at.here.next k f popped in
     let memo = c.take_back.new.memo in
     let noting = c.note-in-Some-knows.new.self in
-    let told = c.in_ok-note-2.ensures.told in
+    let reported = c.in_ok-note-2.ensures.reported in
     let grown : IsGrown c.pass_known.new.memo c.follow-states.new.self = subst (λ (m : MemoOf _). IsGrown m c.follow-states.new.self) c.touch.ensures c.follow-states.ensures.grown in
     let stays : noting ≡ memo = sym c.take_back.ensures.memo in
-    let further = note-on g.R.Recorder.noted g.R.Recorder.grows g.met.R.Recorder.noted_stays g.met.R.Recorder.grows_onward c.follow-states.new.self.recorder noting.recorder told.recorder in
+    let further = note-on g.R.Recorder.noted g.R.Recorder.grows g.met.R.Recorder.noted_stays g.met.R.Recorder.grows_onward c.follow-states.new.self.recorder noting.recorder reported.recorder in
     let heard = round-known r noting.recorder (λ l was. further l (subst (λ v. HasNote (g.R.Recorder.noted v) l) (sym grown.recorder) was)) new c.take_back.new.cursor.path k c.next_place.result c.silent_at-here.result c.in_ok-note-2.field-0
     c.requires.choices found c.next_place.ensures c.silent_at-here.ensures c.in_ok-note-2.ensures.noted went.1 in
     record {
       same = went.0;
       used = at.invariant.used;
       spends = at.invariant.spends;
-      memo = ap (λ (m : MemoOf _). m.shape) (sym stays) ∙ told.shape ∙ grown.shape ∙ r.memo_same;
+      memo = ap (λ (m : MemoOf _). m.shape) (sym stays) ∙ reported.shape ∙ grown.shape ∙ r.memo_same;
       way = subst (λ l. NameWay start.shape memo.states (at.here.states ∷ reverse (map states_of at.turns.items)) l) (sym went.1)
-          (subst (λ l. NameWay start.shape l (at.here.states ∷ reverse (map states_of at.turns.items)) cur.path) (sym told.states ∙ ap (λ (m : MemoOf _). m.states) stays)
+          (subst (λ l. NameWay start.shape l (at.here.states ∷ reverse (map states_of at.turns.items)) cur.path) (sym reported.states ∙ ap (λ (m : MemoOf _). m.states) stays)
           (way-grown start.shape c.pass_known.new.memo c.follow-states.new.self (at.here.states ∷ reverse (map states_of at.turns.items)) cur.path grown r.way));
       searching = loop-known start cur new c.take_back.new.cursor cs at.invariant.used at.here.next k c.next_place.result (map next_of at.turns.items) on r.before f c.next_place.ensures c.in-Some-knows.ensures.refuted popped;
       heard = subst (λ (m : MemoOf _). IsHeard (HasNote (g.R.Recorder.noted m.recorder)) start.shape cs c.take_back.new.cursor.path c.next_place.result c.silent_at-here.result) stays heard.0;
@@ -218,15 +218,15 @@ search-preserved-in-Some-knows g c =
       ready = ready-still start cur new c.take_back.new.cursor cs at.here.next k at.ready f r.same popped (subst (λ (v : CursorOf). IsReady at.ready v) (sym p.stays) at.invariant.ready);
     }
 
-pub returns-in_default-spend-clause-told : goal.returns-in_default-spend-clause-told
-returns-in_default-spend-clause-told g c =
+pub returns-in_default-spend-clause-reported : goal.returns-in_default-spend-clause-reported
+returns-in_default-spend-clause-reported g c =
     let at = c.search in
     let start = c.args.cursor.now in
     let cs = c.args.choices.now in
     let cur = c.pass_known.new.cursor in
     let p = c.in_ok-from.ensures in
     let from = c.in_ok-from.from in
-    let r = round g.R.Recorder.noted g.R.Recorder.grows g.met.R.Recorder.noted_stays start at.cursor cur at.memo c.pass_known.new.memo cs at.invariant.used from at.here at.turns.items p.stays p.told at.invariant.same at.invariant.memo at.invariant.way at.invariant.searching at.invariant.heard at.invariant.opens p.passed p.kept in
+    let r = round g.R.Recorder.noted g.R.Recorder.grows g.met.R.Recorder.noted_stays start at.cursor cur at.memo c.pass_known.new.memo cs at.invariant.used from at.here at.turns.items p.stays p.reported at.invariant.same at.invariant.memo at.invariant.way at.invariant.searching at.invariant.heard at.invariant.opens p.passed p.kept in
     let new = c.try_from.new.cursor in
     let k = c.in-Some.place in
     let found = rw c.in-Some.is at c.in_ok-place.ensures in
@@ -243,7 +243,7 @@ go_on-requires g c =
     let cur = c.pass_known.new.cursor in
     let p = c.in_ok-from.ensures in
     let from = c.in_ok-from.from in
-    let r = round g.R.Recorder.noted g.R.Recorder.grows g.met.R.Recorder.noted_stays start at.cursor cur at.memo c.pass_known.new.memo cs at.invariant.used from at.here at.turns.items p.stays p.told at.invariant.same at.invariant.memo at.invariant.way at.invariant.searching at.invariant.heard at.invariant.opens p.passed p.kept in
+    let r = round g.R.Recorder.noted g.R.Recorder.grows g.met.R.Recorder.noted_stays start at.cursor cur at.memo c.pass_known.new.memo cs at.invariant.used from at.here at.turns.items p.stays p.reported at.invariant.same at.invariant.memo at.invariant.way at.invariant.searching at.invariant.heard at.invariant.opens p.passed p.kept in
     let new = c.try_from.new.cursor in
     let k = c.in-Some.place in
     let found = rw c.in-Some.is at c.in_ok-place.ensures in
@@ -258,7 +258,7 @@ search-smaller g c =
     let cur = c.pass_known.new.cursor in
     let p = c.in_ok-from.ensures in
     let from = c.in_ok-from.from in
-    let r = round g.R.Recorder.noted g.R.Recorder.grows g.met.R.Recorder.noted_stays start at.cursor cur at.memo c.pass_known.new.memo cs at.invariant.used from at.here at.turns.items p.stays p.told at.invariant.same at.invariant.memo at.invariant.way at.invariant.searching at.invariant.heard at.invariant.opens p.passed p.kept in
+    let r = round g.R.Recorder.noted g.R.Recorder.grows g.met.R.Recorder.noted_stays start at.cursor cur at.memo c.pass_known.new.memo cs at.invariant.used from at.here at.turns.items p.stays p.reported at.invariant.same at.invariant.memo at.invariant.way at.invariant.searching at.invariant.heard at.invariant.opens p.passed p.kept in
     let new = c.try_from.new.cursor in
     let k = c.in-Some.place in
     let found = rw c.in-Some.is at c.in_ok-place.ensures in
@@ -277,7 +277,7 @@ search-preserved g c =
     let cur = c.pass_known.new.cursor in
     let p = c.in_ok-from.ensures in
     let from = c.in_ok-from.from in
-    let r = round g.R.Recorder.noted g.R.Recorder.grows g.met.R.Recorder.noted_stays start at.cursor cur at.memo c.pass_known.new.memo cs at.invariant.used from at.here at.turns.items p.stays p.told at.invariant.same at.invariant.memo at.invariant.way at.invariant.searching at.invariant.heard at.invariant.opens p.passed p.kept in
+    let r = round g.R.Recorder.noted g.R.Recorder.grows g.met.R.Recorder.noted_stays start at.cursor cur at.memo c.pass_known.new.memo cs at.invariant.used from at.here at.turns.items p.stays p.reported at.invariant.same at.invariant.memo at.invariant.way at.invariant.searching at.invariant.heard at.invariant.opens p.passed p.kept in
     let new = c.try_from.new.cursor in
     let k = c.in-Some.place in
     let found = rw c.in-Some.is at c.in_ok-place.ensures in

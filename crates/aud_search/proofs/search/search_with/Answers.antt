@@ -22,9 +22,9 @@ search_from-requires-clause-within g c = subst (λ (v : CursorOf). IsWithinLimit
 
 pub returns-in-Refuted : goal.returns-in-Refuted
 returns-in-Refuted g c =
-    let told = rw c.in-Refuted.is at c.in_ok-note.ensures.told in
-    let refuted = subst (λ (v : CursorOf). Refuted (objects_of v.shape) (history_of v.shape) v.path) c.in_ok-cursor.ensures told.0 in
+    let reported = rw c.in-Refuted.is at c.in_ok-note.ensures.reported in
+    let refuted = subst (λ (v : CursorOf). Refuted (objects_of v.shape) (history_of v.shape) v.path) c.in_ok-cursor.ensures reported.0 in
     let recorder = c.into_recorder.result in
-    let noted = subst (λ (v : CursorOf). g.R.Recorder.noted recorder c.in-Refuted.note v.path) c.in_ok-cursor.ensures (subst (λ r. g.R.Recorder.noted r c.in-Refuted.note c.in_ok-cursor.cursor.path) (sym c.into_recorder.ensures.recorder) told.1) in
+    let noted = subst (λ (v : CursorOf). g.R.Recorder.noted recorder c.in-Refuted.note v.path) c.in_ok-cursor.ensures (subst (λ r. g.R.Recorder.noted r c.in-Refuted.note c.in_ok-cursor.cursor.path) (sym c.into_recorder.ensures.recorder) reported.1) in
     let memo = c.in_ok-note.ensures.shape ∙ ap (λ (m : MemoOf _). m.shape) c.new-memo.ensures in
     ((λ (q, shows). refuted q shows), (subst (λ (s : ShapeOf). g.R.Recorder.is_for recorder s) memo c.into_recorder.ensures.own, noted))

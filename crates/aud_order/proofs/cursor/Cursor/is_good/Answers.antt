@@ -17,6 +17,6 @@ returns-in-Ok-clause-good g c =
 pub returns-in-Err-clause-good : goal.returns-in-Err-clause-good
 returns-in-Err-clause-good g c =
     let i = c.self.inside in
-    let told = rw c.in-Err.is at c.in_ok-place.ensures.placed in
-    let bad = bad-from_fault (objects_of i.shape.now) (history_of i.shape.now) i.placing.path c.args.decision c.in-Err.field-0 (fault-err i.shape.now i.placing i.first_open c.args.decision c.in-Err.field-0 c.self.invariant told.0) in
+    let reported = rw c.in-Err.is at c.in_ok-place.ensures.placed in
+    let bad = bad-from_fault (objects_of i.shape.now) (history_of i.shape.now) i.placing.path c.args.decision c.in-Err.field-0 (fault-err i.shape.now i.placing i.first_open c.args.decision c.in-Err.field-0 c.self.invariant reported.0) in
     sym (subst (λ (w : CursorOf). is_good_next (objects_of w.shape) (history_of w.shape) w.path c.args.decision ≡ false) c.self.view_is bad)
