@@ -121,7 +121,7 @@ may_close n d c all is collector crew = subst (λ (l : List PassOf). MayClose n 
     at : AreAt n.number (c.passes ++ d.pass ∷ [])
     at = All-append (λ (p : PassOf). p.number ≡ n.number) c.passes (d.pass ∷ []) (crew_at n c crew) (All-cons (λ (p : PassOf). p.number ≡ n.number) d.pass [] collector.0 (All-nil (λ (p : PassOf). p.number ≡ n.number)))
 
--- a node whose collector and crew are at hand is refused for want of memory alone
+-- a node whose collector and crew are at hand is refused only where memory ran out
 pub close_fault : (n : NodeOf) (d : CollectorOf) (c : CrewOf) (all : List PassOf) (e : CloseFault) → all ≡ c.passes ++ d.pass ∷ [] → IsCollectorAt n d → IsCrewAt n c → IsCloseFault n all e → e ≡ close.OutOfMemory
 close_fault n d c all close.OutOfMemory is collector crew fault = refl
 close_fault n d c all (close.PassMissing seat) is collector crew (low, before, missing) =

@@ -29,7 +29,7 @@ fn all_passes<J: Fleet>(collector: Collector<J>, crew: Crew<J>) -> Result<Vec<Pa
     Ok(passes)
 }
 
-/// What is answered where a node is not closed for want of memory.
+/// What is answered where a node is not closed since memory ran out.
 fn want_of_memory(_fault: CloseFault) -> OutOfMemory
     requires { _fault ≡ CloseFault.OutOfMemory }
 {

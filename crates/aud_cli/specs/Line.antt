@@ -92,7 +92,7 @@ abbrev pub OrderSays : Result (List Decision) TextFault → List ℕ → Said �
 OrderSays (Err e) input s = s ≡ said.OrderTextRefused e
 OrderSays (Ok order) input s = InputSays (CheckSays order) (input_read input) s
 
--- a line of the certificate is refused, which begins after so many lines; want of memory is no refusal
+-- a line of the certificate is refused, which begins after so many lines; running out of memory is no refusal
 abbrev pub RefusesLine : ℕ → CertTextFault → Said → Type 0
 RefusesLine before e s = (s ≡ said.CertificateLineRefused (before + e.line) e.fault) × (e.fault ≢ text_fault.OutOfMemory)
 

@@ -40,7 +40,7 @@ struct Pair(
     Size,
 );
 
-/// Both, or where they could not be had want of memory.
+/// Both, or that memory ran out where they could not be had.
 fn both(alloc: Global, pair: &Pair) -> Result<(Knowledge, Knowledge), Unread> {
     let run = facts_of(alloc, pair.0)?;
     let ours = known_by(alloc, &run, pair.1)?;

@@ -9,5 +9,5 @@ returns-then-not-same g c =
 pub returns : goal.returns
 returns g c =
     are-alike c.args.cursor.now c.args.other.now c.placed.result.now c.placed-2.result.now c.same.result c.store.result.now.now c.store-2.result.now.now c.same-2.result
-    c.requires c.prefix.ensures.good c.prefix-2.ensures.good c.placed.ensures c.placed-2.ensures
+    c.requires c.prefix-good.ensures.good c.prefix-other_good.ensures.good c.placed.ensures c.placed-2.ensures
     c.same.ensures c.if-not-same.false c.store.ensures c.store-2.ensures c.same-2.ensures

@@ -14,7 +14,7 @@ refuted-requires g c rest shows =
     let shape = c.args.shape.value in
     let lines = c.args.cert.now.lines.items in
     accepted-refuted (plan_of shape) (history_of shape) lines
-    (subst (λ (s : ShapeOf). IsWellFormed (history_of s)) c.deref-3.ensures c.history.ensures.sound)
-    (subst (λ (s : ShapeOf). IsWithinLimits (plan_of s) (history_of s)) c.deref-2.ensures c.plan.ensures.sound)
+    (subst (λ (s : ShapeOf). IsWellFormed (history_of s)) c.deref-3.ensures c.history-sound.ensures.sound)
+    (subst (λ (s : ShapeOf). IsWithinLimits (plan_of s) (history_of s)) c.deref-2.ensures c.plan-within.ensures.sound)
     (subst (λ (s : ShapeOf). IsAccepted (objects_of s) (history_of s) lines) c.deref.ensures (c.in_ok-check_cert.ensures.0 c.if-not-branch.false))
     rest (subst (λ (l : List Decision). Shows (objects_of shape) (history_of shape) (l ++ rest)) c.empty.ensures shows)

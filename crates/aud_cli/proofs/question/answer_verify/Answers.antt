@@ -9,5 +9,5 @@ returns-then-branch c =
     let accepted = c.in_ok-check_cert.ensures.0 c.if-branch.true in (
       accepted,
       none-from_refuted (objects_of shape) (history_of shape)
-          (accepted-refuted (plan_of shape) (history_of shape) c.args.cert.now.lines.items c.history.ensures.sound c.plan.ensures.sound accepted),
+          (accepted-refuted (plan_of shape) (history_of shape) c.args.cert.now.lines.items c.history-sound.ensures.sound c.plan-within.ensures.sound accepted),
     )

@@ -8,7 +8,7 @@ use Rattle.aud_lattice.specs.Walks.{node_at}
 use Rattle.aud_witness.specs.declared.decision.Decision.{Decision}
 use Rattle.aud_witness.specs.DecisionOrder.{decision_cmp}
 use Rattle.aud_order.specs.Shapes.{objects_of, history_of}
-use Rattle.aud_order.specs.Cursors.{CursorOf, IsBehind}
+use Rattle.aud_order.specs.Cursors.{CursorOf, IsCursorAfter}
 use Rattle.aud_cover.specs.Closings.{IsCovered}
 use Rattle.aud_cover.specs.Leading.{LeadsTo, ReportsClosed}
 use Rattle.aud_cover.proofs.Beginnings.{marked-covered}
@@ -26,7 +26,7 @@ pub returns-in_default-2 : goal.returns-in_default-2
 returns-in_default-2 g c =
     let shape = c.args.shape.now in
     let p = c.args.prefix.now in
-    let none : IsBehind shape p None = subst (IsBehind shape p) c.in_default-2.is (subst (λ (l : List Decision). IsBehind shape l c.in_ok-cursor.field-0) c.decisions-2.ensures c.in_ok-cursor.ensures) in
+    let none : IsCursorAfter shape p None = subst (IsCursorAfter shape p) c.in_default-2.is (subst (λ (l : List Decision). IsCursorAfter shape l c.in_ok-cursor.field-0) c.decisions-2.ensures c.in_ok-cursor.ensures) in
     at-bad (objects_of shape) (history_of shape) c.args.cover.now p none
 
 pub returns-in-Some-node : goal.returns-in-Some-node
@@ -35,7 +35,7 @@ returns-in-Some-node g c =
     let p = c.args.prefix.now in
     let cover = c.args.cover.now in
     let node = c.in-Some-node.node.now in
-    let found : IsBehind shape p (Some c.in-Some.cursor) = subst (IsBehind shape p) c.in-Some.is (subst (λ (l : List Decision). IsBehind shape l c.in_ok-cursor.field-0) c.decisions-2.ensures c.in_ok-cursor.ensures) in
+    let found : IsCursorAfter shape p (Some c.in-Some.cursor) = subst (IsCursorAfter shape p) c.in-Some.is (subst (λ (l : List Decision). IsCursorAfter shape l c.in_ok-cursor.field-0) c.decisions-2.ensures c.in_ok-cursor.ensures) in
     let at : node_at decision_cmp p c.trie.result.now ≡ Some node = ap (λ l. node_at decision_cmp l c.trie.result.now) (sym c.decisions-3.ensures) ∙ sym c.node.ensures ∙ ap option_copied c.in-Some-node.is in
     let leads : LeadsTo cover p node = node-leads cover c.trie.result.now c.trie.ensures.good c.trie.ensures.lists p node at in
     if_both c.closed_here.result (ReportsClosed c.in-Some.cursor node) (ReportsClosed c.in-Some.cursor node) (λ b. IsTrue b ↔ IsClosedAt cover (record { shape = shape; path = p }))
@@ -46,7 +46,7 @@ returns g c =
     let shape = c.args.shape.now in
     let p = c.args.prefix.now in
     let cover = c.args.cover.now in
-    let found : IsBehind shape p (Some c.in-Some.cursor) = subst (IsBehind shape p) c.in-Some.is (subst (λ (l : List Decision). IsBehind shape l c.in_ok-cursor.field-0) c.decisions-2.ensures c.in_ok-cursor.ensures) in
+    let found : IsCursorAfter shape p (Some c.in-Some.cursor) = subst (IsCursorAfter shape p) c.in-Some.is (subst (λ (l : List Decision). IsCursorAfter shape l c.in_ok-cursor.field-0) c.decisions-2.ensures c.in_ok-cursor.ensures) in
     let at : node_at decision_cmp p c.trie.result.now ≡ None = ap (λ l. node_at decision_cmp l c.trie.result.now) (sym c.decisions-3.ensures) ∙ sym c.node.ensures ∙ ap option_copied c.in-None.is in
     let apart : mark_of decision_cmp cover p ≡ Covered → ⊥ = λ e. c.in_default.not-Covered (c.mark.ensures.mark ∙ ap (mark_of decision_cmp cover) c.decisions.ensures ∙ e) in
     at-outside (objects_of shape) (history_of shape) cover p found.1 (nowhere-outside cover c.trie.result.now c.trie.ensures.good c.trie.ensures.lists p at apart)

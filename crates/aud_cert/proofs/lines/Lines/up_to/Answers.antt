@@ -10,7 +10,7 @@ pub overflow_add-last : goal.overflow_add-last
 overflow_add-last g c =
     let i = c.self.inside in
     let inside : c.args.last < length i.lines.items = inside-line i.lines.items c.args.last [] (subst (λ (l : LinesOf _). slice_get (map prefix_in l.lines) c.args.last ≡ Some []) (sym c.self.view_is) c.requires) in
-    omega (arith, i.lines.ok.0, c.len.ensures, c.len.type_inv)
+    omega (arith, i.lines.ok.0, c.len-few.ensures, c.len-few.type_inv)
 
 pub returns : goal.returns
 returns g c =

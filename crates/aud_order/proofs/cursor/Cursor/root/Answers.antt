@@ -15,7 +15,7 @@ invariant_of-result g c =
     let is = c.in_ok-placing.ensures in
     let objects = ap (λ (p : PlanOf). p.objects) c.plan.ensures.plan in
     record {
-      fine = c.history.ensures.sound;
+      fine = c.history-sound.ensures.sound;
       fits = c.plan.ensures.sound;
       rows = ap (λ (p : PlacingOf). p.agenda.rows) is ∙ c.agenda.ensures;
       leads = subst (λ (p : PlacingOf). Leads rows (first_spot rows (objects_of shape)) p.path p.spot p.past) (sym is) (refl, (λ i. first_spot (c.agenda.ensures i) (objects i)));

@@ -12,7 +12,7 @@ returns-in-Some g c =
     let found : position (nat_eq c.args.tx) (map (λ (r : RowOf). r.tx) (table_of h)) ≡ Some c.in-Some.place =
     ap (λ l. position (nat_eq c.args.tx) (map (λ (r : RowOf). r.tx) l)) (sym c.table-table.ensures) ∙ sym c.place.ensures ∙ c.in-Some.is in
     let row = c.index-rows-place.is ∙ ap (λ l. slice_index_or l c.in-Some.place c.index-rows-place.result) (c.rows.ensures ∙ c.table-table.ensures) in
-    c.silent_of.ensures ∙ silent-found h c.args.tx c.in-Some.place c.index-rows-place.result c.index-rows-place.result c.history.ensures.sound found row
+    c.silent_of.ensures ∙ silent-found h c.args.tx c.in-Some.place c.index-rows-place.result c.index-rows-place.result c.history-sound.ensures.sound found row
 
 pub returns-in-None : goal.returns-in-None
 returns-in-None g c =
