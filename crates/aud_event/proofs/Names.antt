@@ -1,5 +1,5 @@
 -- Names and numbers of objects.
-use Rattle.std.specs.Prelude.{◌≡◌, ℕ, suc, zero, Bool, true, false, not, ◌&&◌, ◌||◌, if◌then◌else◌, List, [], ◌∷◌, ◌++◌, length, Option, Some, None, option_map, slice_get, is_some, bytes_eq, string_bytes, refl}
+use Rattle.std.specs.Prelude.{◌≡◌, ℕ, suc, zero, Bool, true, false, not, ◌&&◌, if◌then◌else◌, List, [], ◌∷◌, ◌++◌, length, Option, Some, None, option_map, slice_get, is_some, bytes_eq, string_bytes, refl}
 use Rattle.std.specs.List.{list_any, AllZip}
 use Rattle.std.specs.Map.{update, lookup}
 use Rattle.std.specs.BTreeMap.{is_at}

@@ -1,5 +1,5 @@
 -- Small facts on results and options.
-use Rattle.std.proofs.Common.{◌≡◌, ◌≢◌, Option, Some, None, sym, Result, Ok, Err, IfOk, OnOk, OnErr}
+use Rattle.std.proofs.Common.{◌≡◌, Some, None, sym, Result, Ok, Err, IfOk, OnOk, OnErr}
 
 pub none≢some : {X : Type 0} (x : X) → None ≡ Some x → ⊥
 none≢some x e = cc

@@ -1,4 +1,4 @@
-use Rattle.std.specs.Prelude.{ℕ, ◌<◌, ◌^◌, ◌/◌}
+use Rattle.std.specs.Prelude.{◌<◌, ◌^◌, ◌/◌}
 use Rattle.std.proofs.Common.{arith, rules}
 use Rattle.aud_marks.proofs.Marking.{next-none, next-some}
 use Rattle.aud_marks.proofs.marks.next_of_word.Goals as goal

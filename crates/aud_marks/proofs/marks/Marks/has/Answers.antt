@@ -1,4 +1,4 @@
-use Rattle.std.specs.Prelude.{◌≡◌, ◌≤◌, ◌<◌, nat_lt, false, slice_index_or}
+use Rattle.std.specs.Prelude.{◌≡◌, ◌≤◌, nat_lt, false, slice_index_or}
 use Rattle.std.proofs.Common.{sym, ◌∙◌, ap, arith}
 use Rattle.std.proofs.lemmas.Bool.Decides.{nat_tests}
 use Rattle.aud_marks.specs.Marked.{is_marked}

@@ -1,6 +1,5 @@
-use Rattle.std.specs.Prelude.{◌≡◌, ℕ, ◌<◌, Bool, List, false, slice_index_or, refl}
-use Rattle.std.proofs.Common.{sym, ◌∙◌, ap, subst, arith}
-use Rattle.aud_marks.specs.Marked.{marks_of}
+use Rattle.std.specs.Prelude.{◌≡◌, Bool, List, false, slice_index_or, refl}
+use Rattle.std.proofs.Common.{sym, ◌∙◌, ap, arith}
 use Rattle.aud_marks.proofs.Marking.{marks-same, counts-differ}
 use Rattle.aud_marks.proofs.marks.Marks.same.Goals as goal
 
