@@ -1,5 +1,5 @@
 -- Lists that lead alike.
-use Rattle.std.specs.Prelude.{◌≡◌, ◌↔◌, ℕ, Bool, true, false, IsTrue, nat_eq, List, [], ◌∷◌, map, refl}
+use Rattle.std.specs.Prelude.{◌≡◌, ◌↔◌, ℕ, Bool, true, false, IsTrue, nat_eq, List, [], ◌∷◌, map}
 use Rattle.std.specs.List.{list_any}
 use Rattle.std.proofs.Common.{sym, ◌∙◌, ap, subst, inl, inr}
 use Rattle.aud_event.specs.Meanings.{Declared}
@@ -11,7 +11,6 @@ use Rattle.aud_history.specs.Table.{transactions}
 use Rattle.aud_history.proofs.Tables.{any-transactions}
 use Rattle.aud_witness.specs.declared.decision.Decision.{Decision}
 use Rattle.aud_witness.specs.Orders.{is_named, kept, IsGood}
-use Rattle.aud_witness.proofs.Good.{place_of}
 use Rattle.aud_order.specs.Shapes.{ShapeOf, objects_of, history_of}
 use Rattle.aud_order.specs.Cursors.{CursorOf}
 use Rattle.aud_accept.specs.Acceptance.{LeadAlike}

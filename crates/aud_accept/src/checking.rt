@@ -1,9 +1,7 @@
 //! Whether a certificate is accepted.
 
-ghost use Rattle.std.specs.Prelude.{◌≡◌, ◌↔◌, ◌++◌, ◌∷◌, [], List, map, Some, IfOk, OnOk, IsTrue};
-ghost use Rattle.std.specs.List.{Contains};
+ghost use Rattle.std.specs.Prelude.{◌≡◌, ◌↔◌, ◌++◌, ◌∷◌, [], map, Some, IfOk, OnOk, IsTrue};
 ghost use Rattle.aud_witness.specs.declared.decision.Decision.{Decision};
-ghost use Rattle.aud_witness.specs.Orders.{IsGood};
 ghost use Rattle.aud_order.specs.Silent.{silent_fate};
 ghost use Rattle.aud_order.specs.Shapes.{objects_of, history_of};
 ghost use Rattle.aud_accept.specs.Acceptance.{prefix_in, LeadAlike, EndsEmpty, IsAccepted};

@@ -1,5 +1,5 @@
 -- The ends of tasks: of a share, later, and at a closed node.
-use Rattle.std.proofs.Common.{◌≡◌, ◌<◌, ◌%◌, ◌++◌, ◌⊎◌, [], ℕ, List, length, map, get_or, All, Contains, Option, Some, None, IfSome, ◌==◌, ◌∷◌, Bool, sym, ap, subst, refl, ◌∙◌, arith, inl, inr, true, false, not, ◌+◌}
+use Rattle.std.proofs.Common.{◌≡◌, ◌<◌, ◌%◌, ◌++◌, ◌⊎◌, [], ℕ, List, length, map, get_or, All, Contains, Option, Some, None, IfSome, ◌==◌, ◌∷◌, Bool, sym, ap, subst, refl, ◌∙◌, arith, inl, inr, true, ◌+◌}
 use Rattle.std.proofs.lemmas.List.Elements.{All-contains, Contains-append_left, Contains-append_right, Contains-get_or, Contains-push_cases}
 use Rattle.std.specs.List.Sorted.{IsPermutation}
 use mathlib.Core.List.{IsPrefix}

@@ -1,11 +1,9 @@
 //! The end of all nodes: what they know together.
 
-ghost use Rattle.std.specs.Prelude.{◌≡◌, ◌++◌, ◌∷◌, [], ℕ, List, None, IfOk, IfSome};
-ghost use Rattle.aud_witness.specs.declared.decision.Decision.{Decision};
-ghost use Rattle.aud_order.specs.Shapes.{ShapeOf};
+ghost use Rattle.std.specs.Prelude.{◌≡◌, ◌++◌, ◌∷◌, [], None, IfOk, IfSome};
 ghost use Rattle.aud_audit.specs.Seats.{IsCrewAt, IsCollectorAt};
 ghost use Rattle.aud_findings.specs.Searches.{KnowsEnd};
-ghost use Rattle.aud_audit.specs.Searches.{HasEnded, HaveEnded, KnowsEndsOf, KnowsAllEnds};
+ghost use Rattle.aud_audit.specs.Searches.{KnowsEndsOf, KnowsAllEnds};
 ghost use Rattle.aud_audit.specs.Meshes.{IsMesh};
 
 use crate::collector::Collector;

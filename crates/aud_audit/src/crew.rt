@@ -6,7 +6,7 @@ ghost use Rattle.aud_split.specs.Pools.{MayRun};
 ghost use Rattle.aud_gossip.specs.Receiving.{GoesFurther};
 ghost use Rattle.aud_order.specs.Shapes.{plan_of};
 ghost use Rattle.aud_audit.specs.Seats.{AreLater, IsCrewAt, IsTakenOf};
-ghost use Rattle.aud_audit.specs.Searches.{HaveEndedShare, IsShare, ShareHasEnded};
+ghost use Rattle.aud_audit.specs.Searches.{IsShare, ShareHasEnded};
 
 use aud_event::{Dup, OutOfMemory};
 use aud_findings::Search;

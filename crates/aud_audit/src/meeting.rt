@@ -1,11 +1,10 @@
 //! What all nodes do at once: they offer what they were given, tell each other, and search.
 
-ghost use Rattle.std.specs.Prelude.{◌≡◌, ◌≤◌, ◌<◌, ℕ, List, All, false, true, IfOk, OnOk, IsTrue, length, vec_len, slice_index_or};
-ghost use Rattle.std.specs.List.{Contains, HoldsAt};
-ghost use Rattle.aud_witness.specs.declared.decision.Decision.{Decision};
+ghost use Rattle.std.specs.Prelude.{◌≡◌, ◌≤◌, ◌<◌, All, false, IfOk, OnOk, IsTrue, length, vec_len};
+ghost use Rattle.std.specs.List.{HoldsAt};
 ghost use Rattle.aud_order.specs.Shapes.{plan_of};
 ghost use Rattle.aud_audit.specs.Seats.{AreOf, AreCrews, AreCollectors, IsCrewAt, IsCollectorAt};
-ghost use Rattle.aud_audit.specs.Searches.{HaveEnded, HaveEndedShare, SharesHaveEnded, SearchHasEnded, CrewsHaveEnded, ShareHasEnded};
+ghost use Rattle.aud_audit.specs.Searches.{HaveEnded, SearchHasEnded, CrewsHaveEnded, ShareHasEnded};
 ghost use Rattle.aud_audit.specs.Meshes.{IsMesh, IsMeshFor};
 
 use crate::collector::Collector;

@@ -1,14 +1,12 @@
 //! The run of an audit over the lines of an input.
 
-ghost use Rattle.std.specs.Prelude.{◌≡◌, ◌<◌, ◌≤◌, ℕ, List, IfErr, IfOk, IfSome, OnOk, length};
-ghost use Rattle.std.specs.List.{Contains};
-ghost use Rattle.aud_witness.specs.declared.decision.Decision.{Decision};
+ghost use Rattle.std.specs.Prelude.{◌≡◌, ◌<◌, ◌≤◌, ℕ, IfErr, IfOk, IfSome, OnOk, length};
 ghost use Rattle.aud_cli.specs.Line.{FactsSay, SetSays};
 ghost use Rattle.aud_cli.specs.Words.{IsAuditJob};
 ghost use Rattle.aud_findings.specs.Says.{AuditSays};
-ghost use Rattle.aud_findings.specs.Searches.{IsSearchOf, WasSearched, task_budget, IsSearchWith};
+ghost use Rattle.aud_findings.specs.Searches.{IsSearchOf, WasSearched, IsSearchWith};
 ghost use Rattle.aud_audit.specs.Lines.{AuditLine, AuditOutcome, IsAuditLine, IsOfAudit};
-ghost use Rattle.aud_audit.specs.Searches.{HaveEnded, SearchHasEnded};
+ghost use Rattle.aud_audit.specs.Searches.{SearchHasEnded};
 ghost use Rattle.aud_audit.specs.Seats.{AreOpened};
 ghost use Rattle.aud_audit.specs.Meshes.{IsMesh};
 

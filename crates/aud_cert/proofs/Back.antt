@@ -1,30 +1,26 @@
 -- What is written of a certificate is read again.
-use Rattle.std.proofs.Common.{◌≡◌, ◌<◌, ◌≤◌, ◌+◌, ◌-◌, ◌==◌, ℕ, suc, pos, List, [], ◌∷◌, ◌++◌, Bool, true, false, map, length, nat_le, nat_lt, codes, flat_map, decimal, Some, None, Ok, Result, refl, ap, ◌∙◌, sym, subst, arith, append_assoc, length-append}
+use Rattle.std.proofs.Common.{◌≡◌, ◌<◌, ◌+◌, ◌-◌, ℕ, suc, List, [], ◌∷◌, ◌++◌, true, map, length, nat_le, nat_lt, codes, flat_map, decimal, Some, Ok, refl, ap, ◌∙◌, sym, arith, append_assoc, length-append}
 use Rattle.std.specs.List.{All}
-use Rattle.std.specs.Str.{IsUtf8, IsAscii}
 use Rattle.std.proofs.lemmas.Fmt.{length-decimal-le}
-use Rattle.std.proofs.lemmas.Str.{IsUtf8-from_ascii}
-use Rattle.std.proofs.lemmas.List.Elements.{All-head, All-tail, All-cons, All-nil, All-append}
+use Rattle.std.proofs.lemmas.List.Elements.{All-head, All-tail}
 use Rattle.json.specs.Print.{escape_byte, escape, quoted}
 use Rattle.json.proofs.Printed.Decimals.{IsNumber-decimal}
-use Rattle.serde_json.specs.Data.{Data, unsigned, number, string, object, Members, no_members, member}
+use Rattle.serde_json.specs.Data.{Data, unsigned, number, string, object, no_members, member}
 use Rattle.serde_json.specs.Read.{read}
 use Rattle.serde_json.specs.Written.{compact_text}
 use Rattle.serde_json.proofs.Numbers.{number_of-decimal}
 use Rattle.aud_witness.specs.declared.decision.Decision.{Decision}
-use Rattle.aud_text.specs.declared.fault.TextFault.{TextFault}
-use Rattle.aud_text.specs.Json.{json_read}
-use Rattle.aud_text.specs.Lines.{Filled, lines_of, put_first, filled_from, filled_lines}
+use Rattle.aud_text.specs.Lines.{Filled, lines_of, filled_from}
 use Rattle.aud_text.specs.Orders.{order_text, decision_text, order_read}
 use Rattle.aud_text.proofs.JsonText.{json_of-text}
 use Rattle.aud_text.proofs.OrderText.{reads_back}
 use Rattle.aud_text.proofs.Spelling.{IsPlain, plain_reads, quoted_then}
 use Rattle.aud_accept.specs.declared.cert.CertLine.TheVariants.{Kids, Silent, Same}
-use Rattle.aud_cert.specs.LineText.{Line, line_read, line_json, line_judged, line_by, OrderText}
+use Rattle.aud_cert.specs.LineText.{Line, line_read, line_judged}
 use Rattle.aud_cert.specs.LineText as text
 use Rattle.aud_cert.specs.declared.reason.Reason.TheVariants as by
-use Rattle.aud_cert.specs.CertText.{header_read, header_json, lines_read, headed, lines_headed, with_line, cert_read}
-use Rattle.aud_cert.specs.Written.{kids_text, silent_text, same_text, line_text, header_text, ended, cert_text, IsShort, HasShort, IsWithin}
+use Rattle.aud_cert.specs.CertText.{header_read, lines_read, headed, lines_headed, with_line, cert_read}
+use Rattle.aud_cert.specs.Written.{line_text, header_text, ended, cert_text, IsShort, HasShort, IsWithin}
 use Rattle.aud_cert.proofs.Bytes.{plain-escape, order-plain}
 use Rattle.aud_cert.proofs.LineBytes.{line-are_text, header-are_text, text-utf8, first-of}
 

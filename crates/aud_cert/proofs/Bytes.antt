@@ -1,7 +1,6 @@
 -- The bytes of order texts need no escape, and none of them ends a line.
-use Rattle.std.proofs.Common.{◌≡◌, ◌<◌, ◌≤◌, ◌==◌, ℕ, List, [], ◌∷◌, ◌++◌, Bool, true, false, length, codes, flat_map, decimal, refl, ap, ◌∙◌, sym, subst, arith}
-use Rattle.std.specs.List.{All, join_with_byte}
-use Rattle.std.specs.Str.{IsUtf8}
+use Rattle.std.proofs.Common.{◌≡◌, ◌<◌, ◌≤◌, ℕ, List, [], ◌∷◌, codes, flat_map, decimal, refl, ap, subst, arith}
+use Rattle.std.specs.List.{All}
 use Rattle.std.specs.Str.Parse.{AllDigits}
 use Rattle.std.proofs.lemmas.List.Elements.{All-head, All-tail, All-cons, All-nil, All-push, All-append}
 use Rattle.std.proofs.lemmas.Str.Parse.{digit_from_value}

@@ -1,21 +1,19 @@
 -- The lines that a search writes are accepted.
-use Rattle.std.specs.Prelude.{◌≡◌, ◌↔◌, ℕ, zero, suc, ◌+◌, ◌<◌, true, IsTrue, List, [], ◌∷◌, ◌++◌, map, length, take, Option, Some, slice_get, refl}
+use Rattle.std.specs.Prelude.{◌≡◌, ℕ, zero, suc, ◌+◌, ◌<◌, true, List, [], ◌∷◌, ◌++◌, map, length, take, Some, slice_get, refl}
 use Rattle.std.specs.List.{Contains}
 use Rattle.std.proofs.Common.{sym, ◌∙◌, ap, subst, arith, append_assoc, get_or}
 use Rattle.std.proofs.lemmas.List.{append-nil, length-map}
 use Rattle.std.proofs.lemmas.Option.{slice_get_within, get_or_from_slice_get}
 use Rattle.aud_event.specs.Meanings.{Declared}
 use Rattle.aud_history.specs.Histories.{History}
-use Rattle.aud_history.specs.Table.{transactions}
 use Rattle.aud_witness.specs.declared.decision.Decision.{Decision}
-use Rattle.aud_witness.specs.Orders.{is_named, IsGood}
 use Rattle.aud_order.specs.Shapes.{ShapeOf, objects_of, history_of}
 use Rattle.aud_order.specs.Cursors.{CursorOf}
 use Rattle.aud_search.specs.Recorders.{HasNote, IsHearable, IsNotedAlike}
 use Rattle.aud_search.specs.Recorders as heard
 use Rattle.aud_accept.specs.declared.cert.CertLine.{CertLine}
 use Rattle.aud_accept.specs.declared.cert.CertLine.TheVariants.{Kids, Silent, Same}
-use Rattle.aud_accept.specs.Acceptance.{prefix_in, LeadAlike, HasKids, HasSilent, HasSame, IsAcceptedLine, AreAccepted, EndsEmpty, IsAccepted}
+use Rattle.aud_accept.specs.Acceptance.{prefix_in, LeadAlike, HasKids, HasSilent, IsAcceptedLine, AreAccepted, EndsEmpty, IsAccepted}
 use Rattle.aud_accept.proofs.Alike.{placed_at, are-alike}
 use Rattle.aud_cert.specs.Recorded.{LinesOf}
 use Rattle.aud_search.proofs.MemoLemmas.{last-there}

@@ -1,8 +1,8 @@
 //! From words to what they ask for.
 
-ghost use Rattle.std.specs.Prelude.{◌≡◌, ◌⊎◌, ℕ, List, Option, Some, IfOk, MatchOption, MatchResult, codes, map, option_map, string_bytes};
-ghost use Rattle.clap.specs.Words.{Text, Row, first_of, found_of, rows_of, kind_of, subcommand_of, subcommand_rows_of};
-ghost use Rattle.aud_cli.specs.Words.{AsksFor, AsksForAudit, Commands, Asked, IsBudget, IsCount, IsInRange, IsNumberUpTo, is_true};
+ghost use Rattle.std.specs.Prelude.{◌≡◌, ◌⊎◌, ℕ, Option, Some, IfOk, MatchOption, MatchResult, codes, map, option_map, string_bytes};
+ghost use Rattle.clap.specs.Words.{first_of, found_of, rows_of, kind_of, subcommand_rows_of};
+ghost use Rattle.aud_cli.specs.Words.{Commands, Asked, IsBudget, IsCount, IsInRange, IsNumberUpTo, is_true};
 ghost use Rattle.aud_cli.specs.declared.job.Command.{Command as CommandOf};
 
 use crate::command_line::opaq_command;

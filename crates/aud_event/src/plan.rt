@@ -1,8 +1,8 @@
 //! The plan: how many logs there are, and which objects, by number and by name.
 
-ghost use Rattle.std.specs.Prelude.{◌≡◌, ◌≤◌, ◌⊎◌, ◌↔◌, IfOk, IsTrue, slice_get, MatchOption, MatchResult, None, Some, true, false, length, option_copied};
+ghost use Rattle.std.specs.Prelude.{◌≡◌, ◌≤◌, ◌↔◌, IfOk, IsTrue, slice_get, None, Some, true, false, length, option_copied};
 ghost use Rattle.std.specs.List.{list_all};
-ghost use Rattle.aud_event.specs.Plans.{is_name, is_name_byte, names_differ, is_opening, first_plan_fault, first_value_fault, plan_fault_number, number_of, IsIndex, NumbersNames, JudgesParts};
+ghost use Rattle.aud_event.specs.Plans.{is_name, is_name_byte, is_opening, first_plan_fault, first_value_fault, plan_fault_number, number_of, IsIndex, NumbersNames, JudgesParts};
 
 use crate::limits::{COUNTER_MAX, COUNTER_MIN, LOGS_MAX, NAME_MAX, OBJECTS_MAX};
 use crate::memory::{Dup, OutOfMemory};

@@ -1,6 +1,6 @@
 -- Where the tables of a walk show no conflict, there is none.
 use Rattle.std.proofs.Common.{◌≡◌, ℕ, ◌<◌, List, [], ◌∷◌, refl, sym, ◌∙◌, arith, get_or}
-use Rattle.std.specs.Prelude.{Bool, true, false, ◌||◌, ◌&&◌, None, nat_lt, nat_le, nat_eq}
+use Rattle.std.specs.Prelude.{true, false, ◌&&◌, None, nat_lt, nat_le, nat_eq}
 use Rattle.std.specs.List.{list_any}
 use Rattle.aud_event.specs.declared.limits.TheConstants.{LOGS_MAX}
 use Rattle.aud_event.specs.declared.fact.Fact.{Fact}

@@ -1,11 +1,9 @@
 //! What two nodes know together.
 
-ghost use Rattle.std.specs.Prelude.{◌≡◌, ℕ, List, IfOk};
-ghost use Rattle.aud_witness.specs.declared.decision.Decision.{Decision};
-ghost use Rattle.aud_order.specs.Shapes.{ShapeOf};
+ghost use Rattle.std.specs.Prelude.{◌≡◌, IfOk};
 ghost use Rattle.aud_know.specs.Known.{Takes};
 ghost use Rattle.aud_know.specs.Norms.{atoms_of};
-ghost use Rattle.aud_findings.specs.Searches.{KnowsEnd, KeepsEnds};
+ghost use Rattle.aud_findings.specs.Searches.{KeepsEnds};
 
 use aud_event::OutOfMemory;
 use aud_know::laws::knowledge_is_norm;

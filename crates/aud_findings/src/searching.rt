@@ -1,7 +1,7 @@
 //! What the workers of all nodes search: the tasks of one history.
 
-ghost use Rattle.std.specs.Prelude.{◌≡◌, ◌≤◌, ◌<◌, None, IfOk, IfSome, length, take};
-ghost use Rattle.aud_findings.specs.Searches.{IsSearchOf, IsReportedAtOnce, task_budget, IsSearchWith, IsFirstOf};
+ghost use Rattle.std.specs.Prelude.{◌≡◌, ◌≤◌, ◌<◌, None, IfOk, IfSome, length};
+ghost use Rattle.aud_findings.specs.Searches.{IsReportedAtOnce, task_budget, IsSearchWith, IsFirstOf};
 
 use aud_event::{Dup, OutOfMemory};
 use aud_facts::Facts;

@@ -1,11 +1,10 @@
 -- Packets and deltas, one after another.
-use Rattle.std.proofs.Common.{◌≡◌, ◌∙◌, ◌++◌, ◌∷◌, [], List, Option, Some, None, map, sym, ap, subst, refl, inl, inr, append_assoc}
+use Rattle.std.proofs.Common.{◌≡◌, ◌∙◌, ◌++◌, ◌∷◌, [], List, Option, Some, None, map, sym, ap, subst, inl, inr}
 use Rattle.std.specs.List.{Contains}
 use Rattle.std.proofs.lemmas.List.Elements.{Contains-append_left, Contains-append_right, Contains-append_cases}
 use mathlib.Core.List.{IsPrefix}
 use Rattle.aud_event.specs.Meanings.{PlanOf}
 use Rattle.aud_know.specs.Known.{KnownAtom, KnowledgeOf, norm_of}
-use Rattle.aud_know.specs.Items.{item_atoms}
 use Rattle.aud_know.specs.Norms.{atoms_of}
 use Rattle.aud_know.specs.Laws.{NormAbsorbs, NormIsOfSet}
 use Rattle.aud_node.specs.Logs.{Entry, atoms_in, state_of}

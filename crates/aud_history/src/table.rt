@@ -1,6 +1,6 @@
 //! The transactions of a history in the order of their first events, each with what it did.
 
-ghost use Rattle.std.specs.Prelude.{◌≡◌, ◌<◌, ◌^◌, IfOk, OnOk, OnErr, nat_eq, map};
+ghost use Rattle.std.specs.Prelude.{◌≡◌, ◌<◌, IfOk, OnOk, OnErr, nat_eq, map};
 ghost use Rattle.std.specs.List.{position};
 ghost use Rattle.aud_history.specs.WellFormed.{IsWellFormed};
 ghost use Rattle.aud_history.specs.Table.{table_of, with_event, fresh_row, rows_with};

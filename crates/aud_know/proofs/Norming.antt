@@ -1,5 +1,5 @@
 -- Equal sets of atoms have equal normal forms.
-use Rattle.std.specs.Prelude.{◌≡◌, zero, suc, Bool, true, false, ◌||◌, List, [], ◌∷◌, ◌++◌, Option, Some, None, map, ◌⊎◌, refl}
+use Rattle.std.specs.Prelude.{◌≡◌, zero, suc, Bool, true, ◌||◌, List, [], ◌∷◌, ◌++◌, Option, Some, None, map, ◌⊎◌, refl}
 use Rattle.std.proofs.Common.{sym, ap, subst, ◌∙◌, arith, inl, inr}
 use Rattle.std.specs.declared.cmp.Ordering.{Ordering}
 use Rattle.std.specs.Ordering.{is_le}

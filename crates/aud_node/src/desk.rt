@@ -1,6 +1,6 @@
 //! What lies under the ink lock: the writer, the log, and how many offers each seat has made.
 
-ghost use Rattle.std.specs.Prelude.{◌≡◌, ℕ, ◌+◌, ◌<◌, ◌≤◌, ◌^◌, ◌++◌, ◌∷◌, [], length, slice_index, All, vec_len, vec_capacity, IfOk, IfErr, OnErr, OnOk, true};
+ghost use Rattle.std.specs.Prelude.{◌≡◌, ◌+◌, ◌<◌, ◌^◌, ◌++◌, ◌∷◌, [], length, All, vec_len, vec_capacity, IfOk, IfErr, OnErr, OnOk, true};
 ghost use Rattle.std.specs.Arc.{arc_value};
 ghost use Rattle.aud_node.specs.Logs.{own, state_of, written_of, IsWider};
 ghost use Rattle.aud_node.specs.Meanings.{longer, mine, Agrees, GoesOn};

@@ -1,8 +1,7 @@
 //! The node that threads share.
 
-ghost use Rattle.std.specs.Prelude.{◌≡◌, ◌≢◌, ◌↔◌, ℕ, ◌+◌, ◌<◌, ◌≤◌, ◌++◌, ◌∷◌, [], map, All, IfOk, IfErr, OnOk, OnErr, IsTrue};
+ghost use Rattle.std.specs.Prelude.{◌≡◌, ◌↔◌, ◌+◌, ◌<◌, ◌++◌, ◌∷◌, [], map, All, IfOk, IfErr, OnOk, OnErr, IsTrue};
 ghost use Rattle.std.specs.Result.{IsErrOf};
-ghost use Rattle.std.specs.Arc.{arc_value};
 ghost use Rattle.aud_know.specs.Verdicts.{IsVerdict};
 ghost use Rattle.aud_node.specs.Logs.{state_of, upto, written_of, IsKnownIn, Offered};
 ghost use Rattle.aud_node.specs.Meanings.{first_pass, mine, node_of, unseen, Agrees, GoesOn, HasSeen, IsAt, IsExact};

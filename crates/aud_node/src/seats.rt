@@ -1,6 +1,6 @@
 //! The passes of a node by their seats.
 
-ghost use Rattle.std.specs.Prelude.{◌≡◌, ◌<◌, ◌≢◌, [], All, Any, IfErr, IfNone, IfOk, IfSome, MatchBool, map};
+ghost use Rattle.std.specs.Prelude.{◌≡◌, ◌<◌, ◌≢◌, [], Any, IfErr, IfNone, IfOk, IfSome, MatchBool, map};
 ghost use Rattle.aud_node.specs.Logs.{upto};
 ghost use Rattle.aud_node.specs.Meanings.{first_pass};
 ghost use Rattle.aud_node.specs.Faults.{AreAt, HasSeat, HasSeats, IsFirstForeign, IsMissing};

@@ -1,15 +1,15 @@
 -- A row of the table gives the silent fate of its transaction.
-use Rattle.std.specs.Prelude.{◌≡◌, ℕ, suc, zero, ◌<◌, Bool, true, false, ◌&&◌, ◌||◌, nat_eq, List, [], ◌∷◌, map, length, Some, None, slice_get, refl}
+use Rattle.std.specs.Prelude.{◌≡◌, ℕ, Bool, true, false, ◌&&◌, ◌||◌, nat_eq, List, [], ◌∷◌, map, Some, None, slice_get, refl}
 use Rattle.std.specs.List.{list_any, list_all, position}
-use Rattle.std.proofs.Common.{sym, ◌∙◌, ap, subst, cond, inl, inr, arith, get_or}
+use Rattle.std.proofs.Common.{sym, ◌∙◌, ap, subst, cond, get_or}
 use Rattle.std.proofs.lemmas.List.Quantifiers.{position-Some}
 use Rattle.aud_event.specs.declared.fact.Event.{Event}
 use Rattle.aud_event.specs.declared.fact.Event.TheVariants.{Inv, Ret, TryC, TryA, Commit, Abort}
-use Rattle.aud_event.proofs.Bools.{and_true, true_or, or_true, or_right, nat_eq-is}
+use Rattle.aud_event.proofs.Bools.{nat_eq-is}
 use Rattle.aud_object.specs.Objects.{is_observing}
 use Rattle.aud_object.specs.declared.execution.Execution.{Execution}
 use Rattle.aud_history.specs.declared.state.TxState.TheVariants.{Idle, TriedCommit, TriedAbort}
-use Rattle.aud_history.specs.Histories.{History, events_of, is_in, is_commit, is_try_commit, is_committed, is_live, is_commit_pending}
+use Rattle.aud_history.specs.Histories.{History, events_of, is_in, is_commit, is_try_commit}
 use Rattle.aud_history.specs.WellFormed.{IsWellFormed}
 use Rattle.aud_history.specs.ByState.{is_match, Passes}
 use Rattle.aud_history.specs.Table.{RowOf, transactions, block_of, row_of, table_of}

@@ -1,10 +1,9 @@
 -- Where a cursor stands, by the definition.
-use Rattle.std.specs.Prelude.{◌≡◌, ◌↔◌, ℕ, zero, suc, ◌+◌, ◌-◌, ◌<◌, Bool, true, false, not, ◌||◌, nat_eq, nat_lt, min, List, [], ◌∷◌, ◌++◌, map, length, Option, Some, None, Ok, Err, slice_get, slice_index_or, refl}
-use Rattle.std.specs.List.{list_any, position, position_or_len}
+use Rattle.std.specs.Prelude.{◌≡◌, ◌↔◌, ℕ, zero, suc, ◌+◌, ◌-◌, ◌<◌, Bool, true, false, not, nat_eq, min, List, [], ◌∷◌, ◌++◌, map, length, Option, Some, None, Ok, Err, slice_get, slice_index_or, refl}
+use Rattle.std.specs.List.{position}
 use Rattle.std.specs.Option.{unwrap_or}
-use Rattle.std.proofs.Common.{sym, ◌∙◌, ap, subst, cond, arith, get_or, take}
+use Rattle.std.proofs.Common.{sym, ◌∙◌, ap, subst, arith, get_or, take}
 use Rattle.std.proofs.Math.ListN.{length-map}
-use Rattle.std.proofs.lemmas.Bool.Decides.{nat_tests}
 use Rattle.std.proofs.lemmas.List.Quantifiers.{position-Some}
 use Rattle.aud_event.specs.Meanings.{Declared, PlanOf}
 use Rattle.aud_event.proofs.Bools.{is_false, nat_eq-is}
@@ -24,7 +23,7 @@ use Rattle.aud_witness.specs.Placings.{PlacingOf, Advances, GoesBack}
 use Rattle.aud_witness.proofs.Good.{IsGood-empty, IsGood-push, place_of}
 use Rattle.aud_witness.proofs.Faults.{IsGoodNext-from_no_fault, no_fault-from_IsGoodNext}
 use Rattle.aud_witness.proofs.Bridge.{tx-rows, row-at, named-at, enabled-by_rows}
-use Rattle.aud_witness.proofs.BridgeSteps.{Stands, Stands-root, Reported, stepped-reported, fit-from_plan, lt-any, absent-from_position}
+use Rattle.aud_witness.proofs.BridgeSteps.{Stands, Stands-root, Reported, stepped-reported, fit-from_plan, absent-from_position}
 use Rattle.aud_order.specs.Shapes.{ShapeOf, plan_of, objects_of, history_of}
 use Rattle.aud_order.specs.declared.pushed.Pushed.{Pushed}
 use Rattle.aud_order.specs.declared.pushed.Pushed.TheVariants as reported

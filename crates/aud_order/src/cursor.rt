@@ -1,6 +1,6 @@
 //! A cursor over the good lists of decisions of a history.
 
-ghost use Rattle.std.specs.Prelude.{◌≡◌, ◌≢◌, ◌↔◌, ◌<◌, ◌≤◌, ◌-◌, ◌++◌, [], ◌∷◌, true, false, length, take, map, filter, IsTrue, IfOk, OnOk, OnErr, slice_index_or};
+ghost use Rattle.std.specs.Prelude.{◌≡◌, ◌≢◌, ◌↔◌, ◌<◌, ◌-◌, ◌++◌, [], ◌∷◌, true, false, length, take, map, filter, IsTrue, IfOk, OnOk, OnErr};
 ghost use Rattle.aud_object.specs.Objects.{opening_of};
 ghost use Rattle.aud_object.specs.Executions.{states_after};
 ghost use Rattle.aud_history.specs.Table.{table_of, transactions};

@@ -1,10 +1,10 @@
 //! A whole pool, from its tasks to what its workers leave.
 
-ghost use Rattle.std.specs.Prelude.{ℕ, ◌-◌, ◌++◌, ◌≡◌, ◌<◌, ◌≤◌, ◌+◌, ◌⊎◌, [], true, false, not, length, map, All, IfOk, IfErr, OnOk, vec_len, vec_capacity};
+ghost use Rattle.std.specs.Prelude.{◌-◌, ◌++◌, ◌≡◌, ◌<◌, ◌≤◌, ◌+◌, ◌⊎◌, [], true, false, not, map, All, IfOk, IfErr, OnOk, vec_len, vec_capacity};
 ghost use Rattle.std.specs.List.Sorted.{IsPermutation};
-ghost use Rattle.crossbeam_deque.specs.Handles.{view, IsPassOf, worker_deque, stealer_deque, worker_view, worker_flavor, worker_index, worker_capacity, SameWorker};
+ghost use Rattle.crossbeam_deque.specs.Handles.{view, worker_deque, stealer_deque, worker_view, worker_flavor, worker_index, worker_capacity, SameWorker};
 ghost use Rattle.aud_pool.specs.Rule.{tally};
-ghost use Rattle.aud_pool.specs.Workers.{AreWorked, HasParts, HaveGrown, IsCrew, IsHolding, IsReady, IsRefusal, IsStarting, all_drawn, some_stopped, end_of, gathered};
+ghost use Rattle.aud_pool.specs.Workers.{AreWorked, HasParts, HaveGrown, IsCrew, IsHolding, IsReady, IsRefusal, all_drawn, end_of, gathered};
 
 use crate::queue::{add_marks, drain, fill};
 use crate::rule::{OnePart, Queue, Taker};

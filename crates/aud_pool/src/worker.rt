@@ -1,9 +1,9 @@
 //! One worker, and all of them at once.
 
-ghost use Rattle.std.specs.Prelude.{◌≡◌, ◌<◌, ◌∷◌, [], false, not, length, All, vec_len};
+ghost use Rattle.std.specs.Prelude.{◌≡◌, ◌<◌, ◌∷◌, [], length, All, vec_len};
 ghost use Rattle.crossbeam_deque.specs.Handles.{view, IsPassOf, stealer_deque};
-ghost use Rattle.aud_pool.specs.Rule.{tally, after_take};
-ghost use Rattle.aud_pool.specs.Workers.{AreWorked, IsReady, IsDone, IsStarting, SeatsHaveGrown};
+ghost use Rattle.aud_pool.specs.Rule.{after_take};
+ghost use Rattle.aud_pool.specs.Workers.{IsReady, IsDone, IsStarting, SeatsHaveGrown};
 
 use crate::rule::{Taker, Takes, Token};
 use crate::work::{Gate, Work};

@@ -1,6 +1,6 @@
 //! Sources and sinks of bytes, and whole texts from the ones and into the others.
 
-ghost use Rattle.std.specs.Prelude.{◌≡◌, ◌≤◌, ◌<◌, ◌+◌, ◌++◌, ℕ, List, [], length, Ok, Err, OnOk, OnErr, IfOk, IfErr, take};
+ghost use Rattle.std.specs.Prelude.{◌≡◌, ◌<◌, ◌+◌, ◌++◌, ℕ, List, length, Ok, Err, OnOk, OnErr, IfOk, take};
 ghost use Rattle.aud_report.specs.Devices.{Reads, Writes, BeginsOnly, nothing_taken};
 
 use std::alloc::{AllocError, Allocator};

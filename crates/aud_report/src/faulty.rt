@@ -16,7 +16,7 @@ pub struct DrippingSource<A: Allocator = Global> {
 }
 
 impl<A: Allocator> Source for DrippingSource<A> {
-    ghost use Rattle.std.specs.Prelude.{ℕ, drop, ◌<◌};
+    ghost use Rattle.std.specs.Prelude.{drop, ◌<◌};
 
     ghost left = { λ s. drop s.at s.bytes.items };
 

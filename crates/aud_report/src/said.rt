@@ -1,8 +1,8 @@
 //! What a run says, and the one line that says it.
 
-ghost use Rattle.std.specs.Prelude.{◌≡◌, ◌++◌, ℕ, List, OnOk, IfOk, codes, decimal, Option, option_map};
+ghost use Rattle.std.specs.Prelude.{◌≡◌, ◌++◌, OnOk, IfOk, codes};
 ghost use Rattle.aud_text.specs.Orders.{order_text};
-ghost use Rattle.aud_report.specs.Lines.{fault_text, inner_text, conflict_words, ill_formed_words, verdict_words, words_of, certificate_of, line_of};
+ghost use Rattle.aud_report.specs.Lines.{fault_text, conflict_words, ill_formed_words, verdict_words, words_of, certificate_of, line_of};
 
 use aud_cert::{Cert, write_cert};
 use aud_event::OutOfMemory;

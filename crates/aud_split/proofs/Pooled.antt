@@ -1,7 +1,6 @@
 -- What the end of a pool says of all its tasks.
 use Rattle.std.specs.Prelude.{◌≡◌, ◌⊎◌, ◌<◌, ℕ, zero, suc, Bool, true, false, cond, List, [], ◌∷◌, ◌++◌, length, map, filter, All, refl}
 use Rattle.std.specs.List.{Contains}
-use Rattle.std.specs.List.Sorted.{IsPermutation}
 use Rattle.std.proofs.Common.{sym, ap, subst, inl, inr, arith, get_or, eqb, eq-eqb, true≢false}
 use Rattle.std.proofs.lemmas.List.Elements.{All-contains, Contains-append_cases, Contains-get_or}
 use Rattle.std.proofs.lemmas.List.Sorted.{Contains-permutation}
@@ -11,7 +10,7 @@ use Rattle.aud_node.specs.Logs.{Entry, atoms_in}
 use Rattle.aud_node.specs.Meanings.{PassOf, first_pass}
 use Rattle.aud_split.specs.Searched.{IsEndedBy}
 use Rattle.aud_split.specs.Ends.{drawn_by, faulted}
-use Rattle.aud_split.specs.Pools.{IsSettled, AreSettled}
+use Rattle.aud_split.specs.Pools.{IsSettled}
 use Rattle.aud_split.specs.Laws.{PoolEndsAll}
 
 module _ {T : Type 0} where

@@ -1,6 +1,6 @@
 //! The search below one task, by a worker with a pass of a node.
 
-ghost use Rattle.std.specs.Prelude.{◌≡◌, IfOk, OnOk};
+ghost use Rattle.std.specs.Prelude.{◌≡◌, IfOk};
 ghost use Rattle.aud_order.specs.Shapes.{plan_of};
 ghost use Rattle.aud_node.specs.Meanings.{IsAt};
 ghost use Rattle.aud_split.specs.Pools.{HasSearched, IsFound, IsSettled};

@@ -1,5 +1,5 @@
 -- A fact that is built: its keys stand, and the types fit where no other key stands.
-use Rattle.std.proofs.Common.{◌≡◌, ℕ, ℤ, List, [], ◌∷◌, Bool, true, false, ◌&&◌, cond, Option, Some, None, Ordering, Less, Equal, Greater, is_eq, codes, is_some, option_map, option_and_then, Result, Err, bytes_eq, true≢false, refl, ap, ◌∙◌, sym}
+use Rattle.std.proofs.Common.{◌≡◌, ℕ, ℤ, List, [], ◌∷◌, Bool, true, false, cond, Option, Some, None, Ordering, Less, Equal, Greater, is_eq, codes, is_some, option_map, option_and_then, Result, Err, bytes_eq, true≢false, refl, ap, ◌∙◌, sym}
 use Rattle.std.specs.Ordering.{nat_cmp, match_ordering}
 use Rattle.std.specs.Cmp.Lexicographic.{slice_cmp}
 use Rattle.std.proofs.lemmas.Map.Text.{is_eq-slice_cmp}

@@ -1,7 +1,6 @@
 //! Order texts: lists of decisions.
 
-ghost use Rattle.std.specs.Prelude.{◌≡◌, ◌<◌, ◌≤◌, ◌==◌, ◌++◌, ◌∷◌, ◌⊎◌, ℕ, List, Ok, Err, All, length, position, IfOk, OnOk, IfSome, MatchResult, option_map, flat_map};
-ghost use Rattle.aud_event.specs.declared.limits.TheConstants.{TRANSACTIONS};
+ghost use Rattle.std.specs.Prelude.{◌≡◌, ◌<◌, ◌==◌, ◌++◌, ◌∷◌, ◌⊎◌, ℕ, List, Ok, Err, All, length, position, IfOk, OnOk, IfSome, MatchResult, option_map, flat_map};
 ghost use Rattle.aud_witness.specs.declared.decision.Decision.{Decision as DecisionOf};
 ghost use Rattle.aud_text.specs.Orders.{words_of, words_left, words_read, order_read, order_text, decision_text, fate_letter, ReadsBackAs};
 

@@ -7,7 +7,6 @@ ghost use Rattle.serde_json.specs.View.{view, members_view};
 ghost use Rattle.serde_json.specs.Written.{compact_text};
 ghost use Rattle.aud_event.specs.declared.fact.Fact.{Fact as FactOf};
 ghost use Rattle.aud_event.specs.Meanings.{PlanOf};
-ghost use Rattle.aud_event.specs.Plans.{first_plan_fault};
 ghost use Rattle.aud_event.specs.Facts.{first_fact_fault};
 ghost use Rattle.aud_text.specs.FactText.{fact_read, judged};
 ghost use Rattle.aud_text.specs.Written.{data_of, answer_data, argument_of, object_name, small_data, headed, tailed, operated, record_members, end_members, AnswerFits, EventFits, FactFits, IsFactOf};

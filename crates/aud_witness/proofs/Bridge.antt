@@ -1,23 +1,15 @@
 -- Placing by the rows of the table is placing by the definition.
-use Rattle.std.specs.Prelude.{◌≡◌, ◌↔◌, ℕ, suc, zero, ◌+◌, ◌<◌, ◌≤◌, Bool, true, false, not, ◌&&◌, ◌||◌, if◌then◌else◌, nat_eq, nat_lt, List, [], ◌∷◌, ◌++◌, map, filter, length, replicate, Option, Some, None, Result, Ok, Err, MatchOption, slice_get, slice_set, slice_index_or, All, refl}
-use Rattle.std.specs.List.{list_any, list_all, position}
-use Rattle.std.proofs.Common.{sym, ◌∙◌, ap, subst, cond, inl, inr, arith, get_or, set, ◌⊎◌}
-use Rattle.std.proofs.lemmas.Bool.Decides.{nat_tests}
-use Rattle.std.proofs.lemmas.List.Quantifiers.{position-Some}
-use Rattle.aud_event.specs.declared.object.Op.{Op}
+use Rattle.std.specs.Prelude.{◌≡◌, ℕ, suc, zero, ◌<◌, Bool, true, false, not, ◌&&◌, ◌||◌, if◌then◌else◌, nat_eq, nat_lt, List, [], ◌∷◌, map, filter, length, Some, slice_get, refl}
+use Rattle.std.specs.List.{list_any, list_all}
+use Rattle.std.proofs.Common.{sym, ◌∙◌, ap, subst, cond, inl, inr, arith, get_or}
 use Rattle.aud_event.specs.declared.fact.Event.{Event}
-use Rattle.aud_event.specs.declared.fact.Event.TheVariants.{Inv, Ret, TryC, TryA, Commit, Abort}
-use Rattle.aud_event.specs.Meanings.{Declared, PlanOf}
-use Rattle.aud_event.proofs.Bools.{or_true, or_false, and_true, true_and, or_right, true_or, not_true, not_false, split, is_false, nat_eq-is, nat_eq-refl, nat_eq-sym, same_bools}
-use Rattle.aud_object.specs.Objects.{ObjState, opening_of, on_object, IsLegal}
-use Rattle.aud_object.specs.Executions.{AreExecutions, no_execution, states_after, states_after_from, state_after, IsLegalFrom}
-use Rattle.aud_object.specs.Blocks.{BlockOf, events_of_block, AreThere}
-use Rattle.aud_object.specs.Laws.{AreExecutionsOnEach}
+use Rattle.aud_event.specs.declared.fact.Event.TheVariants.{Commit, Abort}
+use Rattle.aud_event.proofs.Bools.{or_right, true_or, split, nat_eq-is, nat_eq-refl}
 use Rattle.aud_history.specs.declared.status.Status.{Status}
 use Rattle.aud_history.specs.declared.status.Status.TheVariants.{Committed, Aborted, CommitPending, Live}
-use Rattle.aud_history.specs.Histories.{History, events_of, is_in, is_commit, is_abort, is_try_commit, is_committed, is_aborted, is_completed, is_live, is_commit_pending, is_before}
+use Rattle.aud_history.specs.Histories.{History, events_of, is_in, is_commit, is_abort, is_try_commit, is_committed, is_aborted, is_completed, is_before}
 use Rattle.aud_history.specs.WellFormed.{IsWellFormed}
-use Rattle.aud_history.specs.Table.{RowOf, transactions, tx_status, block_of, first_stamp, last_stamp, row_of, table_of}
+use Rattle.aud_history.specs.Table.{transactions, tx_status, first_stamp, last_stamp, row_of, table_of}
 use Rattle.aud_history.proofs.Ends.{not_both}
 use Rattle.aud_history.proofs.Tables.{any-transactions}
 use Rattle.aud_history.proofs.RowLaws.{is_before-by_stamps}

@@ -1,21 +1,19 @@
 -- One decision placed by the rows of the table is one decision placed by the definition.
-use Rattle.std.specs.Prelude.{◌≡◌, ℕ, suc, zero, ◌+◌, ◌<◌, ◌≤◌, Bool, true, false, not, ◌&&◌, ◌||◌, if◌then◌else◌, nat_eq, nat_lt, List, [], ◌∷◌, ◌++◌, map, filter, length, replicate, Option, Some, None, Result, Ok, Err, MatchOption, slice_get, slice_set, slice_index_or, All, refl}
-use Rattle.std.specs.List.{list_any, list_all, position, position_or_len}
-use Rattle.std.proofs.Common.{sym, ◌∙◌, ap, subst, cond, inl, inr, arith, get_or, set, append_assoc, ◌⊎◌}
+use Rattle.std.specs.Prelude.{◌≡◌, ℕ, suc, zero, ◌+◌, ◌<◌, Bool, true, false, not, ◌||◌, if◌then◌else◌, nat_eq, nat_lt, List, [], ◌∷◌, ◌++◌, map, length, replicate, Option, Some, None, Result, Ok, Err, MatchOption, slice_get, slice_set, slice_index_or, All, refl}
+use Rattle.std.specs.List.{list_any, position, position_or_len}
+use Rattle.std.proofs.Common.{sym, ◌∙◌, ap, subst, cond, inl, inr, arith, get_or, set, append_assoc}
 use Rattle.std.proofs.Math.ListN.{length-map}
 use Rattle.std.proofs.lemmas.Bool.Decides.{nat_tests}
 use Rattle.std.proofs.lemmas.List.{append-nil}
 use Rattle.std.proofs.lemmas.List.Quantifiers.{position-Some}
 use Rattle.aud_event.specs.declared.object.Op.{Op}
-use Rattle.aud_event.specs.declared.object.Op.TheVariants.{Read}
 use Rattle.aud_event.specs.declared.object.OpName.{OpName}
-use Rattle.aud_event.specs.declared.object.Answer.{Answer}
 use Rattle.aud_event.specs.declared.fact.Event.{Event}
 use Rattle.aud_event.specs.declared.fact.Event.TheVariants.{Inv, Ret, TryC, TryA, Commit, Abort}
 use Rattle.aud_event.specs.Meanings.{Declared, PlanOf}
 use Rattle.aud_event.specs.Objects.{name_of}
 use Rattle.aud_event.specs.Facts.{first_event_fault, first_use_fault}
-use Rattle.aud_event.proofs.Bools.{or_true, or_false, and_true, true_and, or_right, true_or, not_true, not_false, split, is_false, nat_eq-is, nat_eq-refl, nat_eq-sym, same_bools}
+use Rattle.aud_event.proofs.Bools.{or_true, and_true, or_right, true_or, not_true, split, is_false, nat_eq-is, nat_eq-refl, nat_eq-sym}
 use Rattle.aud_object.specs.Objects.{ObjState, opening_of, on_object, IsInSeq, IsLegal}
 use Rattle.aud_object.specs.Executions.{AreExecutions, no_execution, execution, states_after, states_after_from, state_after, IsLegalFrom}
 use Rattle.aud_object.specs.Blocks.{BlockOf, events_of_block, AreThere}
@@ -24,7 +22,7 @@ use Rattle.aud_object.specs.Laws.{AreExecutionsOnEach}
 use Rattle.aud_object.proofs.Replays.{on_object-append}
 use Rattle.aud_object.proofs.Legality.{opening_is_legality, blocks_replay_in_turn}
 use Rattle.aud_history.specs.declared.state.TxState.TheVariants.{Idle}
-use Rattle.aud_history.specs.Histories.{History, events_of, is_in, is_commit, is_try_commit, is_committed, is_completed, is_live, is_commit_pending}
+use Rattle.aud_history.specs.Histories.{History, events_of, is_in, is_commit, is_try_commit, is_committed, is_live, is_commit_pending}
 use Rattle.aud_history.specs.WellFormed.{IsWellFormed}
 use Rattle.aud_history.specs.ByState.{is_match, Passes}
 use Rattle.aud_history.specs.FirstFault.{FitsPlan}

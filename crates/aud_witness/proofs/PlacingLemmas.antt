@@ -1,9 +1,9 @@
 -- A placing: what is ready, and the way back.
-use Rattle.std.specs.Prelude.{◌≡◌, ◌≢◌, ℕ, suc, zero, ◌+◌, ◌-◌, ◌<◌, ◌≤◌, Bool, true, false, not, ◌&&◌, ◌||◌, if◌then◌else◌, nat_lt, nat_le, List, [], ◌∷◌, ◌++◌, length, replicate, reverse, Option, Some, None, Result, Ok, Err, MatchOption, slice_get, slice_set, slice_index_or, refl}
-use Rattle.std.proofs.Common.{sym, ◌∙◌, ap, subst, cond, inl, inr, arith, get_or, set, drop, length-set, get_or-set_same, get_or-set_other, ◌⊎◌}
+use Rattle.std.specs.Prelude.{◌≡◌, ◌≢◌, ℕ, suc, zero, ◌+◌, ◌-◌, ◌<◌, ◌≤◌, Bool, true, false, not, ◌&&◌, ◌||◌, if◌then◌else◌, nat_lt, nat_le, List, [], ◌∷◌, ◌++◌, length, replicate, reverse, Option, Some, None, Result, Ok, Err, MatchOption, slice_get, slice_index_or, refl}
+use Rattle.std.proofs.Common.{sym, ◌∙◌, ap, subst, cond, inl, inr, arith, get_or, set, drop, length-set}
 use Rattle.std.proofs.lemmas.Bool.Decides.{nat_tests}
 use Rattle.std.proofs.lemmas.List.{reverse-append, drop_more}
-use Rattle.aud_event.proofs.Bools.{or_true, and_true, true_and, or_right, true_or, not_true, not_false, split, is_false, nat_eq-is}
+use Rattle.aud_event.proofs.Bools.{or_true, and_true, true_and, or_right, true_or, not_true, not_false, split, is_false}
 use Rattle.aud_object.specs.Objects.{ObjState}
 use Rattle.aud_object.specs.Meanings.{StoreOf}
 use Rattle.aud_object.specs.Replayed.{replayed}

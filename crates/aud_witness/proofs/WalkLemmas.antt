@@ -1,12 +1,11 @@
 -- Decisions placed in turn by the rows of the table: what can be placed is good, and an order is judged exactly.
-use Rattle.std.specs.Prelude.{◌≡◌, ◌↔◌, ℕ, suc, zero, ◌+◌, ◌<◌, ◌≤◌, Bool, true, false, not, ◌&&◌, if◌then◌else◌, nat_eq, List, [], ◌∷◌, ◌++◌, map, filter, length, take, drop, Option, Some, None, is_some, Result, Ok, Err, MatchResult, slice_index_or, refl}
+use Rattle.std.specs.Prelude.{◌≡◌, ℕ, ◌+◌, ◌<◌, ◌≤◌, Bool, true, false, not, nat_eq, List, [], ◌∷◌, ◌++◌, map, filter, length, take, drop, Option, Some, None, is_some, Result, Ok, Err, MatchResult, refl}
 use Rattle.std.specs.List.{list_any, list_all}
-use Rattle.std.proofs.Common.{sym, ◌∙◌, ap, subst, cond, inl, inr, arith, get_or, append_assoc}
+use Rattle.std.proofs.Common.{sym, ◌∙◌, ap, subst, cond, inl, inr, get_or, append_assoc}
 use Rattle.std.proofs.lemmas.List.{take_more, take_all, drop_more, drop_all, append-nil}
-use Rattle.aud_event.specs.declared.fact.Event.{Event}
 use Rattle.aud_event.specs.Meanings.{Declared, PlanOf}
 use Rattle.aud_event.proofs.Bools.{and_true, true_and, or_true, or_right, true_or, nat_eq-is, nat_eq-refl}
-use Rattle.aud_history.specs.Histories.{History, events_of, is_in}
+use Rattle.aud_history.specs.Histories.{History, events_of}
 use Rattle.aud_history.specs.WellFormed.{IsWellFormed}
 use Rattle.aud_history.specs.FirstFault.{IsWithinLimits}
 use Rattle.aud_history.specs.Table.{RowOf, transactions, row_of, table_of}
@@ -15,10 +14,10 @@ use Rattle.aud_witness.specs.declared.decision.Decision.{Decision}
 use Rattle.aud_witness.specs.declared.fault.OrderFault.{OrderFault}
 use Rattle.aud_witness.specs.declared.fault.OrderFault.TheVariants.{Missing}
 use Rattle.aud_witness.specs.Orders.{is_named, Shows, IsFull, IsGood}
-use Rattle.aud_witness.specs.OrderFaults.{place_fault, least_tx, missing_fault, fault_after, first_order_fault}
+use Rattle.aud_witness.specs.OrderFaults.{place_fault, least_tx, fault_after, first_order_fault}
 use Rattle.aud_witness.specs.Spots.{Spot, first_spot, stepped, unplaced}
 use Rattle.aud_witness.specs.Placings.{PlacingOf, Advances}
-use Rattle.aud_witness.specs.Walks.{walked, are_all_placed, WalksSay, WalksAreGood}
+use Rattle.aud_witness.specs.Walks.{walked, are_all_placed, WalksAreGood}
 use Rattle.aud_witness.proofs.Beginnings.{IsGood-from_Shows}
 use Rattle.aud_witness.proofs.Good.{IsGood-empty, IsGood-push, Shows-from_IsGood}
 use Rattle.aud_witness.proofs.Faults.{IsGoodNext-from_no_fault, no_fault-from_IsGoodNext, IsFull-from_IsGood, Shows-from_no_fault, no_fault-from_Shows}

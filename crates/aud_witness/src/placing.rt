@@ -1,13 +1,11 @@
 //! Transactions placed one after another: a cursor over lists of decisions.
 
-ghost use Rattle.std.specs.Prelude.{◌≡◌, ◌≢◌, ◌<◌, ◌≤◌, ◌++◌, [], ◌∷◌, None, Some, Ok, Err, length, replicate, true, false, vec_len, vec_capacity, ℕ, IfOk, OnErr, MatchResult, MatchOption, slice_get, slice_index_or, nat_lt, if◌then◌else◌};
-ghost use Rattle.aud_history.specs.Table.{RowOf};
-ghost use Rattle.aud_object.specs.Replayed.{replayed};
+ghost use Rattle.std.specs.Prelude.{◌≡◌, ◌<◌, ◌≤◌, ◌++◌, [], ◌∷◌, None, Some, Ok, Err, length, true, false, vec_len, vec_capacity, ℕ, IfOk, OnErr, MatchResult, MatchOption, slice_index_or, nat_lt, if◌then◌else◌};
 ghost use Rattle.aud_witness.specs.OrderFaults.{least_tx};
-ghost use Rattle.aud_witness.specs.Spots.{unplaced, first_spot, stepped, block_stepped, early_fault, are_earlier_placed};
-ghost use Rattle.aud_witness.specs.Placings.{is_kept_fate, store_with, Advances, GoesBack, first_placing, Tries};
+ghost use Rattle.aud_witness.specs.Spots.{unplaced, stepped, block_stepped, early_fault, are_earlier_placed};
+ghost use Rattle.aud_witness.specs.Placings.{is_kept_fate, Advances, GoesBack, first_placing, Tries};
 ghost use Rattle.aud_witness.specs.declared.end.End.{End};
-ghost use Rattle.aud_witness.specs.Agendas.{IsEarliest, AreEnds};
+ghost use Rattle.aud_witness.specs.Agendas.{IsEarliest};
 
 use crate::agenda::{Agenda, allows};
 use crate::decision::{Decision, Fate};

@@ -1,6 +1,6 @@
 //! Whether an order shows a history, and what is wrong with it where it does not.
 
-ghost use Rattle.std.specs.Prelude.{◌≡◌, ◌↔◌, None, Some, IfOk, IsOk, MatchResult};
+ghost use Rattle.std.specs.Prelude.{◌↔◌, None, Some, IfOk, IsOk};
 ghost use Rattle.aud_history.specs.WellFormed.{IsWellFormed};
 ghost use Rattle.aud_witness.specs.Orders.{Shows};
 ghost use Rattle.aud_witness.specs.OrderFaults.{ReportsOrderFault};

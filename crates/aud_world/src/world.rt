@@ -1,12 +1,12 @@
 //! Nodes and the packets that they posted.
 
-ghost use Rattle.std.specs.Prelude.{◌≡◌, ◌≤◌, ◌<◌, [], ◌∷◌, ◌++◌, map, length, replicate, None, Some, slice_get, slice_index_or, IfOk, IfErr, OnOk, OnErr, MatchResult};
+ghost use Rattle.std.specs.Prelude.{◌≡◌, ◌≤◌, ◌<◌, [], ◌∷◌, ◌++◌, map, length, replicate, None, Some, slice_get, IfOk, IfErr, OnOk, OnErr, MatchResult};
 ghost use Rattle.std.specs.Option.{option_copied};
 ghost use Rattle.std.specs.List.{AllByRecursion};
 ghost use Rattle.aud_event.specs.Meanings.{PlanOf};
 ghost use Rattle.aud_event.specs.Facts.{first_fact_fault};
 ghost use Rattle.aud_know.specs.Norms as norms;
-ghost use Rattle.aud_know.specs.Known.{KnowledgeOf, knowing};
+ghost use Rattle.aud_know.specs.Known.{knowing};
 ghost use Rattle.aud_know.specs.Findings.{found};
 ghost use Rattle.aud_world.specs.Clouds.{Cloud, Gains};
 ghost use Rattle.aud_world.specs.Moves.{after_move, after_moves, at_first, IsTrueMove};

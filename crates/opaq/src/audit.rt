@@ -1,6 +1,5 @@
 //! An audit of standard input, or of any reader.
 
-ghost use Rattle.std.specs.Prelude.{◌≡◌, ℕ, List, Some};
 ghost use Rattle.aud_cli.specs.Words.{IsAuditJob};
 ghost use Rattle.opaq.specs.Jobs.{HasAudited, WhereKnown};
 

@@ -1,6 +1,6 @@
 //! A job over standard input, or over any reader.
 
-ghost use Rattle.std.specs.Prelude.{◌≡◌, ℕ, List, Some};
+ghost use Rattle.std.specs.Prelude.{◌≡◌};
 ghost use Rattle.opaq.specs.Jobs.{HasSaid, IsOfReading, exit_status, WhereKnown};
 
 use aud_cli::{Cause, Ended, Job, Usage, line_said};

@@ -1,4 +1,4 @@
-use Rattle.std.specs.Prelude.{◌≡◌, ◌++◌, codes}
+use Rattle.std.specs.Prelude.{◌++◌, codes}
 use Rattle.aud_text.specs.Orders.{order_text, decision_text}
 use Rattle.aud_cert.proofs.Parts.{grown}
 use Rattle.aud_cert.proofs.write.push_silent.Goals as goal

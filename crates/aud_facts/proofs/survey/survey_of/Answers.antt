@@ -1,5 +1,5 @@
 use Rattle.std.proofs.Common.{arith, ◌∙◌, sym, ◌+◌, ◌≡◌, ◌≤◌, ap, List, ◌∷◌, length}
-use Rattle.std.specs.Prelude.{◌||◌, if◌then◌else◌, Bool, true, false, refl, nat_eq, nat_lt, nat_le, ◌&&◌, slice_index_or}
+use Rattle.std.specs.Prelude.{◌||◌, if◌then◌else◌, Bool, true, false, nat_eq, nat_lt, nat_le, ◌&&◌, slice_index_or}
 use Rattle.std.specs.List.{list_any, filter}
 use Rattle.aud_event.specs.declared.fact.Record.{Record}
 use Rattle.aud_event.specs.declared.fact.Fact.{Fact}

@@ -1,4 +1,4 @@
-use Rattle.std.specs.Prelude.{◌≡◌, ℕ, true, false, List, ◌∷◌, ◌++◌, [], All, refl}
+use Rattle.std.specs.Prelude.{◌≡◌, ℕ, true, false, All, refl}
 use Rattle.std.proofs.Common.{sym, ◌∙◌, subst, take, get_or}
 use Rattle.std.proofs.lemmas.List.{take_more, take_all}
 use Rattle.std.proofs.lemmas.List.Elements.{All-push}

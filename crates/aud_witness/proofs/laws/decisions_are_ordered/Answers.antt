@@ -1,6 +1,5 @@
 use Rattle.std.specs.Prelude.{◌≡◌, refl}
 use Rattle.std.proofs.Common.{ap}
-use Rattle.std.specs.declared.cmp.Ordering.{Ordering}
 use Rattle.std.specs.Ordering.{nat_cmp, ordering_then}
 use Rattle.aud_witness.specs.declared.decision.Fate.{Fate}
 use Rattle.aud_witness.specs.declared.decision.Fate.TheVariants.{C, A}

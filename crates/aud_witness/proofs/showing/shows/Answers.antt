@@ -1,7 +1,7 @@
-use Rattle.std.proofs.Common.{◌≡◌, ◌≤◌, length, refl, sym, ◌∙◌, ap, subst}
+use Rattle.std.proofs.Common.{◌≤◌, length, refl, sym, ◌∙◌, ap, subst}
 use Rattle.aud_history.specs.Table.{table_of}
 use Rattle.aud_witness.specs.Spots.{first_spot, unplaced}
-use Rattle.aud_witness.specs.OrderFaults.{least_tx, first_order_fault}
+use Rattle.aud_witness.specs.OrderFaults.{least_tx}
 use Rattle.aud_witness.specs.declared.fault.OrderFault.TheVariants.{Missing}
 use Rattle.aud_witness.proofs.WalkLemmas.{Goes, Goes-root, Goes-on-here, Goes-wrong-here, Goes-out, missing, fits-from_limits, not-shown, is-shown, step-refused, step-taken}
 use Rattle.aud_witness.proofs.showing.shows.Goals as goal

@@ -1,6 +1,5 @@
-use Rattle.std.specs.Prelude.{◌≡◌, ℕ, ◌<◌, ◌≤◌, nat_le, length, reverse, slice_index_or}
-use Rattle.std.proofs.Common.{sym, ◌∙◌, ap, subst, arith}
-use Rattle.std.proofs.lemmas.Bool.Decides.{nat_tests}
+use Rattle.std.specs.Prelude.{◌≡◌, ◌<◌, ◌≤◌, nat_le, length, reverse, slice_index_or}
+use Rattle.std.proofs.Common.{sym, ◌∙◌, ap, subst}
 use Rattle.aud_witness.specs.declared.end.End.{End}
 use Rattle.aud_witness.specs.Spots.{are_earlier_placed}
 use Rattle.aud_witness.proofs.PlacingLemmas.{earlier-by_end, earlier-all_placed, earliest-now, lt_from, not_lt}

@@ -1,5 +1,4 @@
 use Rattle.std.proofs.Common.{◌≡◌, ◌-◌, true, false, length, arith, sym, ◌∙◌, ap, subst, get_or}
-use Rattle.aud_event.proofs.Bools.{not_true}
 use Rattle.aud_witness.specs.OrderFaults.{least_tx}
 use Rattle.aud_witness.proofs.PlacingLemmas.{unplaced-over}
 use Rattle.aud_witness.proofs.placing.Placing.least_unplaced.Goals as goal

@@ -1,4 +1,4 @@
-use Rattle.std.proofs.Common.{◌≡◌, ℕ, ◌≤◌, length, drop}
+use Rattle.std.proofs.Common.{◌≡◌, ◌≤◌, length, drop}
 use Rattle.aud_witness.specs.OrderFaults.{least_tx}
 use Rattle.aud_witness.specs.Spots.{unplaced}
 use Rattle.aud_witness.proofs.placing.Placing.least_unplaced.Given as goal

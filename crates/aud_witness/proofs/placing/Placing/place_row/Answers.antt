@@ -1,11 +1,8 @@
-use Rattle.std.specs.Prelude.{◌≡◌, ℕ, ◌<◌, ◌≤◌, ◌+◌, Some, true, false, not, List, ◌∷◌, ◌++◌, [], length, reverse, slice_index_or, slice_set}
-use Rattle.std.proofs.Common.{sym, ◌∙◌, ap, subst, arith, length-set, length-append}
+use Rattle.std.specs.Prelude.{◌≡◌, ◌<◌, ◌≤◌, ◌+◌, Some, true, false, not, ◌∷◌, ◌++◌, [], length, reverse, slice_index_or, slice_set}
+use Rattle.std.proofs.Common.{sym, ◌∙◌, ap, subst, length-set, length-append}
 use Rattle.aud_object.specs.Replayed.{replayed}
-use Rattle.aud_witness.specs.declared.end.End.{End}
-use Rattle.aud_witness.specs.declared.step.Step.{Step}
 use Rattle.aud_witness.specs.Agendas.{IsEarliest}
-use Rattle.aud_witness.specs.Spots.{block_stepped}
-use Rattle.aud_witness.specs.Placings.{CanGoBack, Advances, is_kept_fate}
+use Rattle.aud_witness.specs.Placings.{CanGoBack}
 use Rattle.aud_witness.proofs.PlacingLemmas.{earliest-now, before-kept, step_of, back-pushed, advanced, advanced-view, tried}
 use Rattle.aud_witness.proofs.placing.Placing.place_row.Goals as goal
 
