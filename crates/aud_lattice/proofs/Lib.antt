@@ -1,6 +1,7 @@
 pub mod Leftovers
 pub mod Leads
 pub mod Grouped
+pub mod Grown
 pub mod Turns
 pub mod CoverCrosses
 pub mod Crosses

@@ -1,6 +1,5 @@
 -- Membership, which the tests of a set answer.
 use Rattle.std.proofs.Common.{◌≡◌, Bool, true, false, ◌||◌, List, [], refl, sym, ap, subst, ◌∙◌, inl, inr, ◌⊎◌, ◌↔◌}
-use mathlib.Core.Bool.{true≢false}
 use Rattle.std.specs.declared.cmp.Ordering.{Ordering}
 use Rattle.std.specs.Ordering.{eq_by_cmp, is_eq}
 use Rattle.std.specs.Cmp.{IsTotalOrder, tied_itself, Equal-is}

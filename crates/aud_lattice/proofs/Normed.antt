@@ -1,11 +1,11 @@
 -- The laws of the normal form hold.
-use Rattle.std.proofs.Common.{◌≡◌, ℕ, ◌<◌, Bool, true, false, ◌||◌, List, [], ◌∷◌, ◌++◌, refl, sym, ap, ◌∙◌, arith, ◌↔◌, ◌⊎◌, inl, inr}
+use Rattle.std.proofs.Common.{◌≡◌, ℕ, ◌<◌, ◌||◌, List, [], ◌∷◌, ◌++◌, refl, sym, ap, ◌∙◌, arith, ◌⊎◌, inl, inr}
 use Rattle.std.specs.declared.cmp.Ordering.{Ordering}
 use Rattle.std.specs.Cmp.{IsTotalOrder}
 use Rattle.std.specs.List.{Contains}
 use Rattle.std.specs.List.Sorted.{IsStrictlySortedBy}
 use Rattle.aud_event.specs.Exact.{IsExact}
-use Rattle.aud_lattice.specs.Covers.{begins, covers, IsCover, cover_union, normal_form, IsFirst}
+use Rattle.aud_lattice.specs.Covers.{begins, covers, IsCover, cover_union, normal_form}
 use Rattle.aud_lattice.specs.Covering.{covers-cover_union, cover_cover_union, same_cover}
 use Rattle.aud_lattice.proofs.Minimal.{kept, keeps}
 use Rattle.aud_lattice.specs.Norms.{IsNormOfUnion, IsNormWithNorm, IsNormOfFirsts}

@@ -1,5 +1,5 @@
 -- One layer of a trie, and all below it.
-use Rattle.std.proofs.Common.{◌≡◌, ◌≢◌, ℕ, ◌<◌, ◌≤◌, Bool, true, false, cond, ◌||◌, ◌&&◌, List, [], ◌∷◌, Option, Some, None, refl, sym, ap, subst, ◌∙◌, length, arith}
+use Rattle.std.proofs.Common.{◌≡◌, ◌≢◌, ℕ, ◌<◌, ◌≤◌, Bool, true, false, cond, ◌||◌, ◌&&◌, List, [], ◌∷◌, Option, Some, None, refl, sym, ap, subst, ◌∙◌, length, slice_get, IfSome, arith}
 use mathlib.Core.Bool.{true≢false}
 use Rattle.std.specs.declared.cmp.Ordering.{Ordering}
 use Rattle.std.specs.declared.cmp.Ordering.TheVariants.{Less, Equal, Greater}
@@ -36,6 +36,15 @@ some_of d (Some x) = x
 pub same_some : {X : Type 0} (x y : X) → Some x ≡ Some y → x ≡ y
 unfolding some_of
 same_some x y e = ap (some_of x) e
+
+pub each_some : {X : Type 0} (o : Option X) (P Q : X → Type 0) → ((x : X) → P x → Q x) → IfSome o P → IfSome o Q
+each_some None P Q f h = tt
+each_some (Some x) P Q f h = f x h
+
+pub one_alone : {X : Type 0} (xs : List X) (x : X) → length xs ≡ 1 → slice_get xs 0 ≡ Some x → xs ≡ x ∷ []
+one_alone [] x one first = absurd (omega (arith, one))
+one_alone (y ∷ []) x one first = ap (λ z. z ∷ []) (same_some y x first)
+one_alone (y ∷ z ∷ zs) x one first = absurd (omega (arith, one))
 
 pub more≢none : {X : Type 0} (x : X) (q : List X) → x ∷ q ≢ []
 more≢none x q e = cc
@@ -76,6 +85,23 @@ either_swap f g = pointwise (λ q. swap (f q) (g q))
     swap true false = refl
     swap false true = refl
     swap false false = refl
+
+-- what is within another, test by test
+pub nothing_within : {D : Type 0} (h : List D → Bool) → IsWithin nothing h
+nothing_within h = record { at = λ q e. absurd (true≢false (sym e)) }
+
+pub within_first : {D : Type 0} (f g h : List D → Bool) → IsWithin (either f g) h → IsWithin f h
+within_first f g h w = record { at = λ q e. w.at q (ap (λ b. b || g q) e) }
+
+pub within_rest : {D : Type 0} (f g h : List D → Bool) → IsWithin (either f g) h → IsWithin g h
+within_rest f g h w = record { at = λ q e. w.at q (ap (λ b. f q || b) e ∙ or_always (f q)) }
+
+pub within_each : {D : Type 0} (f g h : List D → Bool) → IsWithin f h → IsWithin g h → IsWithin (either f g) h
+within_each {D = D} f g h v w = record { at = λ q e. cases q (f q) (v.at q) e }
+  where
+    cases : (q : List D) (b : Bool) → (b ≡ true → h q ≡ true) → (b || g q) ≡ true → h q ≡ true
+    cases q true first e = first refl
+    cases q false first e = w.at q e
 
 -- the node that an owner shares
 abbrev pub shared : {X A : Type 0} → Option (Arc X A) → Option X
@@ -413,6 +439,9 @@ module _ {D A : Type 0} (R : D → D → Ordering) where
         cases : any_by R F es (y ∷ q) ≡ walk_on (λ w. F w q) (lookup (is_at (R y)) es) → (b : Bool) → is_eq (R y d.0) ≡ b → any_by R F (d ∷ es) (y ∷ q) ≡ walk_on (λ w. F w q) (cond b (Some d.1) (lookup (is_at (R y)) es))
         cases later true e = (λ i. ((turned ∙ e) i && F d.1 q) || unfound o ex d.0 y ((Equal-is (R y d.0)).0 e) es s.0 q i) ∙ or-false' (F d.1 q)
         cases later false e = (λ i. ((turned ∙ e) i && F d.1 q) || any_by R F es (y ∷ q)) ∙ later
+
+  pub alone_starts : (x : D) (u : Trie D A) → any_starts R ((x, u) ∷ []) ≡ starts R x (walk R u)
+  alone_starts x u = pointwise (λ q. or_nothing (starts R x (walk R u) q))
 
   nil_starts : (es : List (D × Trie D A)) → any_starts R es [] ≡ false
   nil_starts [] = refl

@@ -1,5 +1,5 @@
 -- A cover: lists of which none begins another, least first.
-use Rattle.std.specs.Prelude.{◌≡◌, ◌⊎◌, Bool, true, false, ◌&&◌, List, [], ◌∷◌, if◌then◌else◌}
+use Rattle.std.specs.Prelude.{◌≡◌, ◌↔◌, ◌⊎◌, Bool, true, false, ◌&&◌, List, [], ◌∷◌, if◌then◌else◌}
 use Rattle.std.specs.declared.cmp.Ordering.{Ordering}
 use Rattle.std.specs.declared.cmp.Ordering.TheVariants.{Equal}
 use Rattle.std.specs.Ordering.{is_eq, ordering_then}
@@ -62,3 +62,7 @@ BeginsOne {D} cmp ps q = (p : List D) × Contains ps p × (begins cmp q p ≡ tr
 pub record IsKept {D : Type 0} (cmp : D → D → Ordering) (ps qs : List (List D)) (p : List D) : Type 0 where
   pub there : Contains ps p ⊎ Contains qs p
   pub least : (q : List D) → Contains ps q ⊎ Contains qs q → begins cmp q p ≡ true → q ≡ p
+
+-- the members of what is left are those of ours that are none of theirs
+abbrev pub IsWithout : {D : Type 0} → List (List D) → List (List D) → List (List D) → Type 0
+IsWithout {D} ours theirs left = (p : List D) → Contains left p ↔ (Contains ours p × ¬ (Contains theirs p))

@@ -1,7 +1,9 @@
 -- What a tree holds.
-use Rattle.std.proofs.Common.{◌≡◌, ℕ, ◌+◌, ◌*◌, ◌<◌, ◌≤◌, drop, List, [], ◌∷◌, ◌++◌, length, length-append, Option, None, Some, sym, ap, arith}
+use Rattle.std.proofs.Common.{◌≡◌, ℕ, ◌+◌, ◌*◌, ◌<◌, ◌≤◌, true, false, MatchOption, drop, List, [], ◌∷◌, ◌++◌, length, length-append, Option, None, Some, sym, ap, arith}
+use Rattle.std.specs.declared.cmp.Ordering.{Ordering}
 use Rattle.std.specs.Arc.{arc_value}
 use Rattle.std.specs.declared.sync.Arc.{Arc}
+use Rattle.aud_lattice.specs.Sets.{has, with_item}
 
 -- the items of the tree under a link, least first
 abbrev pub items_of : {T Z : Type 0} → Option (Arc (List T) Z) → List T
@@ -15,6 +17,14 @@ AreBalanced l r = (l + 1 ≤ 3 * (r + 1)) × (r + 1 ≤ 3 * (l + 1))
 -- so but for one item
 abbrev pub NearlyBalanced : ℕ → ℕ → Type 0
 NearlyBalanced l r = (l + 1 ≤ 3 * (r + 1) + 1) × (r + 1 ≤ 3 * (l + 1) + 1)
+
+-- the sides of a heavy tree beside a light one: the inner one, which is next to the light one, is not the lighter of the two
+abbrev pub IsToPart : ℕ → ℕ → ℕ → Type 0
+IsToPart outer inner light = (outer + inner + 1 + 1 ≡ 3 * (light + 1) + 1) × (2 * (outer + 1) ≤ inner + 1) × AreBalanced outer inner
+
+-- a tree of the items with x, where x is none of them; else no tree
+abbrev pub IsWithNew : {T Z : Type 0} → (T → T → Ordering) → T → List T → Option (Option (Arc (List T) Z)) → Type 0
+IsWithNew cmp x items all = MatchOption all (has cmp items x ≡ true) (λ new. (has cmp items x ≡ false) × (items_of new ≡ with_item cmp x items))
 
 -- what stands at place n
 abbrev pub Found : {T : Type 0} → List T → ℕ → Option T → Type 0

@@ -7,6 +7,7 @@ use Rattle.std.specs.Ordering.{is_eq}
 use Rattle.std.specs.Map.{lookup}
 use Rattle.std.specs.BTreeMap.{is_at, IsOrdered}
 use Rattle.std.specs.declared.collections.BTreeMap.{BTreeMap}
+use Rattle.aud_lattice.specs.Covers.{begins}
 use Rattle.aud_lattice.specs.Sets.{either}
 use Rattle.aud_lattice.specs.declared.mark.Mark.{Mark}
 use Rattle.aud_lattice.specs.declared.mark.Mark.TheVariants.{Covered, Inner, Outside}
@@ -121,6 +122,22 @@ abbrev pub now_of : {X : Type 0} → X → Option X → X
 now_of old None = old
 now_of old (Some new) = new
 
+-- a list has a beginning in the new trie where it has one in the old, and where the added list begins it
+abbrev pub IsAdded : {D A : Type 0} → (D → D → Ordering) → List D → Trie D A → Trie D A → Type 0
+IsAdded cmp added old new = walk cmp new ≡ either (begins cmp added) (walk cmp old)
+
+-- a list has a beginning in the new trie where it has one in one of the others
+abbrev pub AreJoined : {D A : Type 0} → (D → D → Ordering) → Trie D A → Trie D A → Trie D A → Type 0
+AreJoined cmp from old new = walk cmp new ≡ either (walk cmp from) (walk cmp old)
+
+-- what the node passes that they do not pass under x
+abbrev pub left_under : {D A : Type 0} → (D → D → Ordering) → D → Trie D A → BTreeMap D (Arc (Trie D A) A) A → List D → Bool
+left_under cmp x node theirs = but (leads cmp node) (after x (leads cmp (fork theirs)))
+
+-- the nodes lead to what they led to, and after x to what the node leads to and they do not
+abbrev pub LeavesUnder : {D A : Type 0} → (D → D → Ordering) → D → Trie D A → BTreeMap D (Arc (Trie D A) A) A → BTreeMap D (Arc (Trie D A) A) A → BTreeMap D (Arc (Trie D A) A) A → Type 0
+LeavesUnder cmp x node theirs old new = leads cmp (fork new) ≡ either (but (starts cmp x (leads cmp node)) (leads cmp (fork theirs))) (leads cmp (fork old))
+
 -- f passes nothing; or a new node is to stand there, that leads to just what it passes
 abbrev pub IsLeft : {D A : Type 0} → (D → D → Ordering) → (List D → Bool) → Option (Arc (Trie D A) A) → Type 0
 IsLeft cmp f None = f ≡ nothing
@@ -138,6 +155,10 @@ IsMet cmp next x f (Some a) = IsTrie cmp (arc_value a) × (walk cmp (arc_value a
 -- the nodes are what they were, but that all that f passes passes under x too
 abbrev pub PassesUnder : {D A : Type 0} → (D → D → Ordering) → D → (List D → Bool) → BTreeMap D (Arc (Trie D A) A) A → BTreeMap D (Arc (Trie D A) A) A → Type 0
 PassesUnder cmp x f old new = walk cmp (fork new) ≡ either (starts cmp x f) (walk cmp (fork old))
+
+-- the same for all that a shared node passes
+abbrev pub JoinsUnder : {D A : Type 0} → (D → D → Ordering) → D → Arc (Trie D A) A → BTreeMap D (Arc (Trie D A) A) A → BTreeMap D (Arc (Trie D A) A) A → Type 0
+JoinsUnder cmp x node old new = PassesUnder cmp x (walk cmp (arc_value node)) old new
 
 -- the node stands under x, and under all else what stood there
 abbrev pub StandsUnder : {D A : Type 0} → (D → D → Ordering) → D → Arc (Trie D A) A → BTreeMap D (Arc (Trie D A) A) A → BTreeMap D (Arc (Trie D A) A) A → Type 0

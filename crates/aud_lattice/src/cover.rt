@@ -3,7 +3,7 @@
 ghost use Rattle.std.specs.Prelude.{◌≡◌, IfOk, OnOk, OnErr, IsTrue, IsOk, ◌↔◌, List, [], true, Bool, Contains, ◌∷◌, ◌++◌, All};
 ghost use Rattle.std.specs.Cmp.Lexicographic.{slice_cmp};
 ghost use Rattle.std.specs.List.Sorted.{IsStrictlySortedBy};
-ghost use Rattle.aud_lattice.specs.Covers.{covers, with_list, cover_union, normal_form, IsCover, HasBeginning, BeginsOne, IsKept};
+ghost use Rattle.aud_lattice.specs.Covers.{covers, with_list, cover_union, normal_form, IsCover, IsWithout, HasBeginning, BeginsOne, IsKept};
 ghost use Rattle.aud_lattice.specs.Marks.{mark_of};
 ghost use Rattle.aud_lattice.specs.Covering.{covers-cover_union};
 ghost use Rattle.aud_lattice.specs.Sets.{either, either_laws};
@@ -156,7 +156,7 @@ fn without<D: Key + Dup, A: Allocator + Copy>(
     requires other { IsTrie D.Ord.cmp other.now }
     ensures good { IfOk result (IsTrie D.Ord.cmp) }
     ensures cover { IfOk result (λ t. IsCover D.Ord.cmp (paths t)) }
-    ensures members { IfOk result (λ t. (p : List D) → Contains (paths t) p ↔ (Contains (paths root.now) p × ¬ (Contains (paths other.now) p))) }
+    ensures members { IfOk result (λ t. IsWithout (paths root.now) (paths other.now) (paths t)) }
 {
     root.without(other, alloc)
 }

@@ -1,7 +1,7 @@
 //! The order and the grouping of joins do not show.
 
 ghost use Rattle.std.specs.Prelude.{◌≡◌, ◌<◌, IfOk, Some, length, map};
-ghost use Rattle.aud_lattice.specs.Laws.{merged_from, merged};
+ghost use Rattle.aud_lattice.specs.Laws.{merged};
 
 use crate::Lattice;
 use aud_event::{Dup, OutOfMemory};

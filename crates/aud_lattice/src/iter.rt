@@ -14,7 +14,6 @@ use std::marker::Model;
 const PART: usize = 64;
 
 // A part that has the place, and where it begins.
-#[tactic(auto, using(crate::proofs::Parts::part_all, crate::proofs::Parts::part_left, crate::proofs::Parts::part_right))]
 fn part_at<T: Dup, A: Allocator>(tree: &Link<T, A>, place: usize) -> (&Link<T, A>, usize)
     requires { place < length (items_of tree.now) }
     ensures part { IsPart (items_of tree.now) result.1 (items_of result.0.now) }

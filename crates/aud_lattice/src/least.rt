@@ -1,6 +1,6 @@
 //! The least value so far.
 
-ghost use Rattle.std.specs.Prelude.{◌≡◌, OnOk, OnErr, IsTrue, ◌↔◌, Bool, Option, Some, None, if◌then◌else◌};
+ghost use Rattle.std.specs.Prelude.{◌≡◌, IsTrue, ◌↔◌, Bool, Option, Some, None, if◌then◌else◌};
 ghost use Rattle.std.specs.Option.{option_copied};
 ghost use Rattle.aud_lattice.specs.Leasts.{reaches-least_of};
 ghost use Rattle.aud_lattice.specs.Sets.{either, either_laws};

@@ -37,7 +37,6 @@ fn added<T: Key + Dup, A: Allocator + Clone>(
 }
 
 // One tree with the items of another.
-#[tactic(auto, using(crate::specs::Sorted::sorted_with_item, crate::proofs::Pours::inserted_union))]
 fn poured<T: Key + Dup, A: Allocator + Clone>(
     alloc: &A,
     from: &Link<T, A>,

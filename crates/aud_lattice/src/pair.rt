@@ -1,6 +1,5 @@
 //! Two values joined side by side.
 
-ghost use Rattle.std.specs.Prelude.{◌≡◌, OnOk, OnErr, IsTrue, ◌↔◌};
 ghost use Rattle.aud_lattice.specs.Pairs.{both, both_laws};
 
 use crate::Lattice;

@@ -1,10 +1,10 @@
 //! A balanced search tree whose nodes are shared: a changed tree keeps what it did not change of the old one.
 
-ghost use Rattle.std.specs.Prelude.{◌≡◌, ◌∷◌, ◌++◌, ◌<◌, ◌≤◌, ◌^◌, ◌+◌, ◌*◌, length, IfOk, MatchOption, true, false};
+ghost use Rattle.std.specs.Prelude.{◌≡◌, ◌∷◌, ◌++◌, ◌<◌, ◌^◌, ◌+◌, ◌*◌, length, IfOk};
 ghost use Rattle.std.specs.List.Sorted.{IsStrictlySortedBy};
 ghost use Rattle.std.specs.Option.{option_copied};
-ghost use Rattle.aud_lattice.specs.Sets.{has, with_item};
-ghost use Rattle.aud_lattice.specs.Trees.{Found, items_of, AreBalanced, NearlyBalanced};
+ghost use Rattle.aud_lattice.specs.Sets.{has};
+ghost use Rattle.aud_lattice.specs.Trees.{Found, items_of, AreBalanced, NearlyBalanced, IsToPart, IsWithNew};
 
 use aud_event::{Dup, Key, OutOfMemory};
 use std::alloc::{Allocator, Global};
@@ -28,7 +28,7 @@ pub struct Tree<T: Dup, A: Allocator = Global> {
 }
 
 impl<T: Dup, A: Allocator> Model for Tree<T, A> {
-    ghost use Rattle.std.specs.Prelude.{List, ℕ, ◌∷◌, ◌++◌, length, ◌≡◌, ◌<◌, ◌^◌};
+    ghost use Rattle.std.specs.Prelude.{List, ◌∷◌, ◌++◌, length, ◌≡◌, ◌<◌, ◌^◌};
     ghost use Rattle.aud_lattice.specs.Trees.{items_of, AreBalanced};
 
     ghost Value = { List T };
@@ -127,21 +127,36 @@ fn to_right<T: Dup, A: Allocator + Clone>(
     } = left;
     match near {
         Some(inner) if count(near) + 1 >= 2 * (count(outer) + 1) => {
-            let Tree {
-                left: low,
-                item: middle,
-                right: high,
-                ..
-            } = &**inner;
-            let before = node(alloc, shared(outer)?, first.dup()?, shared(low)?)?;
-            let after = node(alloc, shared(high)?, item, right)?;
-            node(alloc, before, middle.dup()?, after)
+            parted_right(alloc, outer, first, inner, item, right)
         }
         _ => {
             let after = node(alloc, shared(near)?, item, right)?;
             node(alloc, shared(outer)?, first.dup()?, after)
         }
     }
+}
+
+// The same where of the heavy side's own sides the one next to the light side is not the lighter one: it goes in two parts.
+fn parted_right<T: Dup, A: Allocator + Clone>(
+    alloc: &A,
+    outer: &Link<T, A>,
+    first: &T,
+    inner: &Tree<T, A>,
+    item: T,
+    right: Link<T, A>,
+) -> Result<Link<T, A>, OutOfMemory>
+    requires { IsToPart (length (items_of outer.now)) (length inner.now) (length (items_of right)) }
+    ensures { IfOk result (λ tree. items_of tree ≡ (items_of outer.now ++ first.now ∷ inner.now) ++ item ∷ items_of right) }
+{
+    let Tree {
+        left: low,
+        item: middle,
+        right: high,
+        ..
+    } = inner;
+    let before = node(alloc, shared(outer)?, first.dup()?, shared(low)?)?;
+    let after = node(alloc, shared(high)?, item, right)?;
+    node(alloc, before, middle.dup()?, after)
 }
 
 fn to_left<T: Dup, A: Allocator + Clone>(
@@ -161,15 +176,7 @@ fn to_left<T: Dup, A: Allocator + Clone>(
     } = right;
     match near {
         Some(inner) if count(near) + 1 >= 2 * (count(outer) + 1) => {
-            let Tree {
-                left: low,
-                item: middle,
-                right: high,
-                ..
-            } = &**inner;
-            let before = node(alloc, left, item, shared(low)?)?;
-            let after = node(alloc, shared(high)?, last.dup()?, shared(outer)?)?;
-            node(alloc, before, middle.dup()?, after)
+            parted_left(alloc, left, item, inner, last, outer)
         }
         _ => {
             let before = node(alloc, left, item, shared(near)?)?;
@@ -178,16 +185,38 @@ fn to_left<T: Dup, A: Allocator + Clone>(
     }
 }
 
+// The same in two parts.
+fn parted_left<T: Dup, A: Allocator + Clone>(
+    alloc: &A,
+    left: Link<T, A>,
+    item: T,
+    inner: &Tree<T, A>,
+    last: &T,
+    outer: &Link<T, A>,
+) -> Result<Link<T, A>, OutOfMemory>
+    requires { IsToPart (length (items_of outer.now)) (length inner.now) (length (items_of left)) }
+    ensures { IfOk result (λ tree. items_of tree ≡ items_of left ++ item ∷ (inner.now ++ last.now ∷ items_of outer.now)) }
+{
+    let Tree {
+        left: low,
+        item: middle,
+        right: high,
+        ..
+    } = inner;
+    let before = node(alloc, left, item, shared(low)?)?;
+    let after = node(alloc, shared(high)?, last.dup()?, shared(outer)?)?;
+    node(alloc, before, middle.dup()?, after)
+}
+
 /// The tree with an item that it has not, in its place, or none where it has the item. Only the nodes on the way to that
 /// place are new.
-#[tactic(auto, using(crate::proofs::Splits::sorted_left, crate::proofs::Splits::sorted_right, crate::proofs::Splits::with_left, crate::proofs::Splits::with_right, crate::proofs::Splits::has_left, crate::proofs::Splits::has_right, crate::proofs::Splits::has_middle, crate::proofs::Splits::length_with))]
 pub fn with<T: Key + Dup, A: Allocator + Clone>(
     alloc: &A,
     tree: &Link<T, A>,
     item: T,
 ) -> Result<Option<Link<T, A>>, OutOfMemory>
     requires { IsStrictlySortedBy T.Ord.cmp (items_of tree.now) }
-    ensures { IfOk result (λ all. MatchOption all (has T.Ord.cmp (items_of tree.now) item ≡ true) (λ new. (has T.Ord.cmp (items_of tree.now) item ≡ false) × (items_of new ≡ with_item T.Ord.cmp item (items_of tree.now)))) }
+    ensures { IfOk result (IsWithNew T.Ord.cmp item (items_of tree.now)) }
 {
     let Some(all) = tree else {
         return Ok(Some(node(alloc, None, item, None)?));
@@ -218,7 +247,6 @@ pub fn with<T: Key + Dup, A: Allocator + Clone>(
 }
 
 /// Whether the item is there.
-#[tactic(auto, using(crate::proofs::Splits::sorted_left, crate::proofs::Splits::sorted_right, crate::proofs::Splits::has_left, crate::proofs::Splits::has_right))]
 pub fn contains<T: Key + Dup, A: Allocator>(tree: &Link<T, A>, item: &T) -> bool
     requires { IsStrictlySortedBy T.Ord.cmp (items_of tree.now) }
     ensures { result ≡ has T.Ord.cmp (items_of tree.now) item.now }

@@ -1,13 +1,12 @@
 //! Tries of lists, whose nodes are shared: a changed trie keeps what it did not change of the old one.
 
-ghost use Rattle.std.specs.Prelude.{None, ◌≡◌, ◌++◌, OnOk, OnErr, IfOk, IsTrue, ◌↔◌, ◌∷◌, map};
+ghost use Rattle.std.specs.Prelude.{None, ◌≡◌, ◌++◌, OnOk, OnErr, IfOk, IfSome, IsTrue, ◌↔◌, [], ◌∷◌, map};
 ghost use Rattle.std.specs.Option.{option_copied};
 ghost use Rattle.std.specs.Arc.{arc_value};
 ghost use Rattle.std.specs.BTreeMap.{IsOrdered};
-ghost use Rattle.aud_lattice.specs.Walks.{walk, walk_mark, leads, nothing, but, after, starts, node_at, node_of, now_of, AreAlike, AreAlikeBut, IsTrie, IsLeft, IsLive, IsMet, IsWithin, PassesUnder, StandsUnder, ReportsWhetherBare};
+ghost use Rattle.aud_lattice.specs.Walks.{walk, walk_mark, leads, left_under, nothing, but, starts, node_at, node_of, now_of, AreAlike, AreAlikeBut, AreJoined, IsAdded, IsTrie, IsLeft, IsLive, IsMet, IsWithin, JoinsUnder, LeavesUnder, StandsUnder, ReportsWhetherBare};
 ghost use Rattle.aud_lattice.specs.Paths.{paths};
 ghost use Rattle.aud_lattice.specs.Covers.{begins};
-ghost use Rattle.aud_lattice.specs.Sets.{either};
 ghost use Rattle.aud_lattice.specs.declared.trie.Trie.TheVariants.{Fork};
 
 use crate::mark::Mark;
@@ -83,6 +82,19 @@ fn own_nodes<D: Key + Dup, A: Allocator + Copy>(
     match all {
         Some(nodes) => Ok(nodes),
         None => shared_nodes(ours, alloc),
+    }
+}
+
+// The node that stands alone, with its element. Most nodes have no other beside them, and a walk need not look for one.
+fn alone<D: Key + Dup, A: Allocator + Copy>(
+    nodes: &BTreeMap<D, Arc<Trie<D, A>, A>, A>,
+) -> Option<(&D, &Arc<Trie<D, A>, A>)>
+    ensures { IfSome result (λ e. nodes.now.entries ≡ (e.0.now, e.1.now) ∷ []) }
+{
+    if nodes.len() == 1 {
+        nodes.first_key_value()
+    } else {
+        None
     }
 }
 
@@ -169,7 +181,7 @@ impl<D: Key + Dup, A: Allocator + Copy> Trie<D, A> {
     pub(crate) fn put(&mut self, alloc: &A, list: &[D]) -> Result<(), OutOfMemory>
         requires { IsTrie D.Ord.cmp self.old }
         ensures good { IsTrie D.Ord.cmp self.new }
-        ensures ok { OnOk result (walk D.Ord.cmp self.new ≡ either (begins D.Ord.cmp list.now) (walk D.Ord.cmp self.old)) }
+        ensures ok { OnOk result (IsAdded D.Ord.cmp list.now self.old self.new) }
         ensures err { OnErr result (walk D.Ord.cmp self.new ≡ walk D.Ord.cmp self.old) }
     {
         match mem::replace(self, Trie::Member) {
@@ -194,7 +206,7 @@ impl<D: Key + Dup, A: Allocator + Copy> Trie<D, A> {
     ) -> Result<(), OutOfMemory>
         requires { IsTrie D.Ord.cmp (Fork next.old) }
         ensures good { IsTrie D.Ord.cmp (Fork next.new) }
-        ensures ok { OnOk result (walk D.Ord.cmp (Fork next.new) ≡ either (begins D.Ord.cmp (first.now ∷ rest.now)) (walk D.Ord.cmp (Fork next.old))) }
+        ensures ok { OnOk result (IsAdded D.Ord.cmp (first.now ∷ rest.now) (Fork next.old) (Fork next.new)) }
         ensures err { OnErr result (walk D.Ord.cmp (Fork next.new) ≡ walk D.Ord.cmp (Fork next.old)) }
     {
         match next.get(first) {
@@ -216,7 +228,7 @@ impl<D: Key + Dup, A: Allocator + Copy> Trie<D, A> {
     fn with(&self, alloc: &A, list: &[D]) -> Result<Trie<D, A>, OutOfMemory>
         requires { IsTrie D.Ord.cmp self.now }
         ensures good { IfOk result (IsTrie D.Ord.cmp) }
-        ensures both { IfOk result (λ t. walk D.Ord.cmp t ≡ either (begins D.Ord.cmp list.now) (walk D.Ord.cmp self.now)) }
+        ensures both { IfOk result (IsAdded D.Ord.cmp list.now self.now) }
     {
         match self {
             Trie::Member => Ok(Trie::Member),
@@ -242,13 +254,19 @@ impl<D: Key + Dup, A: Allocator + Copy> Trie<D, A> {
         requires from { IsTrie D.Ord.cmp from.now }
         requires into { IsTrie D.Ord.cmp self.now }
         ensures good { IfOk result (λ joined. IsTrie D.Ord.cmp (now_of self.now joined)) }
-        ensures both { IfOk result (λ joined. walk D.Ord.cmp (now_of self.now joined) ≡ either (walk D.Ord.cmp from.now) (walk D.Ord.cmp self.now)) }
+        ensures both { IfOk result (λ joined. AreJoined D.Ord.cmp from.now self.now (now_of self.now joined)) }
     {
         match self {
             Trie::Member => Ok(None),
             Trie::Fork(ours) => match from {
                 Trie::Member => Ok(Some(Trie::Member)),
                 Trie::Fork(theirs) => {
+                    if let Some((first, node)) = alone(theirs) {
+                        return match Trie::grafted(ours, None, first, node, alloc)? {
+                            Some(nodes) => Ok(Some(Trie::Fork(nodes))),
+                            None => Ok(None),
+                        };
+                    }
                     let mut all = None;
                     for (first, node) in theirs {
                         all = Trie::grafted(ours, all, first, node, alloc)?;
@@ -275,7 +293,7 @@ impl<D: Key + Dup, A: Allocator + Copy> Trie<D, A> {
         requires live { IsLive D.Ord.cmp (arc_value node.now) }
         requires into { IsTrie D.Ord.cmp (Fork (now_of ours.now all)) }
         ensures good { IfOk result (λ nodes. IsTrie D.Ord.cmp (Fork (now_of ours.now nodes))) }
-        ensures both { IfOk result (λ nodes. PassesUnder D.Ord.cmp first.now (walk D.Ord.cmp (arc_value node.now)) (now_of ours.now all) (now_of ours.now nodes)) }
+        ensures both { IfOk result (λ nodes. JoinsUnder D.Ord.cmp first.now node.now (now_of ours.now all) (now_of ours.now nodes)) }
     {
         match Trie::met(nodes_now(ours, &all), first, node, alloc)? {
             None => Ok(all),
@@ -320,6 +338,9 @@ impl<D: Key + Dup, A: Allocator + Copy> Trie<D, A> {
             Trie::Fork(_) => match self {
                 Trie::Member => false,
                 Trie::Fork(nodes) => {
+                    if let Some((first, node)) = alone(nodes) {
+                        return Trie::is_within_at(node, first, other);
+                    }
                     for (first, node) in nodes {
                         if !Trie::is_within_at(node, first, other) {
                             return false;
@@ -400,7 +421,7 @@ impl<D: Key + Dup, A: Allocator + Copy> Trie<D, A> {
         requires absent { node_of D.Ord.cmp all.old first.now ≡ None }
         ensures good { OnOk result (IsTrie D.Ord.cmp (Fork all.new)) }
         ensures others { OnOk result (AreAlikeBut D.Ord.cmp first.now all.old all.new) }
-        ensures left { OnOk result (leads D.Ord.cmp (Fork all.new) ≡ either (but (starts D.Ord.cmp first.now (leads D.Ord.cmp (arc_value node.now))) (leads D.Ord.cmp (Fork theirs.now))) (leads D.Ord.cmp (Fork all.old))) }
+        ensures left { OnOk result (LeavesUnder D.Ord.cmp first.now (arc_value node.now) theirs.now all.old all.new) }
     {
         match Trie::left(first, node, theirs, alloc)? {
             None => Ok(()),
@@ -419,7 +440,7 @@ impl<D: Key + Dup, A: Allocator + Copy> Trie<D, A> {
         requires ours { IsTrie D.Ord.cmp (arc_value ours.now) }
         requires live { IsLive D.Ord.cmp (arc_value ours.now) }
         requires theirs { IsTrie D.Ord.cmp (Fork theirs.now) }
-        ensures { IfOk result (IsLeft D.Ord.cmp (but (leads D.Ord.cmp (arc_value ours.now)) (after first.now (leads D.Ord.cmp (Fork theirs.now))))) }
+        ensures { IfOk result (IsLeft D.Ord.cmp (left_under D.Ord.cmp first.now (arc_value ours.now) theirs.now)) }
     {
         match theirs.get(first) {
             None => Ok(Some(Arc::try_clone(ours)?)),
@@ -452,6 +473,9 @@ impl<D: Key + Dup, A: Allocator + Copy> Trie<D, A> {
                 Ok(())
             }
             Trie::Fork(nodes) => {
+                if let Some((first, node)) = alone(nodes) {
+                    return Trie::push_under(node, first, alloc, path, all);
+                }
                 for (first, node) in nodes {
                     Trie::push_under(node, first, alloc, path, all)?;
                 }

@@ -83,7 +83,6 @@ impl<T: Key + Dup, A: Allocator + Clone> UnionSet<T, A> {
 
     /// Puts the item in, and says whether it is new. One that is there already needs no allocation; a new one takes as many
     /// nodes as the tree is deep, and shares all others with the set before.
-    #[tactic(auto, using(crate::proofs::Splits::with_there, crate::specs::Sorted::sorted_with_item, crate::proofs::Members::contains_with_item))]
     pub fn insert(&mut self, item: T) -> Result<bool, OutOfMemory>
         ensures ok { OnOk result (self.new ≡ with_item T.Ord.cmp item self.old) }
         ensures members { OnOk result ((x : T) → Contains self.new x ↔ (Contains self.old x ⊎ (x ≡ item))) }

@@ -1,6 +1,6 @@
 //! The members of a set, with values that were members.
 
-ghost use Rattle.std.specs.Prelude.{◌≡◌, ◌<◌, ◌↔◌, IsTrue, List, [], ◌∷◌, length, map, Some, None, true, false, not, IfOk, OnErr, OnOk, MatchOption, is_none};
+ghost use Rattle.std.specs.Prelude.{◌≡◌, ◌<◌, ◌↔◌, IsTrue, [], map, Some, None, true, false, not, IfOk, OnErr, OnOk, MatchOption, is_none};
 ghost use Rattle.std.specs.List.{filter};
 ghost use Rattle.aud_object.specs.Objects.{has_member, with_member, without_member};
 ghost use Rattle.aud_object.specs.Digests.{digest_values};

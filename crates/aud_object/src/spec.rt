@@ -1,6 +1,6 @@
 //! What an implementation of a kind of objects owes.
 
-ghost use Rattle.std.specs.Prelude.{◌≡◌, ◌↔◌, ℤ, true, IfOk, OnOk, OnErr, IsTrue};
+ghost use Rattle.std.specs.Prelude.{◌≡◌, ◌↔◌, true, IfOk, OnOk, OnErr, IsTrue};
 ghost use Rattle.aud_event.specs.declared.object.ObjKind.{ObjKind};
 ghost use Rattle.aud_event.specs.Objects.{name_of, is_of_kind};
 ghost use Rattle.aud_object.specs.Objects.{ObjState, opens_at, answer_of, after_op, is_observing};

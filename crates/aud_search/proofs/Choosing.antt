@@ -20,13 +20,10 @@ use Rattle.aud_witness.proofs.Bridge.{tx-rows, row-at, status-allowed}
 use Rattle.aud_search.specs.declared.choice.Choice.{Choice}
 use Rattle.aud_order.specs.Silent.{silent_fate}
 use Rattle.aud_search.specs.declared.choice.Effect.TheVariants.{Silent}
-use Rattle.aud_search.specs.Choices.{AreChoices, AreMarked, AreMarkedFrom, key_of, row_choices, choices_from}
+use Rattle.aud_search.specs.Choices.{AreChoices, AreMarked, AreMarkedFrom, key_of, row_choices, both_choices, choices_from}
 
 abbrev Key : Type 0
 Key = ℕ × Decision
-
-abbrev both_choices : ℕ → RowOf → List Key
-both_choices n r = row_choices n r C ++ row_choices n r A
 
 -- # One row more
 
@@ -43,13 +40,14 @@ choices_from-push n (x ∷ rs) r =
     ap (λ l. both_choices n x ++ l) (choices_from-push (suc n) rs r ∙ ap (λ m. choices_from (suc n) rs ++ both_choices m r) up)
     ∙ sym (append_all (both_choices n x) (choices_from (suc n) rs) (both_choices (n + length (x ∷ rs)) r))
 
-pub choices-step : (rows : List RowOf) (i : ℕ) (r : RowOf) (old mid new : List Key) → i < length rows → r ≡ get_or rows i r → old ≡ choices_from 0 (take i rows) →
-    mid ≡ old ++ row_choices i r C → new ≡ mid ++ row_choices i r A → new ≡ choices_from 0 (take (i + 1) rows)
-choices-step rows i r old mid new inside at so_far first second =
+pub choices-both : (i : ℕ) (r : RowOf) (old mid new : List Key) → mid ≡ old ++ row_choices i r C → new ≡ mid ++ row_choices i r A → new ≡ old ++ both_choices i r
+choices-both i r old mid new first second = second ∙ ap (λ l. l ++ row_choices i r A) first ∙ append_all old (row_choices i r C) (row_choices i r A)
+
+pub choices-step : (rows : List RowOf) (i : ℕ) (r : RowOf) (old new : List Key) → i < length rows → r ≡ get_or rows i r → old ≡ choices_from 0 (take i rows) → new ≡ old ++ both_choices i r → new ≡ choices_from 0 (take (i + 1) rows)
+choices-step rows i r old new inside at so_far both =
     let more : take (i + 1) rows ≡ take i rows ++ r ∷ [] = take_more rows i r inside ∙ ap (λ x. take i rows ++ x ∷ []) (sym at) in
     let count : 0 + length (take i rows) ≡ i = omega (arith, length-take-le i rows (omega arith)) in
-    second ∙ ap (λ l. l ++ row_choices i r A) (first ∙ ap (λ l. l ++ row_choices i r C) so_far)
-    ∙ append_all (choices_from 0 (take i rows)) (row_choices i r C) (row_choices i r A)
+    both ∙ ap (λ l. l ++ both_choices i r) so_far
     ∙ sym (ap (choices_from 0) more ∙ choices_from-push 0 (take i rows) r ∙ ap (λ m. choices_from 0 (take i rows) ++ both_choices m r) count)
 
 -- # Which choices there are

@@ -26,7 +26,7 @@ use Rattle.aud_search.specs.declared.choice.Choice.{Choice}
 use Rattle.aud_search.specs.declared.memo.Lead.{Lead}
 use Rattle.aud_search.specs.Kept.{IsMoreOf, LeadsTo}
 use Rattle.aud_search.specs.Spots.{EntryOf, AreWith, IsKeptAs}
-use Rattle.aud_search.specs.Memos.{MemoOf, states_reached, Names, NameWay, IsDead, IsLead, IsTrueMemo, IsGrown, IsStep, IsNext, IsAfter}
+use Rattle.aud_search.specs.Memos.{MemoOf, states_reached, Names, NameWay, IsDead, IsLead, IsTrueMemo, IsGrown, IsFurther, IsStep, IsNext, IsAfter}
 use Rattle.aud_search.specs.Recorders.{IsNotedAlike}
 use Rattle.aud_search.proofs.Refuting.{next-shown}
 
@@ -54,6 +54,9 @@ way-more shape all more (n ∷ ns) p way = (names-more all more n (states_reache
 -- the way stays named
 pub way-grown : {V : Type 0} (shape : ShapeOf) (old new : MemoOf V) (ns : List (Option ℕ)) (p : List Decision) → IsGrown old new → NameWay shape old.states ns p → NameWay shape new.states ns p
 way-grown shape old new ns p grown way = subst (λ l. NameWay shape l ns p) (sym grown.states) (way-more shape old.states grown.more ns p way)
+
+pub way-further : {V : Type 0} (grows : V → V → Type 0) (shape : ShapeOf) (old new : MemoOf V) (ns : List (Option ℕ)) (p : List Decision) → IsFurther grows old new → NameWay shape old.states ns p → NameWay shape new.states ns p
+way-further grows shape old new ns p further way = subst (λ l. NameWay shape l ns p) (sym further.states) (way-more shape old.states further.more ns p way)
 
 -- the way is one list longer
 pub way-deeper : (shape : ShapeOf) (all : List (List ObjState)) (n further : Option ℕ) (below more : List (Option ℕ)) (p q : List Decision) (d : Decision) → NameWay shape all (n ∷ reverse below) p → q ≡ p ++ d ∷ [] →

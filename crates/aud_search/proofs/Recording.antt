@@ -1,8 +1,8 @@
 -- What a recorder heard of a search.
-use Rattle.std.specs.Prelude.{◌≡◌, ℕ, zero, suc, ◌+◌, ◌-◌, ◌<◌, ◌≤◌, nat_lt, List, [], ◌∷◌, ◌++◌, map, length, take, reverse, Option, Some, None, false, slice_get, slice_index_or, refl, ◌⊎◌}
+use Rattle.std.specs.Prelude.{◌≡◌, ℕ, ◌+◌, ◌-◌, ◌<◌, ◌≤◌, nat_lt, List, [], ◌∷◌, ◌++◌, map, length, take, reverse, Option, Some, None, false, slice_get, slice_index_or, refl, ◌⊎◌}
 use Rattle.std.proofs.Common.{sym, ◌∙◌, ap, subst, inl, inr, arith}
 use Rattle.std.proofs.lemmas.Bool.Decides.{nat_tests}
-use Rattle.std.proofs.lemmas.List.{reverse-append}
+use Rattle.std.proofs.lemmas.List.{append-nil, reverse-append}
 use Rattle.aud_event.proofs.Bools.{split}
 use Rattle.aud_witness.specs.declared.decision.Decision.{Decision}
 use Rattle.aud_witness.specs.Orders.{IsFull, IsGoodNext}
@@ -15,7 +15,7 @@ use Rattle.aud_search.specs.declared.memo.Reason.{Reason}
 use Rattle.aud_search.specs.declared.search.Turn.{Turn}
 use Rattle.aud_search.specs.Choices.{AreChoices}
 use Rattle.aud_search.specs.Levels.{IsSearching}
-use Rattle.aud_search.specs.Memos.{MemoOf, NameWay, IsReported}
+use Rattle.aud_search.specs.Memos.{MemoOf, NameWay, IsGrown, IsReported, IsFurther}
 use Rattle.aud_search.specs.Recorders.{HasNote, HasSilent, IsReason, AreKept, IsSilentAt, reason_by}
 use Rattle.aud_search.specs.Tried.{IsFound, IsNextPlace, ArePassed}
 use Rattle.aud_search.proofs.Passing.{passed-search, passed-follows}
@@ -172,6 +172,34 @@ module _ {V N : Type 0} (noted : V → N → List Decision → Type 0) (grows : 
 
 pub reported-itself : {V : Type 0} (grows : V → V → Type 0) (itself : (r : V) → grows r r) (a : MemoOf V) → IsReported grows a a
 reported-itself grows itself a = record { shape = refl; states = refl; recorder = itself a.recorder }
+
+module _ {V : Type 0} (grows : V → V → Type 0) where
+  pub further-grown : (itself : (r : V) → grows r r) (a b : MemoOf V) → IsGrown a b → IsFurther grows a b
+  further-grown itself a b grown = record {
+    shape = grown.shape;
+    more = grown.more;
+    states = grown.states;
+    recorder = subst (λ r. grows a.recorder r) (sym grown.recorder) (itself a.recorder);
+  }
+
+  pub further-reported : (a b c : MemoOf V) → IsGrown a b → IsReported grows b c → IsFurther grows a c
+  further-reported a b c grown reported = record {
+    shape = reported.shape ∙ grown.shape;
+    more = grown.more;
+    states = reported.states ∙ grown.states;
+    recorder = subst (λ r. grows r c.recorder) grown.recorder reported.recorder;
+  }
+
+  pub reported-further : (a b c : MemoOf V) → IsReported grows a b → IsGrown b c → IsFurther grows a c
+  reported-further a b c reported grown = record {
+    shape = grown.shape ∙ reported.shape;
+    more = grown.more;
+    states = grown.states ∙ ap (λ l. l ++ grown.more) reported.states;
+    recorder = subst (λ r. grows a.recorder r) (sym grown.recorder) reported.recorder;
+  }
+
+  pub reported-alone : (a b : MemoOf V) → IsReported grows a b → IsFurther grows a b
+  reported-alone a b reported = record { shape = reported.shape; more = []; states = reported.states ∙ sym (append-nil a.states); recorder = reported.recorder }
 
 -- # The loop
 

@@ -33,7 +33,7 @@ use Rattle.aud_search.specs.Choices.{AreChoices}
 use Rattle.aud_search.specs.Searches.{SpentBy, Reports}
 use Rattle.aud_search.specs.Levels.{AreTried, IsSearching, IsOneLess}
 use Rattle.aud_search.specs.Memos.{MemoOf, states_reached, Names, NameWay, IsStep}
-use Rattle.aud_search.specs.Tried.{IsTried, IsFound, IsNextPlace, Spends, ReportsFrom, outcome_of}
+use Rattle.aud_search.specs.Tried.{IsTried, IsFound, IsNextPlace, IsWitnessOf, Spends, ReportsFrom, outcome_of}
 use Rattle.aud_search.proofs.Levels.{there-below, tried-more, tried-after, search-on, search-deeper, search-spent, search-unspent, refuted-here, search-back, search-refuted, search-begins}
 use Rattle.aud_search.proofs.Weights.{weigh, lighter-deeper, lighter-on, lighter-back}
 
@@ -194,6 +194,13 @@ pub loop-spent : (start cur new : CursorOf) (cs : List Choice) (used next k : �
     Follows start cur new cs next k → (IsFull (history_of new.shape) new.path → ⊥) → SpentBy (objects_of start.shape) (history_of start.shape) start.path used
 loop-spent start cur new cs used next k gs s f unfull =
     search-spent (objects_of start.shape) (history_of start.shape) start.path cs used cur.path next gs k f.choice s f.past f.at f.good (λ full. unfull (full-here start cur new cs next k f full))
+
+-- the search ends with a list that shows the history
+pub reports-witness : (N X : Type 0) (noted : N → List Decision → Type 0) (objects : List Declared) (h : History) (p q : List Decision) (budget : Option ℕ) (e : Ended N X) → IsWitnessOf q e → BeginsWith p q × Shows objects h q →
+    ReportsFrom {N = N} {X = X} objects h noted p budget e
+reports-witness N X noted objects h p q budget (ended.Refuted note) is reported = absurd is
+reports-witness N X noted objects h p q budget (ended.Witness w) is reported = subst (λ l. BeginsWith p l × Shows objects h l) (sym is) reported
+reports-witness N X noted objects h p q budget ended.Spent is reported = absurd is
 
 reverse-push : (xs : List ℕ) (x : ℕ) → reverse (xs ++ x ∷ []) ≡ x ∷ reverse xs
 reverse-push xs x = reverse-append xs (x ∷ [])

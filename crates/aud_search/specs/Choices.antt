@@ -20,10 +20,14 @@ key_of c = (c.place, c.decision)
 abbrev pub row_choices : ℕ → RowOf → Fate → List (ℕ × Decision)
 row_choices n r f = if status_allows r.status f then (n, record { tx = r.tx; fate = f }) ∷ [] else []
 
+-- the choices of both fates
+abbrev pub both_choices : ℕ → RowOf → List (ℕ × Decision)
+both_choices n r = row_choices n r C ++ row_choices n r A
+
 -- the choices of the rows, by the rows' places from n on
 abbrev pub choices_from : ℕ → List RowOf → List (ℕ × Decision)
 choices_from n [] = []
-choices_from n (r ∷ rs) = (row_choices n r C ++ row_choices n r A) ++ choices_from (suc n) rs
+choices_from n (r ∷ rs) = both_choices n r ++ choices_from (suc n) rs
 
 -- what is marked as silent is the decision of a silent transaction with its silent fate
 abbrev pub AreMarked : History → List Choice → Type 0

@@ -1,5 +1,5 @@
 -- States under numbers, kept whole or by the blocks that lead to them.
-use Rattle.std.specs.Prelude.{◌≡◌, ℕ, List, [], ◌∷◌, ◌++◌, Option, Some, None, unwrap_or, slice_get, slice_index_or, MatchOption}
+use Rattle.std.specs.Prelude.{◌≡◌, ℕ, List, [], ◌∷◌, ◌++◌, Option, Some, None, unwrap_or, slice_get, slice_index_or, MatchOption, reverse}
 use Rattle.aud_object.specs.Objects.{ObjState}
 use Rattle.aud_object.specs.Replayed.{replayed}
 use Rattle.aud_history.specs.Histories.{History}
@@ -30,6 +30,10 @@ run_way h states (tx ∷ way) = elim (replayed states (row_of h tx).block) [ Non
 -- wherever the blocks lead from the states of the first number, those of the last are
 abbrev pub IsWay : History → List (List ObjState) → ℕ → List ℕ → ℕ → Type 0
 IsWay h all first way last = (states : List ObjState) → run_way h (slice_index_or all first []) way ≡ Some states → slice_get all last ≡ Some states
+
+-- the blocks of the transactions, the last one first, lead from the states of the number that was found, if one was, to those of another
+abbrev pub IsWayTo : {A : Type 0} → List (Kept A) → ℕ → List ℕ → Option ℕ → Type 0
+IsWayTo kept number way found = MatchOption found (Unit {0}) (λ first. (h : History) → IsWay h (states_of h kept) first (reverse way) number)
 
 -- the block of the step leads to the states, where there is a step
 abbrev pub LeadsTo : History → List (List ObjState) → Option Step → List ObjState → Type 0

@@ -7,3 +7,4 @@ pub mod Readiness
 pub mod Spots
 pub mod Kept
 pub mod Recorders
+pub mod Turns

@@ -77,6 +77,13 @@ pub record IsReported {V : Type 0} (grows : V → V → Type 0) (old new : MemoO
   pub states : new.states ≡ old.states
   pub recorder : grows old.recorder new.recorder
 
+-- no states lost their number, and the recorder may have heard of something
+pub record IsFurther {V : Type 0} (grows : V → V → Type 0) (old new : MemoOf V) : Type 0 where
+  pub shape : new.shape ≡ old.shape
+  pub more : List (List ObjState)
+  pub states : new.states ≡ old.states ++ more
+  pub recorder : grows old.recorder new.recorder
+
 -- the cursor is one choice further than a list after which the states have the number
 pub record IsStep {V : Type 0} (memo : MemoOf V) (from : Option ℕ) (c : Choice) (at : CursorOf) : Type 0 where
   pub shape : memo.shape ≡ at.shape

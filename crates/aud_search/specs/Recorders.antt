@@ -69,3 +69,7 @@ reason_by (Some d) = Silent d
 -- where the decision is good after the cursor's list, the note is of a list that is the same as that list with it
 abbrev pub IsNotedAfter : CursorOf → Decision → (List Decision → Type 0) → Type 0
 IsNotedAfter c d P = IsGoodAt c d → IsNotedAlike c.shape P (c.path ++ d ∷ [])
+
+-- where the decision is good after the cursor's list, that list with it has a note
+abbrev pub HasNoteAfter : {N : Type 0} → (N → List Decision → Type 0) → CursorOf → Decision → Type 0
+HasNoteAfter noted c d = IsGoodAt c d → HasNote noted (c.path ++ d ∷ [])

@@ -52,6 +52,12 @@ ReportsFrom objects h noted p left (ended.Witness q) = BeginsWith p q × Shows o
 ReportsFrom objects h noted p (Some left) ended.Spent = SpentBy objects h p (left + 1)
 ReportsFrom objects h noted p None ended.Spent = ⊥
 
+-- the search ended with the list
+abbrev pub IsWitnessOf : {N X : Type 0} → List Decision → Ended N X → Type 0
+IsWitnessOf p (ended.Refuted note) = ⊥
+IsWitnessOf p (ended.Witness q) = q ≡ p
+IsWitnessOf p ended.Spent = ⊥
+
 -- the same without the note
 abbrev pub outcome_of : {N X : Type 0} → Ended N X → Outcome X
 outcome_of (ended.Refuted note) = outcome.Refuted

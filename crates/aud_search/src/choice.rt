@@ -1,9 +1,8 @@
 //! All choices of a history, in the order in which a search tries them.
 
 ghost use Rattle.std.specs.Prelude.{◌≡◌, ◌++◌, map, Some, IfOk, OnOk};
-ghost use Rattle.aud_history.specs.Table.{table_of};
 ghost use Rattle.aud_order.specs.Shapes.{history_of};
-ghost use Rattle.aud_search.specs.Choices.{AreChoices, AreMarked, AreMarkedFrom, key_of, row_choices, choices_from};
+ghost use Rattle.aud_search.specs.Choices.{AreChoices, AreMarked, AreMarkedFrom, key_of, row_choices, both_choices, choices_from};
 
 use aud_event::OutOfMemory;
 use aud_history::TxRow;
@@ -76,6 +75,22 @@ fn add_choice<A: Allocator>(
     Ok(())
 }
 
+/// Adds the choices of the row's transaction.
+fn add_row<A: Allocator + Copy>(
+    choices: &mut Vec<Choice, A>,
+    shape: &Shape<A>,
+    place: usize,
+    row: &TxRow<A>,
+) -> Result<(), OutOfMemory>
+    ensures added { OnOk result (map key_of choices.new.items ≡ map key_of choices.old.items ++ both_choices place row.now) }
+    ensures marked { OnOk result (AreMarked (history_of shape.now) choices.old.items → AreMarked (history_of shape.now) choices.new.items) }
+{
+    let silent = shape.silent(row.tx());
+    add_choice(choices, place, row, silent, Fate::C)?;
+    add_choice(choices, place, row, silent, Fate::A)?;
+    Ok(())
+}
+
 /// The choices of all rows, by the rows' places.
 fn gather<A: Allocator + Copy>(
     alloc: A,
@@ -87,9 +102,7 @@ fn gather<A: Allocator + Copy>(
 {
     let mut choices = Vec::new(alloc);
     for (place, row) in rows.iter().enumerate() {
-        let silent = shape.silent(row.tx());
-        add_choice(&mut choices, place, row, silent, Fate::C)?;
-        add_choice(&mut choices, place, row, silent, Fate::A)?;
+        add_row(&mut choices, shape, place, row)?;
     }
     Ok(choices)
 }
@@ -101,7 +114,7 @@ pub(crate) fn choices_of<A: Allocator + Copy>(
 ) -> Result<Vec<Choice, A>, OutOfMemory>
     ensures { IfOk result (λ choices. AreChoices (history_of shape.now) choices.items) }
 {
-    let _ = shape.history();
+    let _sound = shape.history();
     let mut choices = gather(alloc, shape, shape.table().rows())?;
     choices.sort()?;
     Ok(choices)

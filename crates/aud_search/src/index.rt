@@ -14,7 +14,7 @@ struct Slot {
 }
 
 /// What stands in a slot.
-#[derive(Clone, Copy, PartialEq, Eq)]
+#[derive(Clone, Copy)]
 pub(crate) enum Look {
     /// Nothing, nor in the slots after it.
     Free,

@@ -1,11 +1,10 @@
 //! States under numbers, kept by the blocks that lead to them.
 
 ghost use Rattle.std.specs.Prelude.{◌≡◌, IsTrue, MatchOption, Some, reverse};
-ghost use Rattle.aud_history.specs.Histories.{History};
 ghost use Rattle.aud_history.specs.Table.{row_of};
 ghost use Rattle.aud_order.specs.Shapes.{history_of};
 ghost use Rattle.aud_search.specs.Memos.{Names};
-ghost use Rattle.aud_search.specs.Kept.{IsMoreOf, states_of, state_from, run_way, IsWay, LeadsTo, LeadsFrom, IsKeptOf};
+ghost use Rattle.aud_search.specs.Kept.{IsMoreOf, states_of, run_way, IsWayTo, LeadsTo, LeadsFrom, IsKeptOf};
 
 use crate::digests::Digests;
 use crate::index::{Index, Look};
@@ -23,14 +22,14 @@ pub(crate) enum Kept<A: Allocator = Global> {
 }
 
 /// From the states under a number by the block of a transaction.
-#[derive(Clone, Copy, PartialEq, Eq)]
+#[derive(Clone, Copy)]
 pub(crate) struct Step {
     pub from: usize,
     pub tx: u32,
 }
 
 /// How many blocks run, and how many operations are in them.
-#[derive(Clone, Copy, PartialEq, Eq)]
+#[derive(Clone, Copy)]
 pub(crate) struct Cost {
     pub blocks: usize,
     pub operations: usize,
@@ -120,7 +119,7 @@ fn way_to<A: Allocator + Copy>(
     way: &mut Vec<u32, A>,
     number: usize,
 ) -> Option<usize>
-    ensures { (h : History) → MatchOption result (Unit {0}) (λ first. IsWay h (states_of h kept.now) first (reverse way.new.items) number) }
+    ensures { IsWayTo kept.now number way.new.items result }
 {
     way.clear();
     let mut at = number;

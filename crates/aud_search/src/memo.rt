@@ -1,13 +1,12 @@
 //! What a search remembers of the lists that it refuted: which transactions were placed, and the states of all objects.
 //! After two lists of which these are the same, the same shows.
 
-ghost use Rattle.std.specs.Prelude.{◌≡◌, ◌++◌, [], ◌∷◌, Some, List, IsTrue, IfSome, IfOk, OnOk, MatchOption, slice_get};
+ghost use Rattle.std.specs.Prelude.{◌≡◌, [], Some, List, IsTrue, IfSome, IfOk, MatchOption, slice_get};
 ghost use Rattle.aud_witness.specs.declared.decision.Decision.{Decision};
 ghost use Rattle.std.specs.List.{Contains};
 ghost use Rattle.aud_witness.specs.declared.decision.Fate.TheVariants.{C};
 ghost use Rattle.aud_witness.specs.Orders.{Refuted};
-ghost use Rattle.aud_order.specs.Shapes.{objects_of, history_of};
-ghost use Rattle.aud_order.specs.Cursors.{IsGoodAt};
+ghost use Rattle.aud_order.specs.Shapes.{history_of};
 ghost use Rattle.aud_search.specs.Kept.{LeadsTo};
 ghost use Rattle.aud_search.specs.Memos.{states_reached, Names, IsLead, IsGrown, IsReported, IsStep, IsNext, IsAfter, LeavesStates, IsRefutedAt, IsRefutedAfter};
 ghost use Rattle.aud_search.specs.Recorders.{IsReason, IsNotedAlike, HasNote, IsNotedAfter};
@@ -26,7 +25,7 @@ use std::alloc::{Allocator, Global};
 use std::marker::Model;
 
 /// The block of the transaction leads from the states of one number to those of another.
-#[derive(Clone, Copy, PartialEq, Eq)]
+#[derive(Clone, Copy)]
 pub(crate) struct Lead {
     pub from: usize,
     pub tx: u32,
@@ -263,9 +262,9 @@ impl<'a, N: Copy, R: Recorder<N>, A: Allocator + Copy> Memo<'a, N, R, A> {
         ensures grown { IsGrown self.old self.new }
         ensures named { Names self.new.states result (states_reached cursor.now.shape cursor.now.path) }
     {
-        let _ = self.shape.history();
-        let _ = self.shape.plan();
-        let _ = cursor.prefix();
+        let _sound = self.shape.history();
+        let _within = self.shape.plan();
+        let _good = cursor.prefix();
         if self.spots.is_empty() {
             return None;
         }
@@ -297,9 +296,9 @@ impl<'a, N: Copy, R: Recorder<N>, A: Allocator + Copy> Memo<'a, N, R, A> {
         ensures refuted { IfSome result (λ note. IsRefutedAt cursor.now) }
         ensures alike { IfSome result (λ note. IsNotedAlike cursor.now.shape (R.noted self.now.recorder note) cursor.now.path) }
     {
-        let _ = self.shape.history();
-        let _ = self.shape.plan();
-        let _ = cursor.prefix();
+        let _sound = self.shape.history();
+        let _within = self.shape.plan();
+        let _good = cursor.prefix();
         let Some(number) = states else {
             return None;
         };
@@ -321,9 +320,9 @@ impl<'a, N: Copy, R: Recorder<N>, A: Allocator + Copy> Memo<'a, N, R, A> {
         ensures refuted { IfSome result (λ note. IsRefutedAfter cursor.now choice.now.decision) }
         ensures alike { IfSome result (λ note. IsNotedAfter cursor.now choice.now.decision (R.noted self.now.recorder note)) }
     {
-        let _ = self.shape.history();
-        let _ = self.shape.plan();
-        let _ = cursor.prefix();
+        let _sound = self.shape.history();
+        let _within = self.shape.plan();
+        let _good = cursor.prefix();
         let Some(before) = states else {
             return None;
         };
@@ -371,7 +370,7 @@ impl<'a, N: Copy, R: Recorder<N>, A: Allocator + Copy> Memo<'a, N, R, A> {
         requires noted { R.noted self.old.recorder note cursor.now.path }
         ensures { self.new ≡ self.old }
     {
-        let _ = cursor.prefix();
+        let _good = cursor.prefix();
         let placed = cursor.placed();
         let size = placed.words().len().saturating_mul(8).saturating_add(ITEM);
         if !takes(&mut self.room, size) {

@@ -15,7 +15,7 @@ use std::alloc::{Allocator, Global};
 use std::marker::Model;
 
 /// The places of a row's choices, by their fates.
-#[derive(Clone, Copy, PartialEq, Eq)]
+#[derive(Clone, Copy)]
 pub(crate) struct RowChoices {
     pub commit: Option<usize>,
     pub abort: Option<usize>,

@@ -1,7 +1,7 @@
 //! The search over one cursor: each good list of decisions is expanded at most once, and so is each spot, which is the
 //! transactions placed and the states of all objects. Where a silent transaction is good, only its choice is followed.
 
-ghost use Rattle.std.specs.Prelude.{◌≡◌, ◌↔◌, ◌<◌, ◌≤◌, Some, None, length, true, IfOk, OnOk, MatchOption, ◌++◌, ◌∷◌, []};
+ghost use Rattle.std.specs.Prelude.{◌≡◌, ◌<◌, Some, None, length, IfOk, OnOk, MatchOption, []};
 ghost use Rattle.aud_witness.specs.Orders.{IsFull, Opaque};
 ghost use Rattle.aud_history.specs.WellFormed.{IsWellFormed};
 ghost use Rattle.aud_history.specs.FirstFault.{IsWithinLimits};
@@ -10,10 +10,11 @@ ghost use Rattle.aud_search.specs.Choices.{AreChoices};
 ghost use Rattle.aud_search.specs.Levels.{IsOneLess};
 ghost use Rattle.aud_search.specs.Readiness.{IsReady};
 ghost use Rattle.aud_search.specs.Searches.{Reports, ReportsWith, Decides, DecidesByLetter};
-ghost use Rattle.aud_order.specs.Cursors.{IsGoodAt, cursor_back, cursor_with};
-ghost use Rattle.aud_search.specs.Tried.{IsTried, IsFound, IsNextPlace, ArePassed, ReportsFrom, ReportsAt};
-ghost use Rattle.aud_search.specs.Memos.{Names, states_reached, IsReported};
-ghost use Rattle.aud_search.specs.Recorders.{HasNote, IsNotedFor, IsNotedAlike, AreKept, IsSilentAt, reason_by, IsNotedAfter};
+ghost use Rattle.aud_order.specs.Cursors.{cursor_back, cursor_with};
+ghost use Rattle.aud_search.specs.Tried.{IsTried, IsFound, IsNextPlace, ArePassed, IsWitnessOf, ReportsAt};
+ghost use Rattle.aud_search.specs.Memos.{Names, states_reached, IsReported, IsFurther, IsStep, IsRefutedAt};
+ghost use Rattle.aud_search.specs.Recorders.{HasNote, IsNotedFor, IsReason, AreKept, IsSilentAt, reason_by, IsNotedAfter, HasNoteAfter};
+ghost use Rattle.aud_search.specs.Turns.{IsSought, IsArrived, IsClosed};
 
 use crate::choice::{Choice, Effect, choices_of};
 use crate::memo::{Memo, Reason};
@@ -81,7 +82,7 @@ fn pass<N: Copy, R: Recorder<N>, A: Allocator + Copy>(
 ) -> Result<(), OutOfMemory>
     requires shape { memo.old.shape ≡ cursor.old.shape }
     requires alike { IsNotedAfter cursor.old decision (R.noted memo.old.recorder note) }
-    ensures noted { OnOk result (IsGoodAt cursor.old decision → HasNote (R.noted memo.new.recorder) (cursor.old.path ++ decision ∷ [])) }
+    ensures noted { OnOk result (HasNoteAfter (R.noted memo.new.recorder) cursor.old decision) }
     ensures stays { OnOk result (cursor.new ≡ cursor.old) }
     ensures reported { OnOk result (IsReported R.grows memo.old memo.new) }
 {
@@ -195,7 +196,7 @@ fn reason_of<N>(silent: Option<Decision>) -> Reason<N>
 
 /// Which choice after a list is tried next, the number of the states there, if they have one, and the choice of a silent
 /// transaction that was followed, if one was.
-#[derive(Clone, Copy, PartialEq, Eq)]
+#[derive(Clone, Copy)]
 struct Turn {
     next: usize,
     states: Option<usize>,
@@ -212,6 +213,145 @@ impl Turn {
             states,
             silent: None,
         }
+    }
+}
+
+/// Passes over choices that are known to be refuted, and goes on by the first of the others that is good. It answers its place.
+fn seek<N: Copy, R: Recorder<N>, A: Allocator + Copy>(
+    memo: &mut Memo<N, R, A>,
+    cursor: &mut Cursor<A>,
+    choices: &[Choice],
+    ready: &Ready<A>,
+    here: Turn,
+) -> Result<Option<usize>, OutOfMemory>
+    requires choices { AreChoices (history_of cursor.old.shape) choices.now }
+    requires same { ready.now.choices ≡ choices.now }
+    requires ready { IsReady ready.now cursor.old }
+    requires shape { memo.old.shape ≡ cursor.old.shape }
+    requires named { Names memo.old.states here.states (states_reached cursor.old.shape cursor.old.path) }
+    ensures sought { IfOk result (IsSought (R.noted memo.new.recorder) cursor.old cursor.new choices.now here.next) }
+    ensures reported { OnOk result (IsReported R.grows memo.old memo.new) }
+{
+    let from = pass_known(memo, cursor, choices, ready, here)?;
+    try_from(cursor, choices, ready, from)
+}
+
+/// What became of a list that the search went on to.
+#[derive(Drop)]
+enum Arrival {
+    /// It is known to be refuted, and the search went back.
+    Known,
+    /// The states there have the number, if they have one.
+    Fresh(Option<usize>),
+}
+
+/// Says what is known of the cursor's list, to which the search just went by the choice, from states with a number.
+fn arrive<N: Copy, R: Recorder<N>, A: Allocator + Copy>(
+    memo: &mut Memo<N, R, A>,
+    cursor: &mut Cursor<A>,
+    choice: &Choice,
+    from: Option<usize>,
+) -> Result<Arrival, OutOfMemory>
+    requires { IsStep memo.old from choice.now cursor.old }
+    ensures arrived { IfOk result (IsArrived (R.noted memo.new.recorder) memo.new.states cursor.old cursor.new) }
+    ensures further { OnOk result (IsFurther R.grows memo.old memo.new) }
+{
+    memo.touch(choice.decision);
+    let states = memo.follow(from, choice, cursor);
+    let Some(note) = memo.knows(states, cursor) else {
+        return Ok(Arrival::Fresh(states));
+    };
+    memo.note(cursor, Reason::Same(note))?;
+    take_back(cursor, memo);
+    Ok(Arrival::Known)
+}
+
+/// Notes that the cursor's list is refuted, and goes back to the list before it, whose turn is then the last one. Where no list
+/// is left to go back to, it answers the note.
+fn close<N: Copy, R: Recorder<N>, A: Allocator + Copy>(
+    memo: &mut Memo<N, R, A>,
+    cursor: &mut Cursor<A>,
+    ready: &mut Ready<A>,
+    turns: &mut Vec<Turn, A>,
+    here: &mut Turn,
+) -> Result<Option<N>, OutOfMemory>
+    requires shape { memo.old.shape ≡ cursor.old.shape }
+    requires reason { IsReason (R.noted memo.old.recorder) cursor.old.shape cursor.old.path (reason_by here.old.silent) }
+    requires named { Names memo.old.states here.old.states (states_reached cursor.old.shape cursor.old.path) }
+    requires refuted { IsRefutedAt cursor.old }
+    requires ready { IsReady ready.old cursor.old }
+    ensures closed { IfOk result (IsClosed (R.noted memo.new.recorder) cursor.old cursor.new turns.old.items turns.new.items here.new) }
+    ensures further { OnOk result (IsFurther R.grows memo.old memo.new) }
+    ensures ready { OnOk result (IsReady ready.new cursor.new) }
+    ensures choices { ready.new.choices ≡ ready.old.choices }
+{
+    let note = memo.note(cursor, reason_of(here.silent))?;
+    let Some(turn) = turns.pop() else {
+        return Ok(Some(note));
+    };
+    memo.learn(here.states, note, cursor);
+    go_back(cursor, ready, memo);
+    *here = turn;
+    Ok(None)
+}
+
+/// The cursor's list, with which a search ends.
+fn witness_at<N: Copy, A: Allocator + Copy>(
+    alloc: A,
+    cursor: &Cursor<A>,
+) -> Result<Ended<N, A>, OutOfMemory>
+    ensures { IfOk result (IsWitnessOf cursor.now.path) }
+{
+    let witness = Prefix::copy_of(alloc, cursor.prefix())?;
+    Ok(Ended::Witness(witness))
+}
+
+/// Searches the lists that begin with the cursor's, which was just expanded. The turns are those of the lists before the cursor's.
+fn search_on<N: Copy, R: Recorder<N>, A: Allocator + Copy>(
+    alloc: A,
+    cursor: &mut Cursor<A>,
+    choices: &[Choice],
+    budget: Option<u64>,
+    memo: &mut Memo<N, R, A>,
+    ready: &mut Ready<A>,
+    turns: &mut Vec<Turn, A>,
+) -> Result<Ended<N, A>, OutOfMemory>
+    requires memo { memo.old.shape ≡ cursor.old.shape }
+    requires choices { AreChoices (history_of cursor.old.shape) choices.now }
+    requires unfull { IsFull (history_of cursor.old.shape) cursor.old.path → ⊥ }
+    requires fine { IsWellFormed (history_of cursor.old.shape) }
+    requires within { IsWithinLimits (plan_of cursor.old.shape) (history_of cursor.old.shape) }
+    requires same { ready.old.choices ≡ choices.now }
+    requires ready { IsReady ready.old cursor.old }
+    requires first { turns.old.items ≡ [] }
+    ensures reported { IfOk result (ReportsAt cursor.old (R.noted memo.new.recorder) budget) }
+    ensures shape { OnOk result (memo.new.shape ≡ memo.old.shape) }
+{
+    let mut left = budget;
+    let mut here = Turn::new(None);
+    let _good = cursor.prefix();
+    'search: loop {
+        let Some(place) = seek(memo, cursor, choices, ready, here)? else {
+            match close(memo, cursor, ready, turns, &mut here)? {
+                Some(note) => return Ok(Ended::Refuted(note)),
+                None => continue,
+            }
+        };
+        if cursor.full() {
+            return witness_at(alloc, cursor);
+        }
+        here.next = next_place(choices, place);
+        here.silent = silent_at(choices, place);
+        let Arrival::Fresh(states) = arrive(memo, cursor, &choices[place], here.states)? else {
+            continue;
+        };
+        let Some(rest) = spend(left) else {
+            return Ok(Ended::Spent);
+        };
+        left = rest;
+        ready.go_on(choices[place].decision, cursor);
+        turns.push(here)?;
+        here = Turn::new(states);
     }
 }
 
@@ -233,44 +373,37 @@ fn search_from<'a, N: Copy, R: Recorder<N>, A: Allocator + Copy>(
     ensures reported { IfOk result (ReportsAt cursor.old (R.noted memo.new.recorder) budget) }
     ensures shape { OnOk result (memo.new.shape ≡ memo.old.shape) }
 {
-    let mut left = budget;
     let mut ready = Ready::at(alloc, shape, choices, cursor)?;
     let mut turns = Vec::new(alloc);
-    let mut here = Turn::new(None);
-    let _ = cursor.prefix();
-    'search: loop {
-        let from = pass_known(memo, cursor, choices, &ready, here)?;
-        let Some(place) = try_from(cursor, choices, &ready, from)? else {
-            let note = memo.note(cursor, reason_of(here.silent))?;
-            let Some(turn) = turns.pop() else {
-                return Ok(Ended::Refuted(note));
-            };
-            memo.learn(here.states, note, cursor);
-            go_back(cursor, &mut ready, memo);
-            here = turn;
-            continue;
-        };
-        if cursor.full() {
-            let witness = Prefix::copy_of(alloc, cursor.prefix())?;
-            return Ok(Ended::Witness(witness));
-        }
-        here.next = next_place(choices, place);
-        here.silent = silent_at(choices, place);
-        memo.touch(choices[place].decision);
-        let states = memo.follow(here.states, &choices[place], cursor);
-        if let Some(note) = memo.knows(states, cursor) {
-            memo.note(cursor, Reason::Same(note))?;
-            take_back(cursor, memo);
-            continue;
-        }
-        let Some(rest) = spend(left) else {
-            return Ok(Ended::Spent);
-        };
-        left = rest;
-        ready.go_on(choices[place].decision, cursor);
-        turns.push(here)?;
-        here = Turn::new(states);
+    search_on(alloc, cursor, choices, budget, memo, &mut ready, &mut turns)
+}
+
+/// Searches the lists that begin with the cursor's, with a budget or without, over what is remembered of the shape.
+fn search_under<'a, A: Allocator + Copy>(
+    alloc: A,
+    shape: &'a Shape<A>,
+    cursor: &mut Cursor<'a, A>,
+    budget: Option<u64>,
+    memo: &mut Memo<'a, Unnoted, Unrecorded, A>,
+) -> Result<Outcome<A>, OutOfMemory>
+    requires memo { memo.old.shape ≡ shape.now }
+    requires shape { cursor.old.shape ≡ shape.now }
+    ensures reported { IfOk result (Reports (objects_of shape.now) (history_of shape.now) cursor.old.path budget) }
+    ensures shape { OnOk result (memo.new.shape ≡ memo.old.shape) }
+{
+    let _good = cursor.prefix();
+    if cursor.full() {
+        let witness = Prefix::copy_of(alloc, cursor.prefix())?;
+        return Ok(Outcome::Witness(witness));
     }
+    let Some(left) = spend(budget) else {
+        return Ok(Outcome::Spent);
+    };
+    let _sound = shape.history();
+    let _within = shape.plan();
+    let choices = choices_of(alloc, shape)?;
+    let ended = search_from(alloc, shape, cursor, &choices, left, memo)?;
+    Ok(ended.outcome())
 }
 
 /// Searches the lists that begin with the prefix, with a budget or without, over what is remembered of the shape.
@@ -288,17 +421,18 @@ fn search<'a, A: Allocator + Copy>(
     let Some(mut cursor) = Cursor::after(alloc, shape, prefix)? else {
         return Ok(Outcome::Refuted);
     };
-    let _ = cursor.prefix();
-    if cursor.full() {
-        let witness = Prefix::copy_of(alloc, prefix)?;
-        return Ok(Outcome::Witness(witness));
-    }
-    let Some(left) = spend(budget) else {
-        return Ok(Outcome::Spent);
-    };
-    let choices = choices_of(alloc, shape)?;
-    let ended = search_from(alloc, shape, &mut cursor, &choices, left, memo)?;
-    Ok(ended.outcome())
+    search_under(alloc, shape, &mut cursor, budget, memo)
+}
+
+/// Puts a memo of nothing in place of another.
+fn forget_all<'a, A: Allocator + Copy>(
+    alloc: A,
+    shape: &'a Shape<A>,
+    memo: &mut Memo<'a, Unnoted, Unrecorded, A>,
+)
+    ensures { memo.new.shape ≡ shape.now }
+{
+    *memo = Memo::new(alloc, shape, Unrecorded);
 }
 
 /// What searches of one history have refuted, for the searches that come after them: a list is not expanded where one of the same
@@ -350,7 +484,7 @@ impl<'a, A: Allocator + Copy> Memory<'a, A> {
         ) {
             Ok(outcome) => Ok(outcome),
             Err(error) => {
-                self.memo = Memo::new(alloc, shape, Unrecorded);
+                forget_all(alloc, shape, &mut self.memo);
                 Err(error)
             }
         }
@@ -385,6 +519,51 @@ pub fn decide<A: Allocator + Copy>(alloc: A, shape: &Shape<A>) -> Result<Decided
     }
 }
 
+/// Searches all lists, of which the empty one is not full. It is expanded first.
+fn search_all<'a, N: Copy, R: Recorder<N>, A: Allocator + Copy>(
+    alloc: A,
+    shape: &'a Shape<A>,
+    cursor: &mut Cursor<'a, A>,
+    recorder: R,
+) -> Result<Searched<R, N, A>, OutOfMemory>
+    requires own { R.is_for recorder shape.now }
+    requires root { cursor.old ≡ record { shape = shape.now; path = [] } }
+    requires unfull { IsFull (history_of cursor.old.shape) cursor.old.path → ⊥ }
+    ensures { IfOk result (ReportsWith (objects_of shape.now) (history_of shape.now) (IsNotedFor R.is_for R.noted shape.now)) }
+{
+    let _sound = shape.history();
+    let _within = shape.plan();
+    let choices = choices_of(alloc, shape)?;
+    let mut memo = Memo::new(alloc, shape, recorder);
+    let ended = search_from(alloc, shape, cursor, &choices, None, &mut memo)?;
+    let recorder = memo.into_recorder();
+    match ended {
+        Ended::Refuted(note) => Ok(Searched::NotOpaque(recorder, note)),
+        Ended::Witness(witness) => Ok(Searched::Opaque(witness)),
+        // Without a budget none is spent.
+        Ended::Spent => unreachable!(),
+    }
+}
+
+/// Searches all lists, where the cursor's is the empty one.
+fn search_at_root<'a, N: Copy, R: Recorder<N>, A: Allocator + Copy>(
+    alloc: A,
+    shape: &'a Shape<A>,
+    cursor: &mut Cursor<'a, A>,
+    recorder: R,
+) -> Result<Searched<R, N, A>, OutOfMemory>
+    requires own { R.is_for recorder shape.now }
+    requires root { cursor.old ≡ record { shape = shape.now; path = [] } }
+    ensures { IfOk result (ReportsWith (objects_of shape.now) (history_of shape.now) (IsNotedFor R.is_for R.noted shape.now)) }
+{
+    let _good = cursor.prefix();
+    if cursor.full() {
+        let witness = Prefix::copy_of(alloc, cursor.prefix())?;
+        return Ok(Searched::Opaque(witness));
+    }
+    search_all(alloc, shape, cursor, recorder)
+}
+
 /// Whether the history is opaque, as `decide` says, over a recorder that hears of each good list that is refuted, with the reason.
 /// It is handed back with its note of the empty list.
 pub fn search_with<N: Copy, R: Recorder<N>, A: Allocator + Copy>(
@@ -396,17 +575,5 @@ pub fn search_with<N: Copy, R: Recorder<N>, A: Allocator + Copy>(
     ensures { IfOk result (ReportsWith (objects_of shape.now) (history_of shape.now) (IsNotedFor R.is_for R.noted shape.now)) }
 {
     let mut cursor = Cursor::root(alloc, shape)?;
-    let _ = cursor.prefix();
-    if cursor.full() {
-        let witness = Prefix::copy_of(alloc, cursor.prefix())?;
-        return Ok(Searched::Opaque(witness));
-    }
-    let choices = choices_of(alloc, shape)?;
-    let mut memo = Memo::new(alloc, shape, recorder);
-    match search_from(alloc, shape, &mut cursor, &choices, None, &mut memo)? {
-        Ended::Refuted(note) => Ok(Searched::NotOpaque(memo.into_recorder(), note)),
-        Ended::Witness(witness) => Ok(Searched::Opaque(witness)),
-        // Without a budget none is spent.
-        Ended::Spent => unreachable!(),
-    }
+    search_at_root(alloc, shape, &mut cursor, recorder)
 }

@@ -1,8 +1,8 @@
 //! Spots as words, all in one memory.
 
-ghost use Rattle.std.specs.Prelude.{◌≡◌, ◌+◌, ◌<◌, ◌≤◌, ◌++◌, [], ◌∷◌, true, nat_eq, IsTrue, MatchOption, map, length, take, drop, slice_get, slice_index_or, if◌then◌else◌, ◌⊎◌, Some};
+ghost use Rattle.std.specs.Prelude.{◌≡◌, ◌+◌, ◌<◌, ◌≤◌, ◌++◌, [], ◌∷◌, true, nat_eq, IsTrue, MatchOption, length, take, drop, slice_index_or, if◌then◌else◌, ◌⊎◌, Some};
 ghost use Rattle.aud_marks.specs.Marked.{IsBitWritten};
-ghost use Rattle.aud_search.specs.Spots.{IsKeptAs, entry_of, with_place, WithPlace, IsSpot, IsPlaceOf, entries_over, entry};
+ghost use Rattle.aud_search.specs.Spots.{IsKeptAs, with_place, WithPlace, IsSpot, IsPlaceOf, entries_over, entry};
 
 use crate::index::{Index, Look, hash_of};
 use aud_marks::Marks;

@@ -6,5 +6,5 @@ use Rattle.aud_search.proofs.choice.choices_of.Goals as goal
 
 pub returns : goal.returns
 returns g c =
-    choices-sorted (history_of c.args.shape.now) c.in_ok-choices.choices.items c.sort.new.self.items c.history.ensures.sound c.in_ok-choices.ensures.marked
+    choices-sorted (history_of c.args.shape.now) c.in_ok-choices.choices.items c.sort.new.self.items c.history-sound.ensures.sound c.in_ok-choices.ensures.marked
     (c.in_ok-choices.ensures.all ∙ ap (choices_from 0) (c.rows.ensures ∙ c.table.ensures)) c.sort.ensures.permutation

@@ -1,9 +1,8 @@
 use Rattle.std.specs.Prelude.{map}
-use Rattle.std.proofs.Common.{◌∙◌, ap}
+use Rattle.std.proofs.Common.{ap}
 use Rattle.aud_order.specs.Shapes.{history_of}
-use Rattle.aud_order.specs.Silent.{silent_fate}
 use Rattle.aud_search.specs.Choices.{key_of}
-use Rattle.aud_search.proofs.Choosing.{choices-step, marked-none, marked-more}
+use Rattle.aud_search.proofs.Choosing.{choices-step, marked-none}
 use Rattle.aud_search.proofs.choice.gather.Goals as goal
 
 pub loop-place-init : goal.loop-place-init
@@ -11,8 +10,7 @@ loop-place-init g c = record { all = ap (map key_of) c.new-choices.ensures.items
 
 pub loop-place-preserved : goal.loop-place-preserved
 loop-place-preserved g c = record {
-  all = choices-step c.args.rows.now c.loop-place.place c.index-rows-place.result (map key_of c.loop-place.choices.items) (map key_of c.add_choice.new.choices.items) (map key_of c.add_choice-in-loop-place.new.choices.items)
-      c.loop-place-test.true c.index-rows-place.is c.loop-place.invariant.all c.in_ok-add_choice.ensures.added c.in_ok-add_choice-2.ensures.added;
-  marked = marked-more (history_of c.args.shape.now) c.loop-place.choices.items c.add_choice.new.choices.items c.add_choice-in-loop-place.new.choices.items c.index-rows-place.result.tx c.silent-silent.result
-      c.loop-place.invariant.marked c.in_ok-add_choice.ensures.marked c.in_ok-add_choice-2.ensures.marked (c.silent-silent.ensures ∙ ap (silent_fate (history_of c.args.shape.now)) c.tx.ensures);
+  all = choices-step c.args.rows.now c.loop-place.place c.index-rows-place.result (map key_of c.loop-place.choices.items) (map key_of c.add_row.new.choices.items)
+      c.loop-place-test.true c.index-rows-place.is c.loop-place.invariant.all c.in_ok-add_row.ensures.added;
+  marked = c.in_ok-add_row.ensures.marked c.loop-place.invariant.marked;
 }

@@ -3,11 +3,12 @@ use Rattle.std.specs.Option.{option_copied}
 use Rattle.std.specs.Ordering.{is_eq}
 use Rattle.std.specs.List.{AllByRecursion}
 use Rattle.std.specs.Arc.{arc_value}
+use Rattle.std.specs.BTreeMap.{IsOrdered}
 use Rattle.aud_lattice.specs.declared.trie.Trie.TheVariants.{Fork, outs-Fork}
 use Rattle.aud_lattice.specs.declared.trie.Trie.{Trie, out-Trie}
-use Rattle.aud_lattice.specs.Walks.{walk, child, starts, nodes_of, node_of, now_of, IsTrie, IsLive, IsMet}
+use Rattle.aud_lattice.specs.Walks.{IsLayer, walk, child, starts, nodes_of, node_of, now_of, IsTrie, IsLive, IsMet}
 use Rattle.aud_lattice.specs.Sets.{either}
-use Rattle.aud_lattice.proofs.Tries.{member_joins, member_keeps, found_kids, child_size, any_starts, any_starts-walk, shift, good_child, live_child, fork_good_at, fork_ordered, found_node, gone_node, met_there, met_good, met_walk, met_gone, met_found}
+use Rattle.aud_lattice.proofs.Tries.{member_joins, member_keeps, found_kids, child_size, any_starts, any_starts-walk, alone_starts, good_here, shift, good_child, live_child, fork_good_at, fork_ordered, found_node, gone_node, met_there, met_good, met_walk, met_gone, met_found}
 use Rattle.aud_lattice.proofs.trie.Trie.+grafts.Goals as goal
 
 pub grafted-own_nodes-requires : goal.grafted-own_nodes-requires
@@ -59,23 +60,59 @@ joined-loop-first-init g t c =
 
 pub joined-grafted-requires : goal.joined-grafted-requires
 joined-grafted-requires g t c κs within =
-    let kids = subst (λ es. AllByRecursion (λ x. child g.D.Ord.cmp c.args.from.now x.0 ≡ Some x.1) (nodes_of es)) c.in-Some.ensures.steps c.loop-first.invariant.3 in
+    let at = ap (out-Trie g.row.D.Denot g.row.A.Denot) c.in-Fork-from.is ∙ outs-Fork c.in-Fork-from.theirs in
+    let ordered : IsOrdered g.D.Ord.cmp c.in-Fork-from.theirs = subst (IsLayer g.D.Ord.cmp) at (good_here g.D.Ord.cmp c.args.from.now c.requires.from) in
+    let kids = subst (λ es. AllByRecursion (λ x. child g.D.Ord.cmp c.args.from.now x.0 ≡ Some x.1) (nodes_of es)) c.in-Some.ensures (found_kids g.D.Ord.cmp g.met.D.Ord.total g.met.D.Key.exact c.args.from.now c.in-Fork-from.theirs at ordered) in
     let good : IsTrie g.D.Ord.cmp (arc_value c.in-Some.node.now) = good_child g.D.Ord.cmp c.args.from.now c.in-Some.first.now (arc_value c.in-Some.node.now) kids.0 c.requires.from in
     let live : IsLive g.D.Ord.cmp (arc_value c.in-Some.node.now) = live_child g.D.Ord.cmp c.args.from.now c.in-Some.first.now (arc_value c.in-Some.node.now) kids.0 c.requires.from in
     let small = child_size g.D.Ord.cmp c.args.from.now c.in-Some.first.now (arc_value c.in-Some.node.now) kids.0 in
+    let into = subst (IsTrie g.D.Ord.cmp) c.in-Fork.is c.requires.into in
+    search (rules, good, live, small, into)
+
+pub joined-returns-in-Some-2-clause-both : goal.joined-returns-in-Some-2-clause-both
+joined-returns-in-Some-2-clause-both g t c =
+    let at = ap (out-Trie g.row.D.Denot g.row.A.Denot) c.in-Fork-from.is ∙ outs-Fork c.in-Fork-from.theirs in
+    let ordered : IsOrdered g.D.Ord.cmp c.in-Fork-from.theirs = subst (IsLayer g.D.Ord.cmp) at (good_here g.D.Ord.cmp c.args.from.now c.requires.from) in
+    let theirs : starts g.D.Ord.cmp c.in-Some.first.now (walk g.D.Ord.cmp (arc_value c.in-Some.node.now)) ≡ walk g.D.Ord.cmp c.args.from.now =
+    sym (alone_starts g.D.Ord.cmp c.in-Some.first.now (arc_value c.in-Some.node.now))
+    ∙ (λ i. any_starts g.D.Ord.cmp (nodes_of (sym c.in-Some.ensures i)))
+    ∙ any_starts-walk g.D.Ord.cmp g.met.D.Ord.total g.met.D.Key.exact c.args.from.now c.in-Fork-from.theirs at ordered in
+    (λ i. walk g.D.Ord.cmp (Fork (now_of c.in-Fork.ours (sym c.in-Some-2.is i))))
+    ∙ c.in_ok-nodes-in-Fork-from.ensures.both
+    ∙ (λ i. either (theirs i) (walk g.D.Ord.cmp (sym c.in-Fork.is i)))
+
+pub joined-returns-in-None-clause-both : goal.joined-returns-in-None-clause-both
+joined-returns-in-None-clause-both g t c =
+    let at = ap (out-Trie g.row.D.Denot g.row.A.Denot) c.in-Fork-from.is ∙ outs-Fork c.in-Fork-from.theirs in
+    let ordered : IsOrdered g.D.Ord.cmp c.in-Fork-from.theirs = subst (IsLayer g.D.Ord.cmp) at (good_here g.D.Ord.cmp c.args.from.now c.requires.from) in
+    let theirs : starts g.D.Ord.cmp c.in-Some.first.now (walk g.D.Ord.cmp (arc_value c.in-Some.node.now)) ≡ walk g.D.Ord.cmp c.args.from.now =
+    sym (alone_starts g.D.Ord.cmp c.in-Some.first.now (arc_value c.in-Some.node.now))
+    ∙ (λ i. any_starts g.D.Ord.cmp (nodes_of (sym c.in-Some.ensures i)))
+    ∙ any_starts-walk g.D.Ord.cmp g.met.D.Ord.total g.met.D.Key.exact c.args.from.now c.in-Fork-from.theirs at ordered in
+    ap (walk g.D.Ord.cmp) c.in-Fork.is
+    ∙ (λ i. walk g.D.Ord.cmp (Fork (now_of c.in-Fork.ours (sym c.in-None.is i))))
+    ∙ c.in_ok-nodes-in-Fork-from.ensures.both
+    ∙ (λ i. either (theirs i) (walk g.D.Ord.cmp (sym c.in-Fork.is i)))
+
+pub joined-grafted-requires-in-loop-first : goal.joined-grafted-requires-in-loop-first
+joined-grafted-requires-in-loop-first g t c κs within =
+    let kids = subst (λ es. AllByRecursion (λ x. child g.D.Ord.cmp c.args.from.now x.0 ≡ Some x.1) (nodes_of es)) c.in-Some-3.ensures.steps c.loop-first.invariant.3 in
+    let good : IsTrie g.D.Ord.cmp (arc_value c.in-Some-3.node.now) = good_child g.D.Ord.cmp c.args.from.now c.in-Some-3.first.now (arc_value c.in-Some-3.node.now) kids.0 c.requires.from in
+    let live : IsLive g.D.Ord.cmp (arc_value c.in-Some-3.node.now) = live_child g.D.Ord.cmp c.args.from.now c.in-Some-3.first.now (arc_value c.in-Some-3.node.now) kids.0 c.requires.from in
+    let small = child_size g.D.Ord.cmp c.args.from.now c.in-Some-3.first.now (arc_value c.in-Some-3.node.now) kids.0 in
     search (rules, good, live, small, c.loop-first.invariant)
 
 pub joined-loop-first-preserved : goal.joined-loop-first-preserved
 joined-loop-first-preserved g t c =
-    let kids = subst (λ es. AllByRecursion (λ x. child g.D.Ord.cmp c.args.from.now x.0 ≡ Some x.1) (nodes_of es)) c.in-Some.ensures.steps c.loop-first.invariant.3 in
+    let kids = subst (λ es. AllByRecursion (λ x. child g.D.Ord.cmp c.args.from.now x.0 ≡ Some x.1) (nodes_of es)) c.in-Some-3.ensures.steps c.loop-first.invariant.3 in
     let old = walk g.D.Ord.cmp (Fork (now_of c.in-Fork.ours c.loop-first.all)) in (
       tt,
       tt,
       c.in_ok-all-in-Fork-from.ensures.good,
       kids.1,
       (λ i. either (any_starts g.D.Ord.cmp (nodes_of c.next.new.self)) (c.in_ok-all-in-Fork-from.ensures.both i))
-          ∙ shift (starts g.D.Ord.cmp c.in-Some.first.now (walk g.D.Ord.cmp (arc_value c.in-Some.node.now))) (any_starts g.D.Ord.cmp (nodes_of c.next.new.self)) old
-          ∙ (λ i. either (any_starts g.D.Ord.cmp (nodes_of (sym c.in-Some.ensures.steps i))) old)
+          ∙ shift (starts g.D.Ord.cmp c.in-Some-3.first.now (walk g.D.Ord.cmp (arc_value c.in-Some-3.node.now))) (any_starts g.D.Ord.cmp (nodes_of c.next.new.self)) old
+          ∙ (λ i. either (any_starts g.D.Ord.cmp (nodes_of (sym c.in-Some-3.ensures.steps i))) old)
           ∙ c.loop-first.invariant.4,
     )
 
@@ -90,14 +127,14 @@ joined-returns-in-Member-from-clause-both g t c =
 pub joined-returns-in-Some-all-clause-both : goal.joined-returns-in-Some-all-clause-both
 joined-returns-in-Some-all-clause-both g t c =
     (λ i. walk g.D.Ord.cmp (Fork (now_of c.in-Fork.ours (sym c.in-Some-all.is i))))
-    ∙ (λ i. either (any_starts g.D.Ord.cmp (nodes_of (sym c.in-None.ensures.steps.0 i))) (walk g.D.Ord.cmp (Fork (now_of c.in-Fork.ours c.loop-first.all))))
+    ∙ (λ i. either (any_starts g.D.Ord.cmp (nodes_of (sym c.in-None-2.ensures.steps.0 i))) (walk g.D.Ord.cmp (Fork (now_of c.in-Fork.ours c.loop-first.all))))
     ∙ c.loop-first.invariant.4
 
 pub joined-returns-in-None-all-clause-both : goal.joined-returns-in-None-all-clause-both
 joined-returns-in-None-all-clause-both g t c =
     ap (walk g.D.Ord.cmp) c.in-Fork.is
     ∙ (λ i. walk g.D.Ord.cmp (Fork (now_of c.in-Fork.ours (sym c.in-None-all.is i))))
-    ∙ (λ i. either (any_starts g.D.Ord.cmp (nodes_of (sym c.in-None.ensures.steps.0 i))) (walk g.D.Ord.cmp (Fork (now_of c.in-Fork.ours c.loop-first.all))))
+    ∙ (λ i. either (any_starts g.D.Ord.cmp (nodes_of (sym c.in-None-2.ensures.steps.0 i))) (walk g.D.Ord.cmp (Fork (now_of c.in-Fork.ours c.loop-first.all))))
     ∙ c.loop-first.invariant.4
 
 pub met-joined-requires : goal.met-joined-requires

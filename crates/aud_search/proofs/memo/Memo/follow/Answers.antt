@@ -17,8 +17,8 @@ returns-in-Some-after-clause-named g c =
     let memo = c.args.self.now in
     let at = c.args.cursor.now in
     let same : c.self.inside.shape.now ≡ at.shape = ap (λ (m : MemoOf _). m.shape) c.self.view_is ∙ c.requires.shape in
-    after-names memo c.in-Some.before c.in-Some-after.to c.args.choice.now at (subst (λ (s : ShapeOf). IsWellFormed (history_of s)) same c.history.ensures.sound)
-    (subst (λ (s : ShapeOf). IsWithinLimits (plan_of s) (history_of s)) same c.plan.ensures.sound) c.prefix.ensures.good
+    after-names memo c.in-Some.before c.in-Some-after.to c.args.choice.now at (subst (λ (s : ShapeOf). IsWellFormed (history_of s)) same c.history-sound.ensures.sound)
+    (subst (λ (s : ShapeOf). IsWithinLimits (plan_of s) (history_of s)) same c.plan-within.ensures.sound) c.prefix-good.ensures.good
     (at-number memo c.args.from c.in-Some.before c.args.choice.now at c.in-Some.is c.requires) c.in-Some-after.ensures
 
 pub number-requires-2 : goal.number-requires-2
@@ -26,8 +26,8 @@ number-requires-2 g c =
     let memo = c.args.self.now in
     let at = c.args.cursor.now in
     let same : c.self.inside.shape.now ≡ at.shape = ap (λ (m : MemoOf _). m.shape) c.self.view_is ∙ c.requires.shape in
-    step-leads memo c.in-Some.before c.args.choice.now at (subst (λ (s : ShapeOf). IsWellFormed (history_of s)) same c.history.ensures.sound)
-    (subst (λ (s : ShapeOf). IsWithinLimits (plan_of s) (history_of s)) same c.plan.ensures.sound) c.prefix.ensures.good
+    step-leads memo c.in-Some.before c.args.choice.now at (subst (λ (s : ShapeOf). IsWellFormed (history_of s)) same c.history-sound.ensures.sound)
+    (subst (λ (s : ShapeOf). IsWithinLimits (plan_of s) (history_of s)) same c.plan-within.ensures.sound) c.prefix-good.ensures.good
     (at-number memo c.args.from c.in-Some.before c.args.choice.now at c.in-Some.is c.requires) (rw c.in_default-after.is at c.after.ensures)
 
 pub remember_lead-requires : goal.remember_lead-requires
@@ -35,6 +35,6 @@ remember_lead-requires g c =
     let memo = c.args.self.now in
     let at = c.args.cursor.now in
     let same : c.self.inside.shape.now ≡ at.shape = ap (λ (m : MemoOf _). m.shape) c.self.view_is ∙ c.requires.shape in
-    step-lead memo c.number-2.new.self c.in-Some.before c.in_ok-to.to c.args.choice.now at (subst (λ (s : ShapeOf). IsWellFormed (history_of s)) same c.history.ensures.sound)
-    (subst (λ (s : ShapeOf). IsWithinLimits (plan_of s) (history_of s)) same c.plan.ensures.sound) c.prefix.ensures.good
+    step-lead memo c.number-2.new.self c.in-Some.before c.in_ok-to.to c.args.choice.now at (subst (λ (s : ShapeOf). IsWellFormed (history_of s)) same c.history-sound.ensures.sound)
+    (subst (λ (s : ShapeOf). IsWithinLimits (plan_of s) (history_of s)) same c.plan-within.ensures.sound) c.prefix-good.ensures.good
     (at-number memo c.args.from c.in-Some.before c.args.choice.now at c.in-Some.is c.requires) (rw c.in_default-after.is at c.after.ensures) c.in_ok-to.ensures.grown c.in_ok-to.ensures.named

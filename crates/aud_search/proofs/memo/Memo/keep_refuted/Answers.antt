@@ -16,7 +16,7 @@ invariant_of-self-in-Ok g c =
       true-entry _ _ _ _ _ _ _ i.leads.items entry c.args.note
           (subst (λ n. IsKeptAs (map (entry_of n) i.spots) (map (entry_of n) c.keep.new.self) entry true) (rows-placed i.shape.now placed at same c.placed-placed.ensures) (rw c.if-keep.true at c.keep.ensures))
           (c.in-Ok.ensures.items ∙ ap (λ l. l ++ c.args.note ∷ []) c.reserve.ensures.items)
-          (dead-here _ _ _ placed c.args.states at same c.prefix.ensures.good c.requires.refuted c.placed-placed.ensures
+          (dead-here _ _ _ placed c.args.states at same c.prefix-good.ensures.good c.requires.refuted c.placed-placed.ensures
           (subst (λ (m : MemoOf _). Names m.states (Some c.args.states) (states_reached at.shape at.path)) (sym c.self.view_is) c.requires.named) noted) c.self.invariant.0,
       c.self.invariant.1,
     )

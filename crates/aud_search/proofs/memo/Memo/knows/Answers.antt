@@ -21,8 +21,8 @@ returns-clause-refuted g c =
     let there = subst (λ m. slice_get (map (entry_of m) i.spots) c.in-Some-find.place ≡ Some entry) (rows-placed i.shape.now placed at same c.placed.ensures) c.in-Some-find.ensures in
     let named = rw c.in-Some.is at c.requires.named in
     note-of _ _ _ _ _ _ c.in-Some-find.place entry _ (λ _. Refuted (objects_of at.shape) (history_of at.shape) at.path) c.self.invariant.0 there (c.note_at.ensures ∙ ap (λ l. slice_get l c.in-Some-find.place) c.deref.ensures.value)
-    (λ note dead. dead-refuted i.shape.now _ _ placed n at same (subst (λ (s : ShapeOf). IsWellFormed (history_of s)) same c.history.ensures.sound)
-    (subst (λ (s : ShapeOf). IsWithinLimits (plan_of s) (history_of s)) same c.plan.ensures.sound) c.prefix.ensures.good c.placed.ensures
+    (λ note dead. dead-refuted i.shape.now _ _ placed n at same (subst (λ (s : ShapeOf). IsWellFormed (history_of s)) same c.history-sound.ensures.sound)
+    (subst (λ (s : ShapeOf). IsWithinLimits (plan_of s) (history_of s)) same c.plan-within.ensures.sound) c.prefix-good.ensures.good c.placed.ensures
     (subst (λ (m : MemoOf _). Names m.states (Some n) (states_reached at.shape at.path)) (sym c.self.view_is) named) dead)
 
 pub returns-clause-alike : goal.returns-clause-alike

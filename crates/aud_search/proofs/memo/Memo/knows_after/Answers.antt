@@ -24,8 +24,8 @@ returns-clause-refuted g c =
     let there = subst (λ m. slice_get (map (entry_of m) i.spots) c.in-Some-find.place ≡ Some entry) (rows-placed i.shape.now placed at same c.placed.ensures) c.in-Some-find.ensures in
     note-of _ _ _ _ _ _ c.in-Some-find.place entry _ (λ _. Refuted (objects_of at.shape) (history_of at.shape) (at.path ++ c.args.choice.now.decision ∷ [])) c.self.invariant.0 there
     (c.note_at.ensures ∙ ap (λ l. slice_get l c.in-Some-find.place) c.deref.ensures.value)
-    (λ note dead. known-after c.args.self.now _ c.in-Some.before c.in-Some-after.after c.args.choice.now at placed (subst (λ (s : ShapeOf). IsWellFormed (history_of s)) same c.history.ensures.sound)
-    (subst (λ (s : ShapeOf). IsWithinLimits (plan_of s) (history_of s)) same c.plan.ensures.sound) c.prefix.ensures.good
+    (λ note dead. known-after c.args.self.now _ c.in-Some.before c.in-Some-after.after c.args.choice.now at placed (subst (λ (s : ShapeOf). IsWellFormed (history_of s)) same c.history-sound.ensures.sound)
+    (subst (λ (s : ShapeOf). IsWithinLimits (plan_of s) (history_of s)) same c.plan-within.ensures.sound) c.prefix-good.ensures.good
     (subst (λ (o : Option ℕ). IsNext c.args.self.now o c.args.choice.now at) c.in-Some.is c.requires) c.placed.ensures c.in-Some-after.ensures
     (subst (λ (m : MemoOf _). IsDead m.shape m.states (g.R.Recorder.noted i.recorder note) entry) c.self.view_is dead))
 
@@ -39,7 +39,7 @@ returns-clause-alike g c =
     let there = subst (λ m. slice_get (map (entry_of m) i.spots) c.in-Some-find.place ≡ Some entry) (rows-placed i.shape.now placed at same c.placed.ensures) c.in-Some-find.ensures in
     note-of _ _ _ _ _ _ c.in-Some-find.place entry _ (λ note. IsGoodAt at c.args.choice.now.decision → IsNotedAlike at.shape (g.R.Recorder.noted c.args.self.now.recorder note) (at.path ++ c.args.choice.now.decision ∷ [])) c.self.invariant.0 there
     (c.note_at.ensures ∙ ap (λ l. slice_get l c.in-Some-find.place) c.deref.ensures.value)
-    (λ note dead. alike-after c.args.self.now _ c.in-Some.before c.in-Some-after.after c.args.choice.now at placed (subst (λ (s : ShapeOf). IsWellFormed (history_of s)) same c.history.ensures.sound)
-    (subst (λ (s : ShapeOf). IsWithinLimits (plan_of s) (history_of s)) same c.plan.ensures.sound) c.prefix.ensures.good
+    (λ note dead. alike-after c.args.self.now _ c.in-Some.before c.in-Some-after.after c.args.choice.now at placed (subst (λ (s : ShapeOf). IsWellFormed (history_of s)) same c.history-sound.ensures.sound)
+    (subst (λ (s : ShapeOf). IsWithinLimits (plan_of s) (history_of s)) same c.plan-within.ensures.sound) c.prefix-good.ensures.good
     (subst (λ (o : Option ℕ). IsNext c.args.self.now o c.args.choice.now at) c.in-Some.is c.requires) c.placed.ensures c.in-Some-after.ensures
     (subst (λ (m : MemoOf _). IsDead m.shape m.states (g.R.Recorder.noted m.recorder note) entry) c.self.view_is dead))

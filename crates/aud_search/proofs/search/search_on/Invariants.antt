@@ -7,7 +7,7 @@ use Rattle.aud_search.specs.Recorders.{HasNote}
 use Rattle.aud_search.specs.Tried.{Spends}
 use Rattle.aud_search.proofs.Recording.{IsHeard, AreOpen}
 use Rattle.aud_search.proofs.Steps.{weight, next_of, states_of}
-use Rattle.aud_search.proofs.search.search_from.Given as goal
+use Rattle.aud_search.proofs.search.search_on.Given as goal
 
 abbrev pub invariant-search : goal.invariant-search
 invariant-search g l = record {
