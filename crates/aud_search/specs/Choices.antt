@@ -33,6 +33,10 @@ choices_from n (r ∷ rs) = both_choices n r ++ choices_from (suc n) rs
 abbrev pub AreMarked : History → List Choice → Type 0
 AreMarked h cs = (c : Choice) → Contains cs c → c.effect ≡ Silent → silent_fate h c.decision.tx ≡ Some c.decision.fate
 
+-- the new choices are marked rightly if the old ones are
+abbrev pub StayMarked : History → List Choice → List Choice → Type 0
+StayMarked h old new = AreMarked h old → AreMarked h new
+
 -- what came to some choices is of T, and marked as silent only with the silent fate of T
 abbrev pub AreMarkedFrom : List Choice → List Choice → ℕ → Option Fate → Type 0
 AreMarkedFrom old new t silent = (c : Choice) → Contains new c → Contains old c ⊎ (c.effect ≡ Silent → (silent ≡ Some c.decision.fate) × (c.decision.tx ≡ t))

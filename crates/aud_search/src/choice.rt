@@ -2,7 +2,7 @@
 
 ghost use Rattle.std.specs.Prelude.{◌≡◌, ◌++◌, map, Some, IfOk, OnOk};
 ghost use Rattle.aud_order.specs.Shapes.{history_of};
-ghost use Rattle.aud_search.specs.Choices.{AreChoices, AreMarked, AreMarkedFrom, key_of, row_choices, both_choices, choices_from};
+ghost use Rattle.aud_search.specs.Choices.{AreChoices, AreMarked, AreMarkedFrom, StayMarked, key_of, row_choices, both_choices, choices_from};
 
 use aud_event::OutOfMemory;
 use aud_history::TxRow;
@@ -83,7 +83,7 @@ fn add_row<A: Allocator + Copy>(
     row: &TxRow<A>,
 ) -> Result<(), OutOfMemory>
     ensures added { OnOk result (map key_of choices.new.items ≡ map key_of choices.old.items ++ both_choices place row.now) }
-    ensures marked { OnOk result (AreMarked (history_of shape.now) choices.old.items → AreMarked (history_of shape.now) choices.new.items) }
+    ensures marked { OnOk result (StayMarked (history_of shape.now) choices.old.items choices.new.items) }
 {
     let silent = shape.silent(row.tx());
     add_choice(choices, place, row, silent, Fate::C)?;
