@@ -6,7 +6,7 @@ use Rattle.std.specs.Ordering.{eq_by_cmp}
 use Rattle.std.specs.BTreeSet.{contains, Updates}
 use Rattle.std.proofs.Common.{BTreeSet, sym, ◌∙◌, ap, inl, inr, cond}
 use Rattle.std.proofs.lemmas.Cmp.{eq_by_cmp_equiv}
-use Rattle.std.proofs.lemmas.Map.Views.{btree_set_contains_iff, reports_apart}
+use Rattle.std.proofs.lemmas.Map.Views.{btree_set_contains_iff, tells_apart}
 use Rattle.aud_event.proofs.Bools.{split}
 use Rattle.aud_witness.specs.declared.decision.Decision.{Decision}
 use Rattle.aud_witness.specs.DecisionOrder.{decision_cmp, decisions_total, prefix_exact}
@@ -18,7 +18,7 @@ pub member-added : (s n : BTreeSet (List Decision)) (k p : List Decision) → Up
 member-added s n k p updates =
     elim (split (eq_by_cmp (slice_cmp decision_cmp) k p)) [
       | inl is ↦
-          let same : k ≡ p = reports_apart prefix_exact k p is in
+          let same : k ≡ p = tells_apart prefix_exact k p is in
           let now : contains (slice_cmp decision_cmp) n p ≡ true = updates.0 p ∙ ap (λ b. cond b true (contains (slice_cmp decision_cmp) s p)) is in
           ((λ there. inr (sym same)), λ there. (has-member n p).0 now)
       | inr off ↦
