@@ -7,4 +7,4 @@ use Rattle.aud_search.proofs.search.search_at_root.Goals as goal
 pub returns-then-full : goal.returns-then-full
 returns-then-full g c =
     (whole-witness c.args.shape.now c.args.cursor.now [] c.in_ok-witness.witness c.requires.root c.prefix-good.ensures.good (c.full.ensures.0 c.if-full.true)
-    (c.in_ok-witness.ensures ∙ c.prefix-then-full.ensures.prefix ∙ ap (λ (v : CursorOf). v.path) c.requires.root)).1
+    (c.in_ok-witness.ensures ∙ c.prefix.ensures.prefix ∙ ap (λ (v : CursorOf). v.path) c.requires.root)).1

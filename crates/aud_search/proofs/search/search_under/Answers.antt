@@ -11,7 +11,7 @@ pub returns-then-full-clause-reported : goal.returns-then-full-clause-reported
 returns-then-full-clause-reported g c =
     let at = c.args.cursor.now in
     let own : at ≡ cursor_at c.args.shape.now at.path = λ i. cursor_at (c.requires.shape i) at.path in
-    whole-witness c.args.shape.now at at.path c.in_ok-witness.witness own c.prefix-good.ensures.good (c.full.ensures.0 c.if-full.true) (c.in_ok-witness.ensures ∙ c.prefix-then-full.ensures.prefix)
+    whole-witness c.args.shape.now at at.path c.in_ok-witness.witness own c.prefix-good.ensures.good (c.full.ensures.0 c.if-full.true) (c.in_ok-witness.ensures ∙ c.prefix.ensures.prefix)
 
 pub returns-in_default-clause-reported : goal.returns-in_default-clause-reported
 returns-in_default-clause-reported g c =
