@@ -1,8 +1,8 @@
 //! Sets of facts: the worked inputs in every rotation of their lines, and each growth refused in turn.
 
 use crate::fixtures::{
-    Case, READ, READS, Trial, WRITES, WRITTEN, each_holds, end, holds, is_refused, record,
-    refuse_each, register_plan,
+    Growths, READ, READS, Trial, Tried, WRITES, WRITTEN, each_is_right, end, record, register_plan,
+    unless_refused,
 };
 use aud_event::{Dup, Event, Fact, Op, OutOfMemory, Plan};
 use aud_facts::laws::{
@@ -10,8 +10,7 @@ use aud_facts::laws::{
     sealed_is_all, sealed_is_full,
 };
 use aud_facts::{FactStatus, Facts, Kind, all_fit};
-use std::alloc::{Allocator, Global};
-use std::process::Abort;
+use std::alloc::Allocator;
 use std::sync::Arc;
 
 /// One log: T1 writes 1 and commits, and T2 reads it and commits.
@@ -99,42 +98,300 @@ fn rotated<A: Allocator + Copy>(
     Ok(all)
 }
 
-/// Whether the facts have the status and are those of another set, and can be sealed just where the status says so.
-fn is_as_told(all: &Facts, first: &Facts, status: FactStatus) -> Result<bool, OutOfMemory> {
-    let is_sealed = all.seal()?.is_some();
-    Ok(all.status() == status && all.same(first) && is_sealed == (status == FactStatus::Sealed))
+/// Whether the facts have the status, and are sealed, with these events, just where it says so.
+fn is_as_told<A: Allocator + Copy>(
+    facts: &Facts<A>,
+    status: FactStatus,
+    events: &[(u32, Event)],
+) -> Result<bool, OutOfMemory> {
+    let is_sealed = status == FactStatus::Sealed;
+    let is_right = match facts.seal()? {
+        Some(sealed) => {
+            let history = sealed.history();
+            let is_of_plan = history.plan().same(facts.plan());
+            is_sealed && is_of_plan && history.events() == events && sealed.facts().same(facts)
+        }
+        None => !is_sealed,
+    };
+    Ok(is_right && facts.status() == status)
 }
 
-/// Facts of a plan of so many logs, and their status in every rotation of their lines.
-#[derive(Drop)]
-struct Always<'a>(u32, &'a [Fact], FactStatus);
+/// Facts of a plan of so many logs, their status, and their events where they are sealed.
+#[derive(Clone, Copy)]
+struct Told<'a> {
+    logs: u32,
+    lines: &'a [Fact],
+    status: FactStatus,
+    events: &'static [(u32, Event)],
+}
 
-impl<'a> Case for Always<'a> {
-    fn holds(&self, alloc: Global) -> Result<bool, OutOfMemory> {
-        let first = rotated(alloc, self.0, self.1, 0)?;
-        for from in 0..self.1.len() {
-            let all = rotated(alloc, self.0, self.1, from)?;
-            if !is_as_told(&all, &first, self.2)? {
-                return Ok(false);
-            }
+/// Whether that is told of the lines in every rotation, and each makes the same set.
+fn is_always_told<A: Allocator + Copy>(alloc: A, told: &Told) -> Result<bool, OutOfMemory> {
+    let first = rotated(alloc, told.logs, told.lines, 0)?;
+    for from in 0..told.lines.len() {
+        let all = rotated(alloc, told.logs, told.lines, from)?;
+        if !all.same(&first) || !is_as_told(&all, told.status, told.events)? {
+            return Ok(false);
         }
-        Ok(true)
     }
+    is_as_told(&first, told.status, told.events)
+}
+
+/// The lines with a fact put in so often before a place.
+fn with_fact<A: Allocator + Copy>(
+    alloc: A,
+    lines: &[Fact],
+    place: usize,
+    fact: Fact,
+    times: usize,
+) -> Result<Vec<Fact, A>, OutOfMemory> {
+    let mut all = Vec::from_slice(alloc, lines)?;
+    for _ in 0..times {
+        let place = place.min(all.len());
+        all.insert(place, fact)?;
+    }
+    Ok(all)
+}
+
+/// Whether the fact, put in the run in one log before a place, makes that conflict there in every rotation.
+fn clashes<A: Allocator + Copy>(
+    alloc: A,
+    place: usize,
+    fact: Fact,
+    status: FactStatus,
+) -> Result<bool, OutOfMemory> {
+    let lines = with_fact(alloc, &one_log(), place, fact, 1)?;
+    let told = Told {
+        logs: 1,
+        lines: &lines,
+        status,
+        events: &[],
+    };
+    is_always_told(alloc, &told)
+}
+
+/// Whether the run in two logs is sealed once the late record comes so often at the place.
+fn is_sealed_with<A: Allocator + Copy>(
+    alloc: A,
+    place: usize,
+    times: usize,
+) -> Result<bool, OutOfMemory> {
+    let lines = with_fact(alloc, &two_logs(), place, late(), times)?;
+    let facts = rotated(alloc, 2, &lines, 0)?;
+    is_as_told(&facts, FactStatus::Sealed, &WORKED)
+}
+
+/// Whether it is sealed once that record comes there, and when it comes again and again.
+fn is_sealed_late<A: Allocator + Copy>(alloc: A, place: usize) -> Result<bool, OutOfMemory> {
+    for times in 1..6usize {
+        if !is_sealed_with(alloc, place, times)? {
+            return Ok(false);
+        }
+    }
+    Ok(true)
+}
+
+/// Whether the set has these lines and no others.
+fn has_just<A: Allocator + Copy>(facts: &Facts<A>, lines: &[Fact]) -> bool {
+    let set = facts.set();
+    for line in lines {
+        if !set.contains(line) {
+            return false;
+        }
+    }
+    set.len() == lines.len()
+}
+
+/// Puts in the last line. A refused insert leaves the first eight, and the next one is not refused.
+fn inserts<A: Allocator + Copy>(facts: &mut Facts<A>) -> Result<bool, OutOfMemory> {
+    let is_refused = put(facts, &end(0, 8)).is_err();
+    let is_left = !is_refused || has_just(facts, &one_log()[..8]) && put(facts, &end(0, 8)).is_ok();
+    unless_refused(is_refused, is_left && has_just(facts, &one_log()))
+}
+
+/// Joins the first five lines and the last five. A refused join leaves the first five, and the next one is not refused.
+fn joins<A: Allocator + Copy>(facts: &mut Facts<A>, other: &Facts<A>) -> Result<bool, OutOfMemory> {
+    let is_refused = join(facts, other).is_err();
+    let is_left = !is_refused || has_just(facts, &one_log()[..5]) && join(facts, other).is_ok();
+    unless_refused(is_refused, is_left && has_just(facts, &one_log()))
+}
+
+/// Seals the worked run. A refused seal leaves the set, and the next one is not refused.
+fn seals<A: Allocator + Copy>(facts: &Facts<A>) -> Result<bool, OutOfMemory> {
+    let told = is_as_told(facts, FactStatus::Sealed, &WORKED);
+    let is_left = told.is_ok()
+        || has_just(facts, &one_log())
+            && is_as_told(facts, FactStatus::Sealed, &WORKED) == Ok(true);
+    if is_left { told } else { Ok(false) }
+}
+
+/// Whether the lines of the worked run, one of them twice, make it at once.
+fn bulk_is_whole<A: Allocator + Copy>(
+    alloc: A,
+    plan: Arc<Plan<A>, A>,
+) -> Result<bool, OutOfMemory> {
+    let lines = with_fact(alloc, &one_log(), 9, end(0, 8), 1)?;
+    if all_fit(&plan, &lines) {
+        let facts = Facts::from_vec(alloc, plan, lines)?;
+        Ok(has_just(&facts, &one_log()))
+    } else {
+        Ok(false)
+    }
+}
+
+/// Joins each of two sets that wait for log 1 and for log 0 to the other: whether both are then the whole, which waits.
+fn both_join<A: Allocator + Copy>(
+    left: &mut Facts<A>,
+    right: &mut Facts<A>,
+) -> Result<bool, OutOfMemory> {
+    let older = left.dup()?;
+    let before = [left.status(), right.status()];
+    join(left, right)?;
+    join(right, &older)?;
+    let waits = [before[0], before[1], left.status()]
+        == [
+            FactStatus::Waiting(1),
+            FactStatus::Waiting(0),
+            FactStatus::Waiting(1),
+        ];
+    Ok(waits && left.same(right) && !left.same(&older) && left.set().len() == 9)
+}
+
+/// Puts facts in, each with the status that it leaves.
+fn grows_by<A: Allocator + Copy>(
+    facts: &mut Facts<A>,
+    cases: &[(Fact, FactStatus)],
+) -> Result<bool, OutOfMemory> {
+    for (fact, status) in cases {
+        put(facts, fact)?;
+        if facts.status() != *status {
+            return Ok(false);
+        }
+    }
+    Ok(true)
+}
+
+/// Whether the run in two logs is sealed by the late record, and conflicts with another one in its place.
+fn conflicts_late<A: Allocator + Copy>(facts: &mut Facts<A>) -> Result<bool, OutOfMemory> {
+    let clash = FactStatus::Conflict(Kind::TwoRecords, 1, 1);
+    grows_by(
+        facts,
+        &[
+            (late(), FactStatus::Sealed),
+            (late(), FactStatus::Sealed),
+            (record(1, 1, 5, 2, READS), clash),
+        ],
+    )
+}
+
+/// Whether sets of two plans are not the same.
+fn are_apart<A: Allocator + Copy>(one: &Facts<A>, two: &Facts<A>) -> Result<bool, OutOfMemory> {
+    let is_copied = one.same(&one.dup()?);
+    let fit = [
+        all_fit(two.plan(), &[end(1, 0)]),
+        all_fit(one.plan(), &[end(0, 0), end(1, 0)]),
+    ];
+    Ok(is_copied && !one.same(two) && fit == [true, false])
+}
+
+/// What is tried of the facts of a run.
+#[derive(Clone, Copy)]
+enum OfFacts<'a> {
+    /// What is told of facts in every rotation.
+    Always(Told<'a>),
+    /// A place in the run in one log, a fact that is put in there, and the conflict that this makes.
+    Clash(usize, Fact, FactStatus),
+    /// A place at which the late record comes.
+    Late(usize),
+    Inserts,
+    Joins,
+    Seals,
+    Bulk,
+    BothJoin,
+    ConflictsLate,
+    AreApart,
+}
+
+/// What comes of the set of the run's facts, in one log, or in two.
+fn one_set<A: Allocator + Copy>(alloc: A, is_in_one: bool) -> Tried {
+    let (logs, lines) = if is_in_one {
+        (1, one_log())
+    } else {
+        (2, two_logs())
+    };
+    let mut facts = rotated(alloc, logs, &lines, 3)?;
+    Ok(if is_in_one {
+        seals(&facts)
+    } else {
+        conflicts_late(&mut facts)
+    })
+}
+
+/// What comes of two sets: halves of the run in two logs, empty sets of two plans, or halves of the run in one log, which
+/// share a line.
+fn two_sets<A: Allocator + Copy>(alloc: A, tried: OfFacts) -> Tried {
+    let (one, two) = (one_log(), two_logs());
+    let (logs, left, others, right) = match tried {
+        OfFacts::BothJoin => (2, &two[..5], 2, &two[5..]),
+        OfFacts::AreApart => (1, &one[..0], 2, &one[..0]),
+        _ => (1, &one[..5], 1, &one[4..]),
+    };
+    let mut left = rotated(alloc, logs, left, 0)?;
+    let mut right = rotated(alloc, others, right, 1)?;
+    Ok(match tried {
+        OfFacts::BothJoin => both_join(&mut left, &mut right),
+        OfFacts::AreApart => are_apart(&left, &right),
+        _ => joins(&mut left, &right),
+    })
+}
+
+impl<'a> Trial for OfFacts<'a> {
+    fn tried<A: Allocator + Copy>(&self, alloc: A, ample: A) -> Tried {
+        match *self {
+            OfFacts::Always(told) => Ok(is_always_told(ample, &told)),
+            OfFacts::Clash(place, fact, status) => Ok(clashes(ample, place, fact, status)),
+            OfFacts::Late(place) => Ok(is_sealed_late(ample, place)),
+            OfFacts::Bulk => Ok(bulk_is_whole(alloc, register_plan(alloc, 1)?)),
+            OfFacts::Inserts => Ok(inserts(&mut rotated(alloc, 1, &one_log()[..8], 0)?)),
+            OfFacts::Seals => one_set(alloc, true),
+            OfFacts::ConflictsLate => one_set(alloc, false),
+            OfFacts::Joins | OfFacts::BothJoin | OfFacts::AreApart => two_sets(alloc, *self),
+        }
+    }
+}
+
+/// What is told of lines that are not sealed.
+fn unsealed(logs: u32, lines: &[Fact], status: FactStatus) -> OfFacts<'_> {
+    OfFacts::Always(Told {
+        logs,
+        lines,
+        status,
+        events: &[],
+    })
+}
+
+/// What is told of lines in one log that are sealed.
+fn sealed<'a>(lines: &'a [Fact], events: &'static [(u32, Event)]) -> OfFacts<'a> {
+    OfFacts::Always(Told {
+        logs: 1,
+        lines,
+        status: FactStatus::Sealed,
+        events,
+    })
 }
 
 #[test]
 fn runs_are_sealed_or_wait_in_every_rotation(rt: HostRuntime) {
-    each_holds(
+    let gap = [record(0, 0, 1, 1, Event::TryC), end(0, 1)];
+    each_is_right(
         &rt,
+        Growths::Met(0),
         &[
-            Always(1, &one_log(), FactStatus::Sealed),
-            Always(1, &[end(0, 0)], FactStatus::Sealed),
-            Always(2, &two_logs(), FactStatus::Waiting(1)),
-            Always(
-                1,
-                &[record(0, 0, 1, 1, Event::TryC), end(0, 1)],
-                FactStatus::Gap(0),
-            ),
+            sealed(&one_log(), &WORKED),
+            sealed(&[end(0, 0)], &[]),
+            unsealed(2, &two_logs(), FactStatus::Waiting(1)),
+            unsealed(1, &gap, FactStatus::Gap(0)),
+            unsealed(64, &[], FactStatus::Waiting(0)),
         ],
     );
 }
@@ -151,114 +408,59 @@ fn clashing_facts_conflict_in_every_rotation(rt: HostRuntime) {
         record(0, 1, 0, 1, Event::Commit),
         end(0, 2),
     ];
-    each_holds(
-        &rt,
-        &[
-            Always(1, &twice, FactStatus::Conflict(Kind::StampTwice, 0, 0)),
-            Always(1, &past, FactStatus::Conflict(Kind::PastCount, 0, 3)),
-            Always(1, &falls, FactStatus::Conflict(Kind::StampOrder, 0, 1)),
-        ],
-    );
-}
-
-/// Puts another fact in before a place, up to the end.
-fn put_in(lines: &mut Vec<Fact>, place: usize, fact: Fact) -> Result<(), OutOfMemory> {
-    let place = place.min(lines.len());
-    lines.insert(place, fact)?;
-    Ok(())
-}
-
-/// A place in the run in one log, the fact that is put in there, and the conflict that this makes at a place of log 0.
-#[derive(Drop)]
-struct Clash(usize, Fact, Kind, u32);
-
-impl Case for Clash {
-    fn holds(&self, alloc: Global) -> Result<bool, OutOfMemory> {
-        let mut lines = one_log().to_vec(alloc)?;
-        put_in(&mut lines, self.0, self.1)?;
-        Always(1, &lines, FactStatus::Conflict(self.2, 0, self.3)).holds(alloc)
-    }
-}
-
-#[test]
-fn a_fact_that_clashes_with_a_run_conflicts_in_every_rotation(rt: HostRuntime) {
     let other = record(0, 0, 0, 1, Event::Inv(0, Op::Write(2)));
-    each_holds(
+    let two_records = FactStatus::Conflict(Kind::TwoRecords, 0, 0);
+    each_is_right(
         &rt,
+        Growths::Met(0),
         &[
-            Clash(0, other, Kind::TwoRecords, 0),
-            Clash(1, other, Kind::TwoRecords, 0),
-            Clash(9, end(0, 9), Kind::TwoCounts, 8),
+            unsealed(1, &twice, FactStatus::Conflict(Kind::StampTwice, 0, 0)),
+            unsealed(1, &past, FactStatus::Conflict(Kind::PastCount, 0, 3)),
+            unsealed(1, &falls, FactStatus::Conflict(Kind::StampOrder, 0, 1)),
+            OfFacts::Clash(0, other, two_records),
+            OfFacts::Clash(1, other, two_records),
+            OfFacts::Clash(9, end(0, 9), FactStatus::Conflict(Kind::TwoCounts, 0, 8)),
         ],
     );
-}
-
-/// Whether the facts are sealed, with the worked history under a plan of so many logs.
-fn is_sealed_whole<A: Allocator + Copy>(facts: &Facts<A>, logs: u32) -> Result<bool, OutOfMemory> {
-    match facts.seal()? {
-        None => Ok(false),
-        Some(sealed) => {
-            let history = sealed.history();
-            let is_worked = history.events() == WORKED.as_slice() && history.plan().logs() == logs;
-            Ok(is_worked && sealed.facts().same(facts))
-        }
-    }
-}
-
-fn seals_from_the_third(alloc: Global) -> Result<bool, OutOfMemory> {
-    is_sealed_whole(&rotated(alloc, 1, &one_log(), 3)?, 1)
-}
-
-#[test]
-fn a_sealed_set_has_its_facts_and_history(rt: HostRuntime) {
-    holds(&rt, seals_from_the_third(rt.alloc()));
-}
-
-fn is_empty_and_waits(alloc: Global) -> Result<bool, OutOfMemory> {
-    let facts = Facts::empty(alloc, register_plan(alloc, 64)?);
-    let is_sealed = facts.seal()?.is_some();
-    let is_empty = facts.plan().logs() == 64 && facts.set().len() == 0;
-    Ok(is_empty && !is_sealed && facts.status() == FactStatus::Waiting(0))
-}
-
-#[test]
-fn an_empty_set_waits(rt: HostRuntime) {
-    holds(&rt, is_empty_and_waits(rt.alloc()));
-}
-
-/// A place at which the late record comes, once and then again and again.
-struct LateAt(usize);
-
-impl Case for LateAt {
-    fn holds(&self, alloc: Global) -> Result<bool, OutOfMemory> {
-        let mut lines = two_logs().to_vec(alloc)?;
-        for count in 10..15usize {
-            put_in(&mut lines, self.0, late())?;
-            let is_sealed = is_sealed_whole(&rotated(alloc, 2, &lines, 0)?, 2)?;
-            if !is_sealed || lines.len() != count {
-                return Ok(false);
-            }
-        }
-        Ok(true)
-    }
 }
 
 #[test]
 fn a_log_waits_for_its_record(rt: HostRuntime) {
-    each_holds(
+    each_is_right(
         &rt,
+        Growths::Met(0),
         &[
-            LateAt(0),
-            LateAt(1),
-            LateAt(2),
-            LateAt(3),
-            LateAt(4),
-            LateAt(5),
-            LateAt(6),
-            LateAt(7),
-            LateAt(8),
-            LateAt(9),
+            OfFacts::Late(0),
+            OfFacts::Late(1),
+            OfFacts::Late(2),
+            OfFacts::Late(3),
+            OfFacts::Late(4),
+            OfFacts::Late(5),
+            OfFacts::Late(6),
+            OfFacts::Late(7),
+            OfFacts::Late(8),
+            OfFacts::Late(9),
         ],
+    );
+}
+
+#[test]
+fn a_refused_call_changes_no_set(rt: HostRuntime) {
+    each_is_right(
+        &rt,
+        Growths::Refused(3),
+        &[OfFacts::Inserts, OfFacts::Joins],
+    );
+    each_is_right(&rt, Growths::Refused(2), &[OfFacts::Seals]);
+    each_is_right(&rt, Growths::Refused(9), &[OfFacts::Bulk]);
+}
+
+#[test]
+fn sets_join_in_any_order_and_a_sealed_one_that_grows_conflicts(rt: HostRuntime) {
+    each_is_right(
+        &rt,
+        Growths::Met(0),
+        &[OfFacts::BothJoin, OfFacts::ConflictsLate, OfFacts::AreApart],
     );
 }
 
@@ -274,207 +476,6 @@ fn kinds_have_their_numbers(rt: HostRuntime) {
     assert!(rt; numbers == [1, 2, 3, 4, 5]);
 }
 
-/// Whether the set has these lines and no others.
-fn has_just<A: Allocator + Copy>(facts: &Facts<A>, lines: &[Fact]) -> bool {
-    let set = facts.set();
-    for line in lines {
-        if !set.contains(line) {
-            return false;
-        }
-    }
-    set.len() == lines.len()
-}
-
-/// Whether a status and a comparison go, which do not allocate.
-fn is_itself<A: Allocator + Copy>(facts: &Facts<A>) -> bool {
-    facts.status();
-    facts.same(facts)
-}
-
-/// Puts in the last line. A refused insert leaves the first eight, and the next one is not refused.
-fn insert_is_refused<A: Allocator + Copy>(rt: &impl Abort, facts: &mut Facts<A>) -> bool {
-    let is_refused = put(facts, &end(0, 8)).is_err();
-    if is_refused {
-        assert!(rt; has_just(facts, &one_log()[..8]) && put(facts, &end(0, 8)).is_ok());
-    }
-    assert!(rt; has_just(facts, &one_log()));
-    is_refused
-}
-
-/// The last line of the worked run, put in after the others.
-struct Inserts;
-
-impl Trial for Inserts {
-    fn is_refused<R: Abort, A: Allocator + Copy>(
-        rt: &R,
-        alloc: A,
-        _ample: A,
-    ) -> Result<bool, OutOfMemory> {
-        let mut facts = rotated(alloc, 1, &one_log()[..8], 0)?;
-        assert!(rt; is_itself(&facts));
-        Ok(insert_is_refused(rt, &mut facts))
-    }
-}
-
-#[test]
-fn a_refused_insert_changes_no_set(rt: HostRuntime) {
-    refuse_each::<HostRuntime, Inserts>(&rt, 3);
-}
-
-/// Joins the first five lines and the last five. A refused join leaves the first five, and the next one is not refused.
-fn join_is_refused<A: Allocator + Copy>(
-    rt: &impl Abort,
-    facts: &mut Facts<A>,
-    other: &Facts<A>,
-) -> bool {
-    let is_refused = join(facts, other).is_err();
-    if is_refused {
-        assert!(rt; has_just(facts, &one_log()[..5]) && join(facts, other).is_ok());
-    }
-    assert!(rt; has_just(facts, &one_log()));
-    is_refused
-}
-
-/// Two halves of the worked run, which share a line.
-struct Joins;
-
-impl Trial for Joins {
-    fn is_refused<R: Abort, A: Allocator + Copy>(
-        rt: &R,
-        alloc: A,
-        _ample: A,
-    ) -> Result<bool, OutOfMemory> {
-        let mut facts = rotated(alloc, 1, &one_log()[..5], 0)?;
-        let other = rotated(alloc, 1, &one_log()[4..], 0)?;
-        assert!(rt; is_itself(&facts));
-        Ok(join_is_refused(rt, &mut facts, &other))
-    }
-}
-
-#[test]
-fn a_refused_join_changes_no_set(rt: HostRuntime) {
-    refuse_each::<HostRuntime, Joins>(&rt, 3);
-}
-
-/// Seals the worked run. A refused seal leaves the set, and the next one is not refused.
-fn seal_is_refused<A: Allocator + Copy>(rt: &impl Abort, facts: &Facts<A>) -> bool {
-    let is_refused = is_refused(rt, is_sealed_whole(facts, 1));
-    if is_refused {
-        assert!(rt; has_just(facts, &one_log()) && is_sealed_whole(facts, 1) == Ok(true));
-    }
-    is_refused
-}
-
-/// The worked run, sealed.
-struct Seals;
-
-impl Trial for Seals {
-    fn is_refused<R: Abort, A: Allocator + Copy>(
-        rt: &R,
-        alloc: A,
-        _ample: A,
-    ) -> Result<bool, OutOfMemory> {
-        let facts = rotated(alloc, 1, &one_log(), 0)?;
-        assert!(rt; is_itself(&facts));
-        Ok(seal_is_refused(rt, &facts))
-    }
-}
-
-#[test]
-fn a_refused_seal_changes_no_set(rt: HostRuntime) {
-    refuse_each::<HostRuntime, Seals>(&rt, 2);
-}
-
-/// The worked run and a line twice, at once: whether it is just the worked run.
-fn bulk_of<A: Allocator + Copy>(
-    alloc: A,
-    plan: Arc<Plan<A>, A>,
-    mut lines: Vec<Fact, A>,
-) -> Result<bool, OutOfMemory> {
-    lines.push(end(0, 8))?;
-    if all_fit(&plan, &lines) {
-        let facts = Facts::from_vec(alloc, plan, lines)?;
-        Ok(has_just(&facts, &one_log()))
-    } else {
-        Ok(false)
-    }
-}
-
-/// A bulk of lines that are there.
-struct Bulks;
-
-impl Trial for Bulks {
-    fn is_refused<R: Abort, A: Allocator + Copy>(
-        rt: &R,
-        alloc: A,
-        _ample: A,
-    ) -> Result<bool, OutOfMemory> {
-        let plan = register_plan(alloc, 1)?;
-        let lines = Vec::from_slice(alloc, &one_log())?;
-        Ok(is_refused(rt, bulk_of(alloc, plan, lines)))
-    }
-}
-
-#[test]
-fn each_growth_of_a_bulk_is_refused_in_turn(rt: HostRuntime) {
-    refuse_each::<HostRuntime, Bulks>(&rt, 9);
-}
-
-/// Joins each of two sets that wait for log 1 and for log 0 to the other: whether both are then the whole, which waits.
-fn both_join(left: &mut Facts, right: &mut Facts) -> Result<bool, OutOfMemory> {
-    let older = left.dup()?;
-    let before = [left.status(), right.status()];
-    join(left, right)?;
-    join(right, &older)?;
-    let waits = [before[0], before[1], left.status()]
-        == [
-            FactStatus::Waiting(1),
-            FactStatus::Waiting(0),
-            FactStatus::Waiting(1),
-        ];
-    Ok(waits && left.same(right) && !left.same(&older) && left.set().len() == 9)
-}
-
-fn halves_join(alloc: Global) -> Result<bool, OutOfMemory> {
-    let mut left = rotated(alloc, 2, &two_logs()[..5], 0)?;
-    let mut right = rotated(alloc, 2, &two_logs()[5..], 1)?;
-    both_join(&mut left, &mut right)
-}
-
-#[test]
-fn sets_join_in_any_order(rt: HostRuntime) {
-    holds(&rt, halves_join(rt.alloc()));
-}
-
-/// Puts facts in, each with the status that it leaves.
-fn grows_by(facts: &mut Facts, cases: &[(Fact, FactStatus)]) -> Result<bool, OutOfMemory> {
-    for (fact, status) in cases {
-        put(facts, fact)?;
-        if facts.status() != *status {
-            return Ok(false);
-        }
-    }
-    Ok(true)
-}
-
-fn sealed_grows(alloc: Global) -> Result<bool, OutOfMemory> {
-    let mut facts = rotated(alloc, 2, &two_logs(), 0)?;
-    let clash = FactStatus::Conflict(Kind::TwoRecords, 1, 1);
-    grows_by(
-        &mut facts,
-        &[
-            (late(), FactStatus::Sealed),
-            (late(), FactStatus::Sealed),
-            (record(1, 1, 5, 2, READS), clash),
-        ],
-    )
-}
-
-#[test]
-fn a_sealed_set_that_grows_conflicts(rt: HostRuntime) {
-    holds(&rt, sealed_grows(rt.alloc()));
-}
-
 #[test]
 fn the_laws_hold(_rt: HostRuntime) {
     sealed_is_full();
@@ -484,24 +485,4 @@ fn the_laws_hold(_rt: HostRuntime) {
     joins_commute();
     joins_associate();
     joins_repeat();
-}
-
-fn are_apart(one: &Facts, two: &Facts) -> Result<bool, OutOfMemory> {
-    let is_copied = one.same(&one.dup()?);
-    let fit = [
-        all_fit(two.plan(), &[end(1, 0)]),
-        all_fit(one.plan(), &[end(0, 0), end(1, 0)]),
-    ];
-    Ok(is_copied && !one.same(two) && fit == [true, false])
-}
-
-fn empty_sets_are_apart(alloc: Global) -> Result<bool, OutOfMemory> {
-    let one = Facts::empty(alloc, register_plan(alloc, 1)?);
-    let two = Facts::empty(alloc, register_plan(alloc, 2)?);
-    are_apart(&one, &two)
-}
-
-#[test]
-fn plans_tell_sets_apart(rt: HostRuntime) {
-    holds(&rt, empty_sets_are_apart(rt.alloc()));
 }

@@ -1,10 +1,11 @@
-//! What the tests of several crates use: plans, events, histories and facts, rows of tables, and growths refused in turn.
+//! What the tests of several crates use: plans, events, histories and facts, and trials whose growths are refused in turn.
 
 use aud_event::{
-    Answer, Dup, EndMark, Event, Fact, Key, ObjDecl, ObjKind, Op, OpName, OutOfMemory, Plan,
-    PlanFault, Record,
+    Answer, EndMark, Event, Fact, ObjDecl, ObjKind, Op, OpName, OutOfMemory, Plan, PlanFault,
+    Record,
 };
 use aud_history::History;
+use aud_object::{Block, Execution, Invocation};
 use aud_refusing::Refusing;
 use std::alloc::{AllocGlobal, Allocator, Global};
 use std::process::Abort;
@@ -72,16 +73,12 @@ pub fn if_fitting<A: Allocator + Copy>(
     Ok(History::checked(plan, Vec::from_slice(alloc, events)?))
 }
 
-/// The history of events, which fit that plan.
+/// The history of events that fit that plan, so that it can fail for memory alone.
 pub fn history_of<A: Allocator + Copy>(
-    rt: &impl Abort,
     alloc: A,
     events: &[(u32, Event)],
 ) -> Result<History<A>, OutOfMemory> {
-    match if_fitting(alloc, events)? {
-        Some(history) => Ok(history),
-        None => panic!(rt; "an event does not fit"),
-    }
+    if_fitting(alloc, events)?.ok_or(OutOfMemory)
 }
 
 pub fn record(log: u32, at: u32, stamp: u32, tx: u32, event: Event) -> Fact {
@@ -98,9 +95,13 @@ pub fn end(log: u32, count: u32) -> Fact {
     Fact::End(EndMark { log, count })
 }
 
-/// Whether a copy ties with its source, at any type that is a key and is copied.
-pub fn copy_ties<K: Key + Dup>(key: &K) -> Result<bool, OutOfMemory> {
-    Ok(key.dup()?.cmp(key).is_eq())
+/// Whether the block has just these executions, and waits for that.
+pub fn is_block<A: Allocator + Copy>(
+    block: &Block<A>,
+    ran: &[Execution],
+    waits: Option<Invocation>,
+) -> bool {
+    block.executions() == ran && block.trailing() == waits
 }
 
 /// Asserts what was found out, for which there was memory.
@@ -108,82 +109,64 @@ pub fn holds(rt: &impl Abort, found: Result<bool, OutOfMemory>) {
     assert_eq!(rt; found, Ok(true));
 }
 
-/// A row of a table of cases.
-pub trait Case {
-    /// Whether what is wanted in the row is what is found.
-    fn holds(&self, alloc: Global) -> Result<bool, OutOfMemory>;
-}
+/// What came of a trial: an `Err` where a growth before it was refused, and else whether it was right, or an `Err` of its own
+/// where it was refused.
+pub type Tried = Result<Result<bool, OutOfMemory>, OutOfMemory>;
 
-/// Asserts each row of a table.
-pub fn each_holds<R: Abort + AllocGlobal, C: Case>(rt: &R, cases: &[C]) {
-    for (at, case) in cases.iter().enumerate() {
-        assert_eq!(rt; case.holds(rt.alloc()), Ok(true), "in row {at}");
-    }
-}
-
-/// A run of which one growth may be refused.
+/// What is tried where one growth may be refused.
 pub trait Trial {
-    /// Whether what is tried was refused, where a growth by `alloc` may be, and none by `ample` is. An `Err` says that a
-    /// growth was refused before that.
-    fn is_refused<R: Abort, A: Allocator + Copy>(
-        rt: &R,
-        alloc: A,
-        ample: A,
-    ) -> Result<bool, OutOfMemory>;
+    /// What comes of it, where a growth by `alloc` may be refused, and none by `ample` is.
+    fn tried<A: Allocator + Copy>(&self, alloc: A, ample: A) -> Tried;
 }
 
-/// Whether a tried run was refused, as it says. One that is not refused has what is wanted.
-pub fn is_refused(rt: &impl Abort, tried: Result<bool, OutOfMemory>) -> bool {
-    match tried {
-        Err(OutOfMemory) => true,
-        Ok(is_wanted) => {
-            assert!(rt; is_wanted);
-            false
-        }
+/// What was wanted, or that memory ran out where that was met.
+pub fn unless_refused(is_refused: bool, is_right: bool) -> Result<bool, OutOfMemory> {
+    if is_refused && is_right {
+        Err(OutOfMemory)
+    } else {
+        Ok(is_right)
     }
 }
 
-/// Tries a run with one growth refused: whether what is tried met the refusal, or nothing where it was met before that.
-/// What met it was refused, if it may not go on.
-fn met<R: Abort + AllocGlobal, T: Trial>(
-    rt: &R,
-    nth: u64,
-    ample: &Refusing<Global>,
-    may_go_on: bool,
-) -> Result<Option<bool>, OutOfMemory> {
-    let alloc = Refusing::new(rt.alloc(), rt.alloc(), nth)?;
-    let tried = T::is_refused(rt, &alloc, ample);
-    let was_met = alloc.was_met();
-    let is_refused = tried.unwrap_or(true);
-    assert!(rt;
-        is_refused == was_met || was_met && may_go_on,
-        "at growth {nth}"
-    );
-    Ok(if tried.is_ok() { Some(was_met) } else { None })
+/// How many runs of a trial meet a refusal, at least, where each growth is refused in turn.
+#[derive(Clone, Copy)]
+pub enum Growths {
+    /// Each of these runs is refused.
+    Refused(u64),
+    /// Each of them is refused, or goes on and is right.
+    Met(u64),
 }
 
-/// How many runs meet a refusal in what is tried. Each growth is refused in turn, up to the first run that meets no refusal.
-fn refusals<R: Abort + AllocGlobal, T: Trial>(rt: &R, may_go_on: bool) -> Result<u64, OutOfMemory> {
-    let ample = Refusing::new(rt.alloc(), rt.alloc(), u64::MAX)?;
-    let mut count = 0u64;
+/// So many runs met a refusal; whether that is enough, and none went on that may not.
+fn are_enough(growths: Growths, refused: u64, passed: u64) -> bool {
+    match growths {
+        Growths::Refused(least) => refused >= least && passed == 0,
+        Growths::Met(least) => refused.wrapping_add(passed) >= least,
+    }
+}
+
+/// Whether each run of the trial is right or is refused, up to the first that meets no refusal, which is right.
+fn is_right<T: Trial>(alloc: Global, trial: &T, growths: Growths) -> Result<bool, OutOfMemory> {
+    let ample = Refusing::new(alloc, alloc, u64::MAX)?;
+    let mut refused = 0u64;
+    let mut passed = 0u64;
     for nth in 0..1000u64 {
-        match met::<R, T>(rt, nth, &ample, may_go_on)? {
-            None => {}
-            Some(true) => count = count.wrapping_add(1),
-            Some(false) => return Ok(count),
+        let refusing = Refusing::new(alloc, alloc, nth)?;
+        match (trial.tried(&refusing, &ample), refusing.was_met()) {
+            (Err(OutOfMemory), true) => {}
+            (Ok(Err(OutOfMemory)), true) => refused = refused.wrapping_add(1),
+            (Ok(Ok(true)), true) => passed = passed.wrapping_add(1),
+            (Ok(Ok(true)), false) => return Ok(are_enough(growths, refused, passed)),
+            _ => return Ok(false),
         }
     }
-    panic!(rt; "each of 1,000 growths was met")
+    Ok(false)
 }
 
-/// Refuses each growth of what is tried in turn. At least so many runs meet a refusal, and each of these is refused.
-pub fn refuse_each<R: Abort + AllocGlobal, T: Trial>(rt: &R, least: u64) {
-    let count = refusals::<R, T>(rt, false);
-    assert!(rt; count.unwrap_or(0) >= least, "{count:?} growths");
-}
-
-/// Refuses each growth of what is tried in turn. At least so many runs meet a refusal, and each of these may go on.
-pub fn refuse_each_or_go_on<R: Abort + AllocGlobal, T: Trial>(rt: &R, least: u64) {
-    let count = refusals::<R, T>(rt, true);
-    assert!(rt; count.unwrap_or(0) >= least, "{count:?} growths");
+/// Asserts that each trial is right, with each of its growths refused in turn.
+pub fn each_is_right<R: Abort + AllocGlobal, T: Trial>(rt: &R, growths: Growths, trials: &[T]) {
+    for (at, trial) in trials.iter().enumerate() {
+        let is_right = is_right(rt.alloc(), trial, growths);
+        assert!(rt; is_right == Ok(true), "in row {at}");
+    }
 }

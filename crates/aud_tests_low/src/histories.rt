@@ -1,86 +1,39 @@
-//! Histories on outside values, their faults and their tables, and each growth of a table refused in turn.
+//! Histories on outside values, their faults and their tables, with each growth refused in turn.
 
 use crate::fixtures::{
-    Case, READ, READS, Trial, WRITES, WRITTEN, each_holds, history_of, holds, if_fitting,
-    is_refused, refuse_each,
+    Growths, READ, READS, Trial, Tried, WRITES, WRITTEN, each_is_right, history_of, if_fitting,
+    is_block,
 };
 use aud_event::{Answer, Event, Op, OutOfMemory};
 use aud_history::{History, Status, TxTable};
 use aud_object::{Execution, Invocation};
-use std::alloc::{Allocator, Global};
-use std::process::Abort;
+use std::alloc::Allocator;
 
-/// Events, and how many there are and the number of `x` in their plan, if they fit it.
-struct Fits(&'static [(u32, Event)], Option<(usize, Option<u16>)>);
+type Events = &'static [(u32, Event)];
 
-impl Case for Fits {
-    fn holds(&self, alloc: Global) -> Result<bool, OutOfMemory> {
-        let found = match if_fitting(alloc, self.0)? {
-            Some(history) => Some((history.events().len(), history.plan().number("x"))),
-            None => None,
-        };
-        Ok(found == self.1)
+/// The stamp and the rule's number of a first fault.
+type Fault = (u32, u32);
+
+/// How many events there are, the number of `x` in their plan, and their first fault.
+fn told<A: Allocator + Copy>(history: &History<A>) -> (usize, Option<u16>, Option<Fault>) {
+    let fault = match history.first_fault() {
+        Some((stamp, rule)) => Some((stamp, rule.number())),
+        None => None,
+    };
+    (history.events().len(), history.plan().number("x"), fault)
+}
+
+/// Whether the events fit the plan of a register `x`, and have that first fault then.
+fn is_told<A: Allocator + Copy>(
+    alloc: A,
+    events: &[(u32, Event)],
+    fits: bool,
+    fault: Option<Fault>,
+) -> Result<bool, OutOfMemory> {
+    match if_fitting(alloc, events)? {
+        Some(history) => Ok(fits && told(&history) == (events.len(), Some(0), fault)),
+        None => Ok(!fits),
     }
-}
-
-#[test]
-fn events_fit_their_plan(rt: HostRuntime) {
-    each_holds(
-        &rt,
-        &[
-            Fits(&[(1023, WRITES), (1023, WRITTEN)], Some((2, Some(0)))),
-            Fits(&[(1024, Event::TryC)], None),
-            Fits(&[(1, Event::Inv(1, Op::Read))], None),
-            Fits(&[(1, Event::Inv(0, Op::Get))], None),
-        ],
-    );
-}
-
-/// Events, and the stamp and the rule's number of their first fault.
-struct Breaks(&'static [(u32, Event)], Option<(u32, u32)>);
-
-impl Case for Breaks {
-    fn holds(&self, alloc: Global) -> Result<bool, OutOfMemory> {
-        let Some(history) = if_fitting(alloc, self.0)? else {
-            return Ok(false);
-        };
-        let found = match history.first_fault() {
-            Some((stamp, rule)) => Some((stamp, rule.number())),
-            None => None,
-        };
-        Ok(found == self.1)
-    }
-}
-
-#[test]
-fn each_rule_is_told_where_it_is_broken(rt: HostRuntime) {
-    each_holds(
-        &rt,
-        &[
-            Breaks(&[], None),
-            Breaks(
-                &[(1, WRITES), (2, READS), (1, Event::Abort), (2, READ)],
-                None,
-            ),
-            Breaks(
-                &[(1, WRITES), (1, Event::Abort), (1, Event::Abort)],
-                Some((2, 1)),
-            ),
-            Breaks(&[(1, WRITES), (1, READS)], Some((1, 2))),
-            Breaks(&[(1, READ)], Some((0, 3))),
-            Breaks(&[(1, WRITES), (1, READ)], Some((1, 4))),
-            Breaks(&[(1, READS), (1, Event::TryC)], Some((1, 5))),
-            Breaks(&[(1, Event::TryA), (1, READS)], Some((1, 6))),
-            Breaks(
-                &[(2, Event::TryC), (1, Event::TryA), (1, Event::Commit)],
-                Some((2, 7)),
-            ),
-            Breaks(
-                &[(1, WRITES), (1, WRITTEN), (1, Event::Abort)],
-                Some((2, 8)),
-            ),
-        ],
-    );
 }
 
 /// T2 invokes a read, T1 writes and commits, T2 is answered, asks to commit and invokes nothing; T3 waits for a read.
@@ -96,20 +49,6 @@ const MIXED: [(u32, Event); 9] = [
     (4, Event::TryA),
 ];
 
-/// The table of a history that has no fault.
-fn table_of<A: Allocator + Copy>(
-    rt: &impl Abort,
-    alloc: A,
-    history: &History<A>,
-) -> Result<TxTable<A>, OutOfMemory> {
-    assert!(rt; history.first_fault().is_none());
-    TxTable::of(alloc, history)
-}
-
-fn table_of_mixed(rt: &impl Abort, alloc: Global) -> Result<TxTable, OutOfMemory> {
-    table_of(rt, alloc, &history_of(rt, alloc, &MIXED)?)
-}
-
 /// Each transaction, its first and its last stamp, and its status.
 const ROWS: [(u32, u32, u32, Status); 4] = [
     (2, 0, 7, Status::CommitPending),
@@ -118,30 +57,25 @@ const ROWS: [(u32, u32, u32, Status); 4] = [
     (4, 8, 8, Status::Live),
 ];
 
-fn has_rows(table: &TxTable) -> bool {
+fn has_rows<A: Allocator + Copy>(table: &TxTable<A>) -> bool {
     for (row, wanted) in table.rows().iter().zip(&ROWS) {
         if (row.tx(), row.first(), row.last(), row.status()) != *wanted {
             return false;
         }
     }
-    table.rows().len() == 4
-}
-
-fn lists_each(rt: &impl Abort, alloc: Global) -> Result<bool, OutOfMemory> {
-    let table = table_of_mixed(rt, alloc)?;
     let places = [table.place(3), table.place(5)];
-    Ok(has_rows(&table) && places == [Some(2), None])
-}
-
-#[test]
-fn a_table_lists_each_transaction(rt: HostRuntime) {
-    holds(&rt, lists_each(&rt, rt.alloc()));
+    table.rows().len() == 4 && places == [Some(2), None]
 }
 
 /// Whether the transaction of a row did just that, and waits for that.
-fn did(table: &TxTable, row: usize, ran: &[Execution], waits: Option<Invocation>) -> bool {
+fn did<A: Allocator + Copy>(
+    table: &TxTable<A>,
+    row: usize,
+    ran: &[Execution],
+    waits: Option<Invocation>,
+) -> bool {
     match table.rows().get(row) {
-        Some(row) => row.block().executions() == ran && row.block().trailing() == waits,
+        Some(row) => is_block(row.block(), ran, waits),
         None => false,
     }
 }
@@ -157,40 +91,74 @@ const WAITS: Invocation = Invocation {
     op: Op::Read,
 };
 
-fn has_what_each_did(rt: &impl Abort, alloc: Global) -> Result<bool, OutOfMemory> {
-    let table = table_of_mixed(rt, alloc)?;
-    Ok(did(&table, 1, &[WRITTEN_ONE], None) && did(&table, 2, &[], Some(WAITS)))
+/// Whether the table of the history lists each transaction and what it did.
+fn lists_each<A: Allocator + Copy>(alloc: A, history: &History<A>) -> Result<bool, OutOfMemory> {
+    if history.first_fault().is_some() {
+        return Ok(false);
+    }
+    let table = TxTable::of(alloc, history)?;
+    let did = did(&table, 1, &[WRITTEN_ONE], None) && did(&table, 2, &[], Some(WAITS));
+    Ok(did && has_rows(&table))
 }
 
-#[test]
-fn a_table_has_what_each_transaction_did(rt: HostRuntime) {
-    holds(&rt, has_what_each_did(&rt, rt.alloc()));
+/// What is tried of events.
+#[derive(Clone, Copy)]
+enum OfEvents {
+    /// Events that fit their plan, and their first fault.
+    Fit(Events, Option<Fault>),
+    /// Events that do not.
+    Misfit(Events),
+    /// The table of a history.
+    Table,
 }
 
-fn has_four_rows<A: Allocator + Copy>(
-    rt: &impl Abort,
-    alloc: A,
-    history: &History<A>,
-) -> Result<bool, OutOfMemory> {
-    Ok(table_of(rt, alloc, history)?.rows().len() == 4)
-}
-
-/// The table of a history.
-struct Tables;
-
-impl Trial for Tables {
-    fn is_refused<R: Abort, A: Allocator + Copy>(
-        rt: &R,
-        alloc: A,
-        _ample: A,
-    ) -> Result<bool, OutOfMemory> {
-        let history = history_of(rt, alloc, &MIXED)?;
-        assert!(rt; history.events().len() == 9);
-        Ok(is_refused(rt, has_four_rows(rt, alloc, &history)))
+impl Trial for OfEvents {
+    fn tried<A: Allocator + Copy>(&self, alloc: A, _ample: A) -> Tried {
+        match *self {
+            OfEvents::Fit(events, fault) => Ok(is_told(alloc, events, true, fault)),
+            OfEvents::Misfit(events) => Ok(is_told(alloc, events, false, None)),
+            OfEvents::Table => Ok(lists_each(alloc, &history_of(alloc, &MIXED)?)),
+        }
     }
 }
 
 #[test]
-fn each_growth_of_a_table_is_refused_in_turn(rt: HostRuntime) {
-    refuse_each::<HostRuntime, Tables>(&rt, 4);
+fn events_fit_their_plan_and_each_rule_is_told_where_it_is_broken(rt: HostRuntime) {
+    each_is_right(
+        &rt,
+        Growths::Met(0),
+        &[
+            OfEvents::Fit(&[(1023, WRITES), (1023, WRITTEN)], None),
+            OfEvents::Misfit(&[(1024, Event::TryC)]),
+            OfEvents::Misfit(&[(1, Event::Inv(1, Op::Read))]),
+            OfEvents::Misfit(&[(1, Event::Inv(0, Op::Get))]),
+            OfEvents::Fit(&[], None),
+            OfEvents::Fit(
+                &[(1, WRITES), (2, READS), (1, Event::Abort), (2, READ)],
+                None,
+            ),
+            OfEvents::Fit(
+                &[(1, WRITES), (1, Event::Abort), (1, Event::Abort)],
+                Some((2, 1)),
+            ),
+            OfEvents::Fit(&[(1, WRITES), (1, READS)], Some((1, 2))),
+            OfEvents::Fit(&[(1, READ)], Some((0, 3))),
+            OfEvents::Fit(&[(1, WRITES), (1, READ)], Some((1, 4))),
+            OfEvents::Fit(&[(1, READS), (1, Event::TryC)], Some((1, 5))),
+            OfEvents::Fit(&[(1, Event::TryA), (1, READS)], Some((1, 6))),
+            OfEvents::Fit(
+                &[(2, Event::TryC), (1, Event::TryA), (1, Event::Commit)],
+                Some((2, 7)),
+            ),
+            OfEvents::Fit(
+                &[(1, WRITES), (1, WRITTEN), (1, Event::Abort)],
+                Some((2, 8)),
+            ),
+        ],
+    );
+}
+
+#[test]
+fn a_table_lists_each_transaction_and_what_it_did(rt: HostRuntime) {
+    each_is_right(&rt, Growths::Refused(4), &[OfEvents::Table]);
 }

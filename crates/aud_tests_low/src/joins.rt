@@ -1,18 +1,18 @@
-//! Sets, covers, least values and pairs at concrete types, and each growth refused in turn.
+//! Sets, covers, least values and pairs at concrete types, with each growth refused in turn.
 
-use crate::fixtures::{Case, Trial, each_holds, end, holds, is_refused, record, refuse_each};
-use aud_event::{Dup, Event, Fact, Key, OutOfMemory};
+use crate::fixtures::{Growths, Trial, Tried, each_is_right, end, holds, record, unless_refused};
+use aud_event::{Dup, Event, Fact, OutOfMemory};
 use aud_lattice::laws::{norm_of_firsts, norm_of_union, norm_with_norm};
 use aud_lattice::{
     Cover, Lattice, Least, Mark, Pair, Rank, Row, Trie, UnionSet, joined, joined_both_ways,
 };
 use std::alloc::{Allocator, Global};
-use std::process::Abort;
 
-pub fn set_of<A: Allocator + Copy>(
-    alloc: A,
-    items: &[u32],
-) -> Result<UnionSet<u32, A>, OutOfMemory> {
+type Items = &'static [u32];
+
+type Lists = &'static [&'static [u32]];
+
+fn set_of<A: Allocator + Copy>(alloc: A, items: &[u32]) -> Result<UnionSet<u32, A>, OutOfMemory> {
     let mut set = UnionSet::empty(alloc);
     for item in items {
         set.insert(*item)?;
@@ -20,10 +20,7 @@ pub fn set_of<A: Allocator + Copy>(
     Ok(set)
 }
 
-pub fn cover_of<A: Allocator + Copy>(
-    alloc: A,
-    lists: &[&[u32]],
-) -> Result<Cover<u32, A>, OutOfMemory> {
+fn cover_of<A: Allocator + Copy>(alloc: A, lists: &[&[u32]]) -> Result<Cover<u32, A>, OutOfMemory> {
     let mut cover = Cover::empty(alloc);
     for list in lists {
         cover.insert(list)?;
@@ -43,7 +40,7 @@ fn least_of<A: Allocator + Copy>(
 }
 
 /// Whether the value is the same as one that was to be made, for which there was memory.
-pub fn is_same<L: Lattice + Dup>(value: &L, made: Result<L, OutOfMemory>) -> bool {
+fn is_same<L: Lattice + Dup>(value: &L, made: Result<L, OutOfMemory>) -> bool {
     match made {
         Ok(other) => value.same(&other),
         Err(OutOfMemory) => false,
@@ -51,9 +48,17 @@ pub fn is_same<L: Lattice + Dup>(value: &L, made: Result<L, OutOfMemory>) -> boo
 }
 
 /// An item, whether it is new, and how many items there are before and after it is put in.
-type Insertion = (u32, bool, usize, usize);
+const INSERTIONS: [(u32, bool, usize, usize); 4] = [
+    (5, true, 0, 1),
+    (2, true, 1, 2),
+    (5, false, 2, 2),
+    (9, true, 2, 3),
+];
 
-fn insert_tells(set: &mut UnionSet<u32>, insertion: &Insertion) -> Result<bool, OutOfMemory> {
+fn insert_tells<A: Allocator + Copy>(
+    set: &mut UnionSet<u32, A>,
+    insertion: &(u32, bool, usize, usize),
+) -> Result<bool, OutOfMemory> {
     let (item, is_new, before, after) = *insertion;
     let older = set.dup()?;
     let told = set.insert(item)?;
@@ -67,40 +72,19 @@ fn insert_tells(set: &mut UnionSet<u32>, insertion: &Insertion) -> Result<bool, 
     Ok(lens == [before, after] && shown == [is_new, !is_new, true, !is_new])
 }
 
-fn each_insert_tells(
-    set: &mut UnionSet<u32>,
-    insertions: &[Insertion],
-) -> Result<bool, OutOfMemory> {
-    for insertion in insertions {
+/// Whether each insertion tells that of an empty set.
+fn inserts_tell<A: Allocator + Copy>(set: &mut UnionSet<u32, A>) -> Result<bool, OutOfMemory> {
+    let is_empty = set.is_empty();
+    for insertion in &INSERTIONS {
         if !insert_tells(set, insertion)? {
             return Ok(false);
         }
     }
-    Ok(!set.contains(&4) && !set.is_empty())
-}
-
-fn inserts_tell(alloc: Global) -> Result<bool, OutOfMemory> {
-    let mut set = UnionSet::empty(alloc);
-    let is_empty = set.is_empty();
-    let tell = each_insert_tells(
-        &mut set,
-        &[
-            (5, true, 0, 1),
-            (2, true, 1, 2),
-            (5, false, 2, 2),
-            (9, true, 2, 3),
-        ],
-    )?;
-    Ok(is_empty && tell)
-}
-
-#[test]
-fn an_insert_tells_whether_the_item_is_new(rt: HostRuntime) {
-    holds(&rt, inserts_tell(rt.alloc()));
+    Ok(is_empty && !set.is_empty() && !set.contains(&4))
 }
 
 /// Whether the set gives just these items, in this order.
-fn gives(set: &UnionSet<u32>, items: &[u32]) -> bool {
+fn gives<A: Allocator + Copy>(set: &UnionSet<u32, A>, items: &[u32]) -> bool {
     let mut count = 0usize;
     for item in set.iter() {
         if items.get(count) != Some(item) {
@@ -111,15 +95,422 @@ fn gives(set: &UnionSet<u32>, items: &[u32]) -> bool {
     count == items.len()
 }
 
-fn has_each_once(alloc: Global) -> Result<bool, OutOfMemory> {
-    let set = set_of(alloc, &[5, 2, 5, 9])?;
-    let at_once = UnionSet::from_vec(alloc, [9, 2, 5, 2, 9].to_vec(alloc)?);
-    Ok(gives(&set, &[2, 5, 9]) && is_same(&set, at_once))
+/// Whether a set of items that come in any order, some of them again, gives each once, the least first, and is the set of all
+/// of them at once.
+fn has_each_once<A: Allocator + Copy>(alloc: A, ample: A) -> Result<bool, OutOfMemory> {
+    let at_once = UnionSet::from_vec(alloc, Vec::from_slice(alloc, &[9, 2, 5, 2, 9])?)?;
+    Ok(gives(&at_once, &[2, 5, 9]) && is_same(&at_once, set_of(ample, &[5, 2, 5, 9])))
+}
+
+/// Whether the set without the items of another has just the others.
+fn set_without<A: Allocator + Copy>(
+    alloc: A,
+    ample: A,
+    (items, other, left): (Items, Items, Items),
+) -> Tried {
+    let set = set_of(alloc, items)?;
+    let other = set_of(ample, other)?;
+    match set.without(&other) {
+        Ok(found) => Ok(Ok(is_same(&found, set_of(ample, left)))),
+        Err(OutOfMemory) => Ok(Err(OutOfMemory)),
+    }
+}
+
+/// Whether the cover without the lists of another has just the others.
+fn cover_without<A: Allocator + Copy>(
+    alloc: A,
+    ample: A,
+    (lists, other, left): (Lists, Lists, Lists),
+) -> Tried {
+    let cover = cover_of(alloc, lists)?;
+    let other = cover_of(ample, other)?;
+    match cover.without(&other) {
+        Ok(found) => {
+            let is_right = is_same(&found, cover_of(ample, left));
+            Ok(Ok(is_right && found.is_empty() == left.is_empty()))
+        }
+        Err(OutOfMemory) => Ok(Err(OutOfMemory)),
+    }
+}
+
+/// Lists, and how each stands to the cover of `1` and `2 2`.
+const MARKS: [(&[u32], Mark); 5] = [
+    (&[1, 3], Mark::Covered),
+    (&[1], Mark::Covered),
+    (&[2], Mark::Inner),
+    (&[], Mark::Inner),
+    (&[3], Mark::Outside),
+];
+
+fn marks_each<A: Allocator + Copy>(cover: &Cover<u32, A>) -> bool {
+    for (list, mark) in &MARKS {
+        if cover.mark(list) != *mark {
+            return false;
+        }
+    }
+    true
+}
+
+/// Whether the trie of that cover leads to its members and to the node between, and nowhere below a member.
+fn leads<A: Allocator + Copy>(trie: &Trie<u32, A>) -> bool {
+    let ends = matches!(trie.node(&[1]), Some(Trie::Member))
+        && matches!(trie.node(&[2, 2]), Some(Trie::Member));
+    let inner = matches!(trie.node(&[2]), Some(Trie::Fork(_)));
+    ends && inner && trie.node(&[1, 2]).is_none() && trie.mark(&[2]) == Mark::Inner
+}
+
+/// Whether these are `1` and `2 2`, in this order.
+fn are_both<A: Allocator + Copy>(lists: &[Row<u32, A>]) -> bool {
+    match lists {
+        [one, other] => {
+            one.as_slice() == [1].as_slice() && other.as_slice() == [2, 2].as_slice()
+        }
+        _ => false,
+    }
+}
+
+/// Whether that cover has its lists, marks others and leads to its nodes.
+fn has_both<A: Allocator + Copy>(cover: &Cover<u32, A>) -> Result<bool, OutOfMemory> {
+    let lists = cover.lists()?;
+    Ok(are_both(&lists) && marks_each(cover) && leads(cover.trie()))
+}
+
+/// The same of a new one, which covers a cover of longer lists and is not covered by it.
+fn cover_stands<A: Allocator + Copy>(alloc: A, ample: A) -> Result<bool, OutOfMemory> {
+    let cover = cover_of(alloc, &[&[1], &[2, 2]])?;
+    let longer = cover_of(ample, &[&[1, 2], &[1, 3]])?;
+    let covers = [
+        cover.same(&longer),
+        cover.covers_all(&longer),
+        longer.covers_all(&cover),
+    ];
+    Ok(covers == [false, true, false] && has_both(&cover)?)
+}
+
+/// A set, a cover and a least list.
+type Parts<A> = Pair<UnionSet<u32, A>, Pair<Cover<u32, A>, Least<Row<u32, A>>>>;
+
+/// The items of a set, the lists of a cover, and the lists of which the least is kept.
+type Shape = (Items, Lists, Lists);
+
+fn parts_of<A: Allocator + Copy>(alloc: A, shape: Shape) -> Result<Parts<A>, OutOfMemory> {
+    let (items, lists, others) = shape;
+    let first = set_of(alloc, items)?;
+    let cover = cover_of(alloc, lists)?;
+    let least = least_of(alloc, others)?;
+    Ok(Pair {
+        first,
+        second: Pair {
+            first: cover,
+            second: least,
+        },
+    })
+}
+
+fn moves_to_threads<T: Send + Sync>(_value: &T) {}
+
+/// Joins another value. A refused join leaves the value as one that was made before it, and goes the next time.
+fn joins<L: Lattice + Dup>(
+    value: &mut L,
+    other: &L,
+    before: Result<L, OutOfMemory>,
+    after: Result<L, OutOfMemory>,
+) -> Result<bool, OutOfMemory> {
+    let is_refused = value.join(other).is_err();
+    let is_left = !is_refused || is_same(value, before) && value.join(other).is_ok();
+    unless_refused(is_refused, is_left && is_same(value, after))
+}
+
+/// Whether a value that another joins is a third.
+fn parts_join<A: Allocator + Copy>(
+    alloc: A,
+    ample: A,
+    (shape, other, both): (Shape, Shape, Shape),
+) -> Tried {
+    let mut parts = parts_of(alloc, shape)?;
+    let other = parts_of(ample, other)?;
+    Ok(joins(
+        &mut parts,
+        &other,
+        parts_of(ample, shape),
+        parts_of(ample, both),
+    ))
+}
+
+fn each_parts<A: Allocator + Copy>(
+    alloc: A,
+    shapes: &[Shape],
+) -> Result<Vec<Parts<A>, A>, OutOfMemory> {
+    let mut all = Vec::new(alloc);
+    for shape in shapes {
+        all.push(parts_of(alloc, *shape)?)?;
+    }
+    Ok(all)
+}
+
+/// Whether both groupings give the same, as does a join of all in turn.
+fn both_ways_agree<L: Lattice + Dup>(
+    values: &[L],
+    all: Result<L, OutOfMemory>,
+) -> Result<bool, OutOfMemory> {
+    if values.is_empty() {
+        return Ok(false);
+    }
+    let (front, halves) = joined_both_ways(values)?;
+    let in_turn = joined(values)?;
+    Ok(front.same(&halves) && in_turn.same(&front) && is_same(&halves, all))
+}
+
+/// Three values, and what they are together.
+const THREE: [Shape; 3] = [
+    (&[4, 7], &[&[4]], &[&[4]]),
+    (&[2, 7], &[&[2]], &[&[2]]),
+    (&[9, 7], &[&[9]], &[&[9]]),
+];
+
+const TOGETHER: Shape = (&[2, 4, 7, 9], &[&[2], &[4], &[9]], &[&[2]]);
+
+fn groups_agree<A: Allocator + Copy>(alloc: A, ample: A) -> Tried {
+    let values = each_parts(alloc, &THREE)?;
+    Ok(both_ways_agree(&values, parts_of(ample, TOGETHER)))
+}
+
+/// Puts an eighth item in a set of seven, which was copied without a growth. A refused insert leaves the set, and goes the
+/// next time.
+fn set_inserts<A: Allocator + Copy>(alloc: A, ample: A) -> Tried {
+    let seven = [1, 2, 3, 4, 5, 6, 7];
+    let mut set = set_of(alloc, &seven)?;
+    let is_copied = set.contains(&3) && is_same(&set, set.dup());
+    let is_refused = set.insert(8).is_err();
+    let is_left = !is_refused || is_same(&set, set_of(ample, &seven)) && set.insert(8) == Ok(true);
+    Ok(unless_refused(is_refused, is_copied && is_left && set.contains(&8)))
+}
+
+/// The lists of a cover, one that is put in, and the lists then.
+type Insertion = (Lists, Items, Lists);
+
+/// Puts the list in. A refused insert leaves the cover, and goes the next time.
+fn inserts<A: Allocator + Copy>(
+    ample: A,
+    cover: &mut Cover<u32, A>,
+    (before, list, after): Insertion,
+) -> Result<bool, OutOfMemory> {
+    let is_refused = cover.insert(list).is_err();
+    let is_left = !is_refused
+        || is_same(cover, cover_of(ample, before)) && cover.insert(list).is_ok();
+    unless_refused(
+        is_refused,
+        is_left && is_same(cover, cover_of(ample, after)),
+    )
+}
+
+/// Whether the cover is copied and listed.
+fn is_listed<A: Allocator + Copy>(cover: &Cover<u32, A>, len: usize) -> Result<bool, OutOfMemory> {
+    let copy = cover.dup()?;
+    Ok(copy.lists()?.len() == len)
+}
+
+/// The same, and then the cover is copied and listed.
+fn cover_inserts<A: Allocator + Copy>(alloc: A, ample: A, insertion: Insertion) -> Tried {
+    let mut cover = cover_of(alloc, insertion.0)?;
+    match inserts(ample, &mut cover, insertion) {
+        Ok(true) => Ok(is_listed(&cover, insertion.2.len())),
+        told => Ok(told),
+    }
+}
+
+/// The same of a cover that shares its nodes with a copy, which stays.
+fn shared_inserts<A: Allocator + Copy>(alloc: A, ample: A, insertion: Insertion) -> Tried {
+    let mut cover = cover_of(alloc, insertion.0)?;
+    let copy = cover.dup()?;
+    let told = inserts(ample, &mut cover, insertion);
+    if is_same(&copy, cover_of(ample, insertion.0)) {
+        Ok(told)
+    } else {
+        Ok(Ok(false))
+    }
+}
+
+/// Whether a set made at once of thirty numbers, some of them more than once, has ten.
+fn bulk_has_ten<A: Allocator + Copy>(alloc: A) -> Result<bool, OutOfMemory> {
+    let mut items = Vec::new(alloc);
+    for number in 0..30u32 {
+        items.push(number.wrapping_mul(7) % 10)?;
+    }
+    let set = UnionSet::from_vec(alloc, items)?;
+    Ok(set.len() == 10)
+}
+
+/// Records of four logs as they arrive, the last one first, and an end mark twice.
+fn arrivals<A: Allocator + Copy>(alloc: A) -> Result<Vec<Fact, A>, OutOfMemory> {
+    let mut facts = Vec::new(alloc);
+    for number in 0..42u32 {
+        facts.push(if number < 40 {
+            record(number % 4, 9 - number / 4, number, 1, Event::TryC)
+        } else {
+            end(1, 10)
+        })?;
+    }
+    Ok(facts)
+}
+
+/// Whether a set made at once of facts by their ranks is the set of these facts.
+fn ranks_do_not_show<A: Allocator + Copy>(alloc: A, ample: A) -> Result<bool, OutOfMemory> {
+    let ranked = UnionSet::from_ranked(alloc, arrivals(alloc)?)?;
+    let plain = UnionSet::from_vec(ample, arrivals(ample)?);
+    Ok(ranked.len() == 41 && is_same(&ranked, plain))
+}
+
+/// What is tried of sets, covers and values with parts.
+#[derive(Clone, Copy)]
+enum OfLattices {
+    InsertsTell,
+    EachOnce,
+    Bulk,
+    Ranked,
+    SetInserts,
+    CoverStands,
+    GroupsAgree,
+    /// A list is put in a cover.
+    CoverInserts(Insertion),
+    /// A list is put in a cover that shares its nodes with a copy.
+    SharedInserts(Insertion),
+    /// A value, another that joins it, and what they are together.
+    Joins(Shape, Shape, Shape),
+    /// The items of two sets, and those of the first that the second has not.
+    SetWithout(Items, Items, Items),
+    /// The lists of two covers, and those of the first that are not lists of the second.
+    CoverWithout(Lists, Lists, Lists),
+}
+
+impl Trial for OfLattices {
+    fn tried<A: Allocator + Copy>(&self, alloc: A, ample: A) -> Tried {
+        match *self {
+            OfLattices::InsertsTell => Ok(inserts_tell(&mut UnionSet::empty(alloc))),
+            OfLattices::EachOnce => Ok(has_each_once(alloc, ample)),
+            OfLattices::Bulk => Ok(bulk_has_ten(alloc)),
+            OfLattices::Ranked => Ok(ranks_do_not_show(alloc, ample)),
+            OfLattices::SetInserts => set_inserts(alloc, ample),
+            OfLattices::CoverStands => Ok(cover_stands(alloc, ample)),
+            OfLattices::GroupsAgree => groups_agree(alloc, ample),
+            OfLattices::CoverInserts(insertion) => cover_inserts(alloc, ample, insertion),
+            OfLattices::SharedInserts(insertion) => shared_inserts(alloc, ample, insertion),
+            OfLattices::Joins(one, other, both) => parts_join(alloc, ample, (one, other, both)),
+            OfLattices::SetWithout(one, other, left) => {
+                set_without(alloc, ample, (one, other, left))
+            }
+            OfLattices::CoverWithout(one, other, left) => {
+                cover_without(alloc, ample, (one, other, left))
+            }
+        }
+    }
 }
 
 #[test]
-fn a_set_has_each_item_once_least_first(rt: HostRuntime) {
-    holds(&rt, has_each_once(rt.alloc()));
+fn sets_and_covers_tell_what_they_have(rt: HostRuntime) {
+    each_is_right(
+        &rt,
+        Growths::Met(1),
+        &[
+            OfLattices::InsertsTell,
+            OfLattices::EachOnce,
+            OfLattices::CoverStands,
+            OfLattices::GroupsAgree,
+        ],
+    );
+    let empty = Cover::<u32>::empty(rt.alloc());
+    assert!(rt; empty.mark(&[]) == Mark::Outside && Least::<u32>::none().get().is_none());
+}
+
+#[test]
+fn what_another_has_is_left_out(rt: HostRuntime) {
+    each_is_right(
+        &rt,
+        Growths::Refused(0),
+        &[
+            OfLattices::SetWithout(&[1, 2, 3], &[2, 4], &[1, 3]),
+            OfLattices::SetWithout(&[1, 2, 3], &[], &[1, 2, 3]),
+            OfLattices::SetWithout(&[1, 2], &[1, 2, 3], &[]),
+            OfLattices::SetWithout(&[], &[1], &[]),
+            OfLattices::CoverWithout(&[&[1, 2], &[2]], &[&[1], &[2, 2]], &[&[1, 2], &[2]]),
+            OfLattices::CoverWithout(&[&[1, 2], &[2]], &[&[2], &[1, 2]], &[]),
+            OfLattices::CoverWithout(&[&[1]], &[&[]], &[&[1]]),
+            OfLattices::CoverWithout(&[&[]], &[&[1]], &[&[]]),
+            OfLattices::CoverWithout(&[&[]], &[&[]], &[]),
+            OfLattices::CoverWithout(&[], &[&[1]], &[]),
+        ],
+    );
+    each_is_right(
+        &rt,
+        Growths::Refused(2),
+        &[OfLattices::CoverWithout(&[&[1, 2], &[1, 3], &[2]], &[&[1, 2]], &[&[1, 3], &[2]])],
+    );
+    each_is_right(
+        &rt,
+        Growths::Refused(3),
+        &[OfLattices::SetWithout(&[1, 2, 3, 4], &[2], &[1, 3, 4])],
+    );
+}
+
+/// Two values of three parts.
+const ONE: Shape = (&[1, 4, 5, 6], &[&[1, 2, 3], &[8, 8]], &[&[7, 1]]);
+
+const OTHER: Shape = (&[3, 4, 8, 9, 10], &[&[1, 2], &[8, 8]], &[&[5]]);
+
+const BOTH: Shape = (&[1, 3, 4, 5, 6, 8, 9, 10], &[&[1, 2], &[8, 8]], &[&[5]]);
+
+/// The same of smaller ones.
+const SMALL: Shape = (
+    &[1, 4, 6],
+    &[&[1, 2], &[1, 3]],
+    &[&[1, 2], &[1, 1, 7], &[2]],
+);
+
+const SMALLER: Shape = (&[4, 5], &[&[1], &[2, 2]], &[&[1, 1]]);
+
+const SMALL_BOTH: Shape = (&[6, 5, 4, 1], &[&[1], &[2, 2]], &[&[1, 1]]);
+
+#[test]
+fn values_join_and_a_refused_join_changes_no_part(rt: HostRuntime) {
+    each_is_right(
+        &rt,
+        Growths::Refused(8),
+        &[OfLattices::Joins(ONE, OTHER, BOTH)],
+    );
+    each_is_right(
+        &rt,
+        Growths::Refused(1),
+        &[
+            OfLattices::Joins(SMALL, SMALLER, SMALL_BOTH),
+            OfLattices::Joins(SMALLER, SMALL, SMALL_BOTH),
+        ],
+    );
+}
+
+#[test]
+fn a_refused_insert_changes_nothing_and_copies_take_no_memory(rt: HostRuntime) {
+    each_is_right(&rt, Growths::Refused(3), &[OfLattices::SetInserts]);
+    each_is_right(
+        &rt,
+        Growths::Refused(5),
+        &[OfLattices::CoverInserts((&[&[1, 2, 3], &[4]], &[1, 2], &[&[1, 2], &[4]]))],
+    );
+    each_is_right(
+        &rt,
+        Growths::Refused(6),
+        &[OfLattices::SharedInserts((
+            &[&[1, 2, 3], &[1, 2, 4]],
+            &[1, 2, 5, 6],
+            &[&[1, 2, 3], &[1, 2, 4], &[1, 2, 5, 6]],
+        ))],
+    );
+}
+
+#[test]
+fn each_growth_of_a_bulk_is_refused_in_turn(rt: HostRuntime) {
+    each_is_right(&rt, Growths::Refused(10), &[OfLattices::Bulk]);
+    each_is_right(&rt, Growths::Refused(41), &[OfLattices::Ranked]);
+    assert!(rt; end(1, 10).rank() == 262_145);
 }
 
 /// A thousand end marks put in by their counts, rising or falling.
@@ -129,6 +520,7 @@ fn thousand(alloc: Global, is_rising: bool) -> Result<UnionSet<Fact>, OutOfMemor
         let number = if is_rising { number } else { 999 - number };
         set.insert(end(number % 64, number))?;
     }
+    moves_to_threads(&set);
     Ok(set)
 }
 
@@ -151,113 +543,6 @@ fn thousands_agree(alloc: Global) -> Result<bool, OutOfMemory> {
     Ok(lens == [1000; 2] && rising.same(&falling))
 }
 
-#[test]
-fn a_set_of_facts_grows_in_any_order(rt: HostRuntime) {
-    holds(&rt, thousands_agree(rt.alloc()));
-}
-
-fn moves_to_threads<T: Send + Sync>(_value: &T) {}
-
-/// Joins each of two sets to the other: whether both are then the set of these items.
-fn both_join(
-    alloc: Global,
-    left: &mut UnionSet<u32>,
-    right: &mut UnionSet<u32>,
-) -> Result<bool, OutOfMemory> {
-    left.join(right)?;
-    moves_to_threads(left);
-    right.join(left)?;
-    Ok(is_same(left, set_of(alloc, &[6, 5, 4, 1])) && right.same(left))
-}
-
-fn small_sets_join(alloc: Global) -> Result<bool, OutOfMemory> {
-    let mut left = set_of(alloc, &[1, 4, 6])?;
-    let mut right = set_of(alloc, &[4, 5])?;
-    both_join(alloc, &mut left, &mut right)
-}
-
-#[test]
-fn sets_join(rt: HostRuntime) {
-    holds(&rt, small_sets_join(rt.alloc()));
-}
-
-/// The cover before the join.
-fn older_cover(alloc: Global) -> Result<Cover<u32>, OutOfMemory> {
-    cover_of(alloc, &[&[1, 2], &[1, 3]])
-}
-
-fn joined_cover(alloc: Global) -> Result<Cover<u32>, OutOfMemory> {
-    let older = older_cover(alloc)?;
-    let mut cover = older.dup()?;
-    cover.join(&cover_of(alloc, &[&[1], &[2, 2]])?)?;
-    Ok(cover)
-}
-
-/// Whether these are `1` and `2 2`, in this order.
-fn are_joined(lists: &[Row<u32>]) -> bool {
-    match lists {
-        [one, other] => {
-            one.as_slice() == [1].as_slice() && other.as_slice() == [2, 2].as_slice()
-        }
-        _ => false,
-    }
-}
-
-fn cover_joins(alloc: Global) -> Result<bool, OutOfMemory> {
-    let older = older_cover(alloc)?;
-    let cover = joined_cover(alloc)?;
-    let covers = [
-        cover.same(&older),
-        cover.covers_all(&older),
-        older.covers_all(&cover),
-    ];
-    Ok(covers == [false, true, false] && are_joined(&cover.lists()?))
-}
-
-#[test]
-fn covers_join(rt: HostRuntime) {
-    holds(&rt, cover_joins(rt.alloc()));
-}
-
-/// A list, and how it stands to the joined cover.
-struct Marked(&'static [u32], Mark);
-
-impl Case for Marked {
-    fn holds(&self, alloc: Global) -> Result<bool, OutOfMemory> {
-        Ok(joined_cover(alloc)?.mark(self.0) == self.1)
-    }
-}
-
-#[test]
-fn a_cover_marks_lists(rt: HostRuntime) {
-    each_holds(
-        &rt,
-        &[
-            Marked(&[1, 3], Mark::Covered),
-            Marked(&[1], Mark::Covered),
-            Marked(&[2], Mark::Inner),
-            Marked(&[], Mark::Inner),
-            Marked(&[3], Mark::Outside),
-        ],
-    );
-    assert!(rt; Cover::<u32>::empty(rt.alloc()).mark(&[]) == Mark::Outside);
-}
-
-/// Whether the trie of the lists `1` and `2 2` leads to its members and to the node between, and nowhere below a member.
-fn trie_leads(alloc: Global) -> Result<bool, OutOfMemory> {
-    let cover = joined_cover(alloc)?;
-    let trie = cover.trie();
-    let ends = matches!(trie.node(&[1]), Some(Trie::Member))
-        && matches!(trie.node(&[2, 2]), Some(Trie::Member));
-    let inner = matches!(trie.node(&[2]), Some(Trie::Fork(_)));
-    Ok(ends && inner && trie.node(&[1, 2]).is_none() && trie.mark(&[2]) == Mark::Inner)
-}
-
-#[test]
-fn a_trie_leads_to_its_nodes(rt: HostRuntime) {
-    holds(&rt, trie_leads(rt.alloc()));
-}
-
 /// Whether two covers that differ after a long list join.
 fn long_lists_join(alloc: Global) -> Result<bool, OutOfMemory> {
     let mut list = Vec::new(alloc);
@@ -270,7 +555,8 @@ fn long_lists_join(alloc: Global) -> Result<bool, OutOfMemory> {
 }
 
 #[test]
-fn long_lists_are_kept(rt: HostRuntime) {
+fn large_sets_grow_in_any_order_and_long_lists_are_kept(rt: HostRuntime) {
+    holds(&rt, thousands_agree(rt.alloc()));
     holds(&rt, long_lists_join(rt.alloc()));
 }
 
@@ -279,330 +565,4 @@ fn the_laws_hold(_rt: HostRuntime) {
     norm_of_union::<u32>();
     norm_with_norm::<u32>();
     norm_of_firsts::<u32>();
-}
-
-fn is_least(least: &Least<Row<u32>>, list: &[u32]) -> bool {
-    match least.get() {
-        Some(row) => row.as_slice() == list,
-        None => false,
-    }
-}
-
-fn takes_the_least(
-    least: &mut Least<Row<u32>>,
-    other: &Least<Row<u32>>,
-) -> Result<bool, OutOfMemory> {
-    let older = least.dup()?;
-    least.join(other)?;
-    Ok(!least.same(&older) && is_least(least, &[1, 1]))
-}
-
-fn least_stays(alloc: Global) -> Result<bool, OutOfMemory> {
-    let mut least = least_of(alloc, &[&[1, 2], &[1, 1, 7], &[2]])?;
-    let other = least_of(alloc, &[&[1, 1]])?;
-    takes_the_least(&mut least, &other)
-}
-
-#[test]
-fn the_least_list_stays(rt: HostRuntime) {
-    assert!(rt; Least::<u32>::none().get().is_none());
-    holds(&rt, least_stays(rt.alloc()));
-}
-
-/// A set with a least number.
-type Numbers = Pair<UnionSet<u32>, Least<u32>>;
-
-fn pair_of(alloc: Global, number: u32) -> Result<Numbers, OutOfMemory> {
-    let mut second = Least::none();
-    second.put(number);
-    Ok(Pair {
-        first: set_of(alloc, &[number, 7])?,
-        second,
-    })
-}
-
-fn pairs_of(alloc: Global, numbers: &[u32]) -> Result<Vec<Numbers>, OutOfMemory> {
-    let mut values = Vec::new(alloc);
-    for number in numbers {
-        values.push(pair_of(alloc, *number)?)?;
-    }
-    Ok(values)
-}
-
-/// Whether both groupings give the same, which has four items and of which 2 is the least number.
-fn both_ways_agree(values: &[Numbers]) -> Result<bool, OutOfMemory> {
-    if values.is_empty() {
-        return Ok(false);
-    }
-    let (front, halves) = joined_both_ways(values)?;
-    let all = joined(values)?.dup();
-    let is_wanted = front.first.len() == 4 && front.second.get().copied() == Some(2);
-    Ok(is_wanted && front.same(&halves) && is_same(&halves, all))
-}
-
-fn groups_agree(alloc: Global) -> Result<bool, OutOfMemory> {
-    both_ways_agree(&pairs_of(alloc, &[4, 2, 9])?)
-}
-
-#[test]
-fn groupings_agree(rt: HostRuntime) {
-    holds(&rt, groups_agree(rt.alloc()));
-}
-
-/// A set, a cover and a least list.
-type Parts<A> = Pair<UnionSet<u32, A>, Pair<Cover<u32, A>, Least<Row<u32, A>>>>;
-
-fn parts_of<A: Allocator + Copy>(
-    alloc: A,
-    items: &[u32],
-    list: &[u32],
-    least: &[u32],
-) -> Result<Parts<A>, OutOfMemory> {
-    let first = set_of(alloc, items)?;
-    let cover = cover_of(alloc, &[list, &[8, 8]])?;
-    let least = least_of(alloc, &[least])?;
-    Ok(Pair {
-        first,
-        second: Pair {
-            first: cover,
-            second: least,
-        },
-    })
-}
-
-fn one_of<A: Allocator + Copy>(alloc: A) -> Result<Parts<A>, OutOfMemory> {
-    parts_of(alloc, &[1, 4, 5, 6], &[1, 2, 3], &[7, 1])
-}
-
-fn other_of<A: Allocator + Copy>(alloc: A) -> Result<Parts<A>, OutOfMemory> {
-    parts_of(alloc, &[3, 4, 8, 9, 10], &[1, 2], &[5])
-}
-
-fn both_of<A: Allocator + Copy>(alloc: A) -> Result<Parts<A>, OutOfMemory> {
-    parts_of(alloc, &[1, 3, 4, 5, 6, 8, 9, 10], &[1, 2], &[5])
-}
-
-/// Joins another value. A refused join leaves the value as one that was made before it, and goes the next time.
-fn join_is_refused<L: Lattice + Dup>(
-    rt: &impl Abort,
-    value: &mut L,
-    other: &L,
-    before: Result<L, OutOfMemory>,
-    after: Result<L, OutOfMemory>,
-) -> bool {
-    let is_refused = value.join(other).is_err();
-    if is_refused {
-        assert!(rt; is_same(value, before) && value.join(other).is_ok());
-    }
-    assert!(rt; is_same(value, after));
-    is_refused
-}
-
-/// A join of three parts, of which a refused one changes none.
-struct PartsJoin;
-
-impl Trial for PartsJoin {
-    fn is_refused<R: Abort, A: Allocator + Copy>(
-        rt: &R,
-        alloc: A,
-        ample: A,
-    ) -> Result<bool, OutOfMemory> {
-        let mut parts = one_of(alloc)?;
-        let other = other_of(ample)?;
-        Ok(join_is_refused(rt, &mut parts, &other, one_of(ample), both_of(ample)))
-    }
-}
-
-#[test]
-fn a_refused_join_changes_no_part(rt: HostRuntime) {
-    refuse_each::<HostRuntime, PartsJoin>(&rt, 8);
-}
-
-const SEVEN: [u32; 7] = [1, 2, 3, 4, 5, 6, 7];
-
-/// Whether so many items are there, if the set was made.
-fn has_len<T: Key + Dup, A: Allocator + Copy>(
-    made: Result<UnionSet<T, A>, OutOfMemory>,
-    len: usize,
-) -> Result<bool, OutOfMemory> {
-    Ok(made?.len() == len)
-}
-
-/// Puts in an eighth item. A refused insert leaves the set, and goes the next time.
-fn insert_is_refused<A: Allocator + Copy>(
-    rt: &impl Abort,
-    ample: A,
-    set: &mut UnionSet<u32, A>,
-) -> bool {
-    let is_refused = set.insert(8).is_err();
-    if is_refused {
-        assert!(rt; is_same(set, set_of(ample, &SEVEN)) && set.insert(8) == Ok(true));
-    }
-    assert!(rt; set.contains(&8));
-    is_refused
-}
-
-/// An insert into a set of seven, and before it a copy and a look for an item, which do not allocate.
-struct SetInsert;
-
-impl Trial for SetInsert {
-    fn is_refused<R: Abort, A: Allocator + Copy>(
-        rt: &R,
-        alloc: A,
-        ample: A,
-    ) -> Result<bool, OutOfMemory> {
-        let mut set = set_of(alloc, &SEVEN)?;
-        assert!(rt; has_len(set.dup(), 7) == Ok(true) && set.contains(&3));
-        Ok(insert_is_refused(rt, ample, &mut set))
-    }
-}
-
-#[test]
-fn a_refused_insert_changes_no_set_and_copies_take_no_memory(rt: HostRuntime) {
-    refuse_each::<HostRuntime, SetInsert>(&rt, 3);
-}
-
-fn bulk_of<A: Allocator + Copy>(alloc: A) -> Result<UnionSet<u32, A>, OutOfMemory> {
-    let mut items = Vec::new(alloc);
-    for number in 0..30u32 {
-        items.push(number.wrapping_mul(7) % 10)?;
-    }
-    UnionSet::from_vec(alloc, items)
-}
-
-/// A set made at once of numbers, some of them more than once.
-struct Bulk;
-
-impl Trial for Bulk {
-    fn is_refused<R: Abort, A: Allocator + Copy>(
-        rt: &R,
-        alloc: A,
-        _ample: A,
-    ) -> Result<bool, OutOfMemory> {
-        Ok(is_refused(rt, has_len(bulk_of(alloc), 10)))
-    }
-}
-
-#[test]
-fn each_growth_of_a_bulk_is_refused_in_turn(rt: HostRuntime) {
-    refuse_each::<HostRuntime, Bulk>(&rt, 10);
-}
-
-/// Records of four logs as they arrive, the last one first, and an end mark twice.
-fn arrivals<A: Allocator + Copy>(alloc: A) -> Result<Vec<Fact, A>, OutOfMemory> {
-    let mut facts = Vec::new(alloc);
-    for number in 0..42u32 {
-        facts.push(if number < 40 {
-            record(number % 4, 9 - number / 4, number, 1, Event::TryC)
-        } else {
-            end(1, 10)
-        })?;
-    }
-    Ok(facts)
-}
-
-fn ranked_bulk_of<A: Allocator + Copy>(alloc: A) -> Result<UnionSet<Fact, A>, OutOfMemory> {
-    UnionSet::from_ranked(alloc, arrivals(alloc)?)
-}
-
-fn ranked_is_plain(alloc: Global) -> Result<bool, OutOfMemory> {
-    let ranked = ranked_bulk_of(alloc)?;
-    let plain = UnionSet::from_vec(alloc, arrivals(alloc)?);
-    Ok(ranked.len() == 41 && is_same(&ranked, plain))
-}
-
-#[test]
-fn ranks_do_not_show(rt: HostRuntime) {
-    holds(&rt, ranked_is_plain(rt.alloc()));
-    assert!(rt; end(1, 10).rank() == 262_145);
-}
-
-/// A set made at once of facts by their ranks.
-struct RankedBulk;
-
-impl Trial for RankedBulk {
-    fn is_refused<R: Abort, A: Allocator + Copy>(
-        rt: &R,
-        alloc: A,
-        _ample: A,
-    ) -> Result<bool, OutOfMemory> {
-        Ok(is_refused(rt, has_len(ranked_bulk_of(alloc), 41)))
-    }
-}
-
-#[test]
-fn each_growth_of_a_ranked_bulk_is_refused_in_turn(rt: HostRuntime) {
-    refuse_each::<HostRuntime, RankedBulk>(&rt, 41);
-}
-
-fn before_of<A: Allocator + Copy>(alloc: A) -> Result<Cover<u32, A>, OutOfMemory> {
-    cover_of(alloc, &[&[1, 2, 3], &[4]])
-}
-
-fn after_of<A: Allocator + Copy>(alloc: A) -> Result<Cover<u32, A>, OutOfMemory> {
-    cover_of(alloc, &[&[1, 2], &[4]])
-}
-
-/// Puts in a beginning of a list, and then lists and copies the cover. A refused insert leaves the cover, and goes the next
-/// time.
-fn cover_is_refused<A: Allocator + Copy>(
-    rt: &impl Abort,
-    ample: A,
-    cover: &mut Cover<u32, A>,
-) -> bool {
-    let is_refused = cover.insert(&[1, 2]).is_err()
-        || cover.lists().is_err()
-        || cover.dup().is_err();
-    if is_refused && !is_same(cover, after_of(ample)) {
-        assert!(rt; is_same(cover, before_of(ample)) && cover.insert(&[1, 2]).is_ok());
-    }
-    assert!(rt; is_same(cover, after_of(ample)));
-    is_refused
-}
-
-/// An insert into a cover of two lists and copies of it, and before it a mark, which does not allocate.
-struct CoverInsert;
-
-impl Trial for CoverInsert {
-    fn is_refused<R: Abort, A: Allocator + Copy>(
-        rt: &R,
-        alloc: A,
-        ample: A,
-    ) -> Result<bool, OutOfMemory> {
-        let mut cover = before_of(alloc)?;
-        assert!(rt; cover.mark(&[1]) == Mark::Inner);
-        Ok(cover_is_refused(rt, ample, &mut cover))
-    }
-}
-
-fn forked<A: Allocator + Copy>(alloc: A) -> Result<Cover<u32, A>, OutOfMemory> {
-    cover_of(alloc, &[&[1, 2, 3], &[1, 2, 4]])
-}
-
-/// An insert into a cover that shares its nodes with a copy: where it is refused, neither changes.
-struct SharedInsert;
-
-impl Trial for SharedInsert {
-    fn is_refused<R: Abort, A: Allocator + Copy>(
-        rt: &R,
-        alloc: A,
-        ample: A,
-    ) -> Result<bool, OutOfMemory> {
-        let mut cover = forked(alloc)?;
-        let copy = cover.dup()?;
-        let is_refused = cover.insert(&[1, 2, 5, 6]).is_err();
-        assert!(rt; is_same(&copy, forked(ample)));
-        assert!(rt; is_same(&cover, forked(ample)) == is_refused);
-        Ok(is_refused)
-    }
-}
-
-#[test]
-fn a_refused_insert_changes_no_shared_cover(rt: HostRuntime) {
-    refuse_each::<HostRuntime, SharedInsert>(&rt, 6);
-}
-
-#[test]
-fn a_refused_insert_changes_no_cover_and_marks_take_no_memory(rt: HostRuntime) {
-    refuse_each::<HostRuntime, CoverInsert>(&rt, 5);
 }

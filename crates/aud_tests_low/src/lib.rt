@@ -13,8 +13,6 @@ mod histories;
 #[cfg(test)]
 mod joins;
 #[cfg(test)]
-mod leftovers;
-#[cfg(test)]
 mod objects;
 #[cfg(test)]
 mod orders;

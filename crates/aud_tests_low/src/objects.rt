@@ -2,19 +2,32 @@
 
 ghost use Rattle.std.specs.Prelude.{◌≡◌};
 
-use crate::fixtures::{Trial, holds, is_refused, plan_of, refuse_each, refuse_each_or_go_on};
+use crate::fixtures::{Growths, Trial, Tried, each_is_right, is_block, plan_of};
 use aud_event::{Answer, Dup, ObjKind, Op, OutOfMemory};
 use aud_object::{
     Block, Counter, Execution, Invocation, ObjectSpec, Queue, Register, SetOf, Shown, Store, laws,
 };
 use std::alloc::{Allocator, Global};
-use std::process::Abort;
+
+/// An operation with its answer.
+type Step = (Op, Answer);
+
+/// What an object answers: the value that it opens at, what is asked before and after it is copied, and whether the copy is
+/// still the same then.
+#[derive(Clone, Copy)]
+struct Course {
+    kind: ObjKind,
+    opening: i64,
+    before: &'static [Step],
+    after: &'static [Step],
+    stays: bool,
+}
 
 /// Runs operations on an object of the kind: whether each gets its answer.
 fn run_all<S: ObjectSpec>(
     kind: ObjKind,
     state: &mut S::State,
-    steps: &[(Op, Answer)],
+    steps: &[Step],
 ) -> Result<bool, OutOfMemory>
     requires { kind ≡ S.kind }
 {
@@ -26,205 +39,126 @@ fn run_all<S: ObjectSpec>(
     Ok(true)
 }
 
-/// Copies an object between two runs of operations. Whether each gets its answer, and the copy is still the same then just
-/// where it is to be.
-fn copy_between<S: ObjectSpec>(
+/// Whether the object goes as the course says.
+fn goes<S: ObjectSpec>(
     kind: ObjKind,
     state: &mut S::State,
-    before: &[(Op, Answer)],
-    after: &[(Op, Answer)],
-    stays: bool,
+    course: &Course,
 ) -> Result<bool, OutOfMemory>
     requires { kind ≡ S.kind }
 {
-    let has_run = run_all::<S>(kind, state, before)?;
+    let has_run = run_all::<S>(kind, state, course.before)?;
     let copy = S::copy(state)?;
-    let runs_on = run_all::<S>(kind, state, after)?;
+    let runs_on = run_all::<S>(kind, state, course.after)?;
     let is_same = [S::same(&copy, &copy), S::same(state, &copy)];
-    Ok(has_run && runs_on && is_same == [true, stays])
+    Ok(has_run && runs_on && is_same == [true, course.stays])
 }
 
-fn register_goes(alloc: Global) -> Result<bool, OutOfMemory> {
-    copy_between::<Register>(
-        ObjKind::Register,
-        &mut Register::opening(alloc, -7),
-        &[(Op::Read, Answer::Int(-7)), (Op::Write(9), Answer::Done)],
-        &[(Op::Read, Answer::Int(9))],
-        true,
-    )
-}
-
-#[test]
-fn a_register_holds_what_was_written(rt: HostRuntime) {
-    holds(&rt, register_goes(rt.alloc()));
-}
-
-/// A counter that comes to an end of its range by an operation, and stays there.
-fn counter_goes(alloc: Global, opening: i64, op: Op, end: i64) -> Result<bool, OutOfMemory> {
-    let steps = [
-        (op, Answer::Done),
-        (Op::Get, Answer::Int(end)),
-        (op, Answer::Done),
-        (Op::Get, Answer::Int(end)),
-    ];
-    copy_between::<Counter>(
-        ObjKind::Counter,
-        &mut Counter::opening(alloc, opening),
-        &steps,
-        &[],
-        true,
-    )
-}
-
-#[test]
-fn a_counter_stays_at_the_ends_of_its_range(rt: HostRuntime) {
-    holds(
-        &rt,
-        counter_goes(rt.alloc(), i64::MAX - 1, Op::Inc, i64::MAX),
-    );
-    holds(
-        &rt,
-        counter_goes(rt.alloc(), i64::MIN + 1, Op::Dec, i64::MIN),
-    );
-}
-
-/// What a set answers, over any allocator.
-fn set_goes<A: Allocator + Copy>(alloc: A) -> Result<bool, OutOfMemory> {
-    copy_between::<SetOf<A>>(
-        ObjKind::SetOf,
-        &mut SetOf::<A>::opening(alloc, 0),
-        &[
-            (Op::Add(3), Answer::Flag(true)),
-            (Op::Add(3), Answer::Flag(false)),
-            (Op::Add(-3), Answer::Flag(true)),
-            (Op::Remove(3), Answer::Flag(true)),
-            (Op::Remove(3), Answer::Flag(false)),
-        ],
-        &[
-            (Op::Add(3), Answer::Flag(true)),
-            (Op::Contains(3), Answer::Flag(true)),
-        ],
-        false,
-    )
-}
-
-struct SetGoes;
-
-impl Trial for SetGoes {
-    fn is_refused<R: Abort, A: Allocator + Copy>(
-        rt: &R,
-        alloc: A,
-        _ample: A,
-    ) -> Result<bool, OutOfMemory> {
-        Ok(is_refused(rt, set_goes(alloc)))
+/// Whether an object of the course's kind goes so.
+fn kind_goes<A: Allocator + Copy>(alloc: A, course: &Course) -> Result<bool, OutOfMemory> {
+    let value = course.opening;
+    match course.kind {
+        ObjKind::Register => {
+            let mut state = Register::<A>::opening(alloc, value);
+            goes::<Register<A>>(ObjKind::Register, &mut state, course)
+        }
+        ObjKind::Counter => {
+            let mut state = Counter::<A>::opening(alloc, value);
+            goes::<Counter<A>>(ObjKind::Counter, &mut state, course)
+        }
+        ObjKind::SetOf => {
+            let mut state = SetOf::<A>::opening(alloc, value);
+            goes::<SetOf<A>>(ObjKind::SetOf, &mut state, course)
+        }
+        ObjKind::Queue => {
+            let mut state = Queue::<A>::opening(alloc, value);
+            goes::<Queue<A>>(ObjKind::Queue, &mut state, course)
+        }
     }
 }
 
-#[test]
-fn a_set_says_what_changed(rt: HostRuntime) {
-    holds(&rt, set_goes(rt.alloc()));
-    refuse_each::<HostRuntime, SetGoes>(&rt, 2);
-}
+/// A register holds what was written.
+const HOLDS: Course = Course {
+    kind: ObjKind::Register,
+    opening: -7,
+    before: &[(Op::Read, Answer::Int(-7)), (Op::Write(9), Answer::Done)],
+    after: &[(Op::Read, Answer::Int(9))],
+    stays: true,
+};
 
-/// What a queue answers, over any allocator.
-fn queue_goes<A: Allocator + Copy>(alloc: A) -> Result<bool, OutOfMemory> {
-    copy_between::<Queue<A>>(
-        ObjKind::Queue,
-        &mut Queue::<A>::opening(alloc, 0),
-        &[
-            (Op::Deq, Answer::Empty),
-            (Op::Enq(1), Answer::Done),
-            (Op::Enq(2), Answer::Done),
-        ],
-        &[(Op::Deq, Answer::Int(1)), (Op::Deq, Answer::Int(2))],
-        false,
-    )
-}
+/// A counter stays at the upper end of its range.
+const RISES: Course = Course {
+    kind: ObjKind::Counter,
+    opening: i64::MAX - 1,
+    before: &[
+        (Op::Inc, Answer::Done),
+        (Op::Get, Answer::Int(i64::MAX)),
+        (Op::Inc, Answer::Done),
+        (Op::Get, Answer::Int(i64::MAX)),
+    ],
+    after: &[],
+    stays: true,
+};
 
-struct QueueGoes;
+/// A counter stays at the lower end of its range.
+const FALLS: Course = Course {
+    kind: ObjKind::Counter,
+    opening: i64::MIN + 1,
+    before: &[
+        (Op::Dec, Answer::Done),
+        (Op::Get, Answer::Int(i64::MIN)),
+        (Op::Dec, Answer::Done),
+        (Op::Get, Answer::Int(i64::MIN)),
+    ],
+    after: &[],
+    stays: true,
+};
 
-impl Trial for QueueGoes {
-    fn is_refused<R: Abort, A: Allocator + Copy>(
-        rt: &R,
-        alloc: A,
-        _ample: A,
-    ) -> Result<bool, OutOfMemory> {
-        Ok(is_refused(rt, queue_goes(alloc)))
-    }
-}
+/// A set says what changed.
+const CHANGES: Course = Course {
+    kind: ObjKind::SetOf,
+    opening: 0,
+    before: &[
+        (Op::Add(3), Answer::Flag(true)),
+        (Op::Add(3), Answer::Flag(false)),
+        (Op::Add(-3), Answer::Flag(true)),
+        (Op::Remove(3), Answer::Flag(true)),
+        (Op::Remove(3), Answer::Flag(false)),
+    ],
+    after: &[
+        (Op::Add(3), Answer::Flag(true)),
+        (Op::Contains(3), Answer::Flag(true)),
+    ],
+    stays: false,
+};
 
-#[test]
-fn a_queue_gives_its_items_in_order(rt: HostRuntime) {
-    holds(&rt, queue_goes(rt.alloc()));
-    refuse_each::<HostRuntime, QueueGoes>(&rt, 2);
-}
-
-#[test]
-fn only_operations_that_change_nothing_observe(rt: HostRuntime) {
-    let observes = [
-        Register::<Global>::observes(&Op::Read),
-        Register::<Global>::observes(&Op::Write(9)),
-        Counter::<Global>::observes(&Op::Get),
-        Counter::<Global>::observes(&Op::Inc),
-        SetOf::<Global>::observes(&Op::Contains(3)),
-        SetOf::<Global>::observes(&Op::Add(3)),
-        Queue::<Global>::observes(&Op::Deq),
-    ];
-    assert!(rt; observes == [true, false, true, false, true, false, false]);
-}
+/// A queue gives its items in order.
+const GIVES: Course = Course {
+    kind: ObjKind::Queue,
+    opening: 0,
+    before: &[
+        (Op::Deq, Answer::Empty),
+        (Op::Enq(1), Answer::Done),
+        (Op::Enq(2), Answer::Done),
+    ],
+    after: &[(Op::Deq, Answer::Int(1)), (Op::Deq, Answer::Int(2))],
+    stays: false,
+};
 
 /// Runs an operation that may be refused. After one that is, another gets its answer.
 fn leaves<S: ObjectSpec>(
-    rt: &impl Abort,
     kind: ObjKind,
     state: &mut S::State,
-    tried: Op,
-    then: (Op, Answer),
-) -> bool
+    tried: Step,
+    then: Step,
+) -> Result<bool, OutOfMemory>
     requires { kind ≡ S.kind }
 {
-    assert!(rt; tried.name().is_of(kind));
-    let is_refused = S::apply(state, &tried).is_err();
-    if is_refused {
-        assert!(rt; run_all::<S>(kind, state, &[then]) == Ok(true));
+    let has_run = run_all::<S>(kind, state, &[tried]);
+    if has_run.is_err() && run_all::<S>(kind, state, &[then]) != Ok(true) {
+        return Ok(false);
     }
-    is_refused
-}
-
-/// A set that an item is put in.
-struct SetLeft;
-
-impl Trial for SetLeft {
-    fn is_refused<R: Abort, A: Allocator + Copy>(
-        rt: &R,
-        alloc: A,
-        _ample: A,
-    ) -> Result<bool, OutOfMemory> {
-        let mut set = SetOf::<A>::opening(alloc, 0);
-        let then = (Op::Contains(3), Answer::Flag(false));
-        Ok(leaves::<SetOf<A>>(rt, ObjKind::SetOf, &mut set, Op::Add(3), then))
-    }
-}
-
-/// A queue that an item is put in.
-struct QueueLeft;
-
-impl Trial for QueueLeft {
-    fn is_refused<R: Abort, A: Allocator + Copy>(
-        rt: &R,
-        alloc: A,
-        _ample: A,
-    ) -> Result<bool, OutOfMemory> {
-        let mut queue = Queue::<A>::opening(alloc, 0);
-        let then = (Op::Deq, Answer::Empty);
-        Ok(leaves::<Queue<A>>(rt, ObjKind::Queue, &mut queue, Op::Enq(3), then))
-    }
-}
-
-#[test]
-fn a_refused_operation_leaves_the_set_and_the_queue(rt: HostRuntime) {
-    refuse_each::<HostRuntime, SetLeft>(&rt, 1);
-    refuse_each::<HostRuntime, QueueLeft>(&rt, 1);
+    has_run
 }
 
 /// A register that opens at 4, a counter, a set and a queue.
@@ -298,87 +232,82 @@ fn block<A: Allocator + Copy>(alloc: A, all: &[Ran]) -> Result<Block<A>, OutOfMe
     Ok(Block::new(executions, None))
 }
 
-/// Whether a block of these can run, and runs for good if it is to be kept.
+/// How a block runs.
+#[derive(Clone, Copy)]
+enum How {
+    /// Only in so far as it could.
+    IfAtAll,
+    /// For good.
+    ForGood,
+    /// And is taken back.
+    AndBack,
+}
+
+/// Whether the block can run, and runs so.
+fn runs_so<A: Allocator + Copy>(
+    store: &mut Store<A>,
+    how: How,
+    block: &Block<A>,
+) -> Result<bool, OutOfMemory> {
+    if let How::IfAtAll = how {
+        return store.fits(block);
+    }
+    let has_run = store.replay(block)?;
+    if let (How::AndBack, true) = (how, has_run) {
+        store.undo();
+    }
+    Ok(has_run)
+}
+
+/// The same of a block of these.
 fn runs<A: Allocator + Copy>(
     blocks: A,
     store: &mut Store<A>,
-    is_kept: bool,
+    how: How,
     all: &[Ran],
 ) -> Result<bool, OutOfMemory> {
-    let block = block(blocks, all)?;
-    if is_kept {
-        store.replay(&block)
-    } else {
-        store.fits(&block)
-    }
+    runs_so(store, how, &block(blocks, all)?)
 }
 
-/// Whether these can run, for good if they are to be kept, and whether they leave the store the same.
-fn leaves_same(
-    alloc: Global,
-    store: &mut Store,
-    is_kept: bool,
-    all: &[Ran],
-) -> Result<(bool, bool), OutOfMemory> {
+/// A block, how it is to run, and whether it runs and leaves the store the same.
+type Row = (How, &'static [Ran], bool, bool);
+
+/// Whether these run and leave the store as the row says.
+fn is_left<A: Allocator + Copy>(
+    alloc: A,
+    store: &mut Store<A>,
+    (how, all, can_run, stays): Row,
+) -> Result<bool, OutOfMemory> {
     let before = store.dup()?;
-    let has_run = runs(alloc, store, is_kept, all)?;
-    Ok((has_run, store.same(&before)))
+    let has_run = runs(alloc, store, how, all)?;
+    Ok(has_run == can_run && store.same(&before) == stays)
 }
 
-/// Blocks, whether each is to be kept, and whether it runs and leaves the store the same.
-const BLOCKS: [(bool, &[Ran], (bool, bool)); 5] = [
-    (false, &FRESH, (true, true)),
-    (false, &SECOND, (false, true)),
-    (true, &FIRST, (true, false)),
-    (true, &WRONG, (false, true)),
-    (true, &SECOND, (true, false)),
+/// Blocks that are taken back can run again, an object that is not there answers nothing, and a wrong block is taken back.
+const BLOCKS: [Row; 10] = [
+    (How::AndBack, &FIRST, true, true),
+    (How::AndBack, &FIRST, true, true),
+    (How::AndBack, &FIRST, true, true),
+    (How::IfAtAll, &FIRST, true, true),
+    (How::IfAtAll, &[(4, Op::Read, Answer::Int(4))], false, true),
+    (How::IfAtAll, &FRESH, true, true),
+    (How::IfAtAll, &SECOND, false, true),
+    (How::ForGood, &FIRST, true, false),
+    (How::ForGood, &WRONG, false, true),
+    (How::ForGood, &SECOND, true, false),
 ];
 
-fn blocks_run(alloc: Global, store: &mut Store) -> Result<bool, OutOfMemory> {
-    for (is_kept, all, wanted) in &BLOCKS {
-        if leaves_same(alloc, store, *is_kept, all)? != *wanted {
+fn blocks_run<A: Allocator + Copy>(
+    alloc: A,
+    store: &mut Store<A>,
+    rows: &[Row],
+) -> Result<bool, OutOfMemory> {
+    for row in rows {
+        if !is_left(alloc, store, *row)? {
             return Ok(false);
         }
     }
-    Ok(true)
-}
-
-fn four_run(alloc: Global) -> Result<bool, OutOfMemory> {
-    let mut store = opening(alloc, alloc)?;
-    Ok(store.len() == 4 && blocks_run(alloc, &mut store)?)
-}
-
-#[test]
-fn blocks_run_in_order_and_a_wrong_one_is_taken_back(rt: HostRuntime) {
-    holds(&rt, four_run(rt.alloc()));
-}
-
-/// Whether the store is the opened one after the block ran and was taken back.
-fn goes_back(store: &mut Store, opened: &Store, first: &Block) -> Result<bool, OutOfMemory> {
-    if store.replay(first)? {
-        store.undo();
-    }
-    Ok(store.same(opened))
-}
-
-fn goes_back_each_time(store: &mut Store, first: &Block) -> Result<bool, OutOfMemory> {
-    let opened = store.dup()?;
-    for _ in 0..3u8 {
-        if !goes_back(store, &opened, first)? {
-            return Ok(false);
-        }
-    }
-    Ok(store.fits(first)? && store.same(&opened))
-}
-
-fn first_goes_back(alloc: Global) -> Result<bool, OutOfMemory> {
-    let mut store = opening(alloc, alloc)?;
-    goes_back_each_time(&mut store, &block(alloc, &FIRST)?)
-}
-
-#[test]
-fn a_block_that_was_taken_back_can_run_again(rt: HostRuntime) {
-    holds(&rt, first_goes_back(rt.alloc()));
+    Ok(store.len() == 4)
 }
 
 const WAITS: Invocation = Invocation {
@@ -392,119 +321,211 @@ const READ_FOUR: Execution = Execution {
     answer: Answer::Int(4),
 };
 
-/// Whether a copy of the block lends just that read and that it waits, and can run.
-fn copy_reads(store: &mut Store, block: &Block) -> Result<bool, OutOfMemory> {
+/// Whether a copy of the block lends just that read and that it waits, and can run: the trailing invocation is free.
+fn copy_reads<A: Allocator + Copy>(
+    store: &mut Store<A>,
+    block: &Block<A>,
+) -> Result<bool, OutOfMemory> {
     let copy = block.dup()?;
-    let lends = copy.executions() == [READ_FOUR].as_slice() && copy.trailing() == Some(WAITS);
-    Ok(lends && store.replay(&copy)?)
+    Ok(is_block(&copy, &[READ_FOUR], Some(WAITS)) && store.replay(&copy)?)
 }
 
-fn reads_and_waits(alloc: Global) -> Result<bool, OutOfMemory> {
-    let mut store = opening(alloc, alloc)?;
-    let block = Block::new([READ_FOUR].to_vec(alloc)?, Some(WAITS));
-    copy_reads(&mut store, &block)
+fn reads_and_waits<A: Allocator + Copy>(
+    alloc: A,
+    store: &mut Store<A>,
+) -> Result<bool, OutOfMemory> {
+    let block = Block::new(Vec::from_slice(alloc, &[READ_FOUR])?, Some(WAITS));
+    copy_reads(store, &block)
 }
 
-#[test]
-fn a_block_lends_its_parts_and_a_trailing_invocation_is_free(rt: HostRuntime) {
-    holds(&rt, reads_and_waits(rt.alloc()));
+/// Whether this is what a store shows after `FIRST`.
+fn is_shown<A: Allocator + Copy>(shown: &[Shown<A>]) -> bool {
+    match shown {
+        [
+            Shown::Register(5),
+            Shown::Counter(1),
+            Shown::SetOf(members),
+            Shown::Queue(items),
+        ] => members.as_slice() == [1].as_slice() && items.as_slice() == [7, 8].as_slice(),
+        _ => false,
+    }
 }
 
-fn answers_elsewhere(alloc: Global) -> Result<bool, OutOfMemory> {
-    let mut store = opening(alloc, alloc)?;
-    runs(alloc, &mut store, false, &[(4, Op::Read, Answer::Int(4))])
+/// Whether a store that ran `FIRST` shows that, and is the same as a copy of it.
+fn is_copied<A: Allocator + Copy>(alloc: A, store: &Store<A>) -> Result<bool, OutOfMemory> {
+    let copy = store.dup()?;
+    let shown = store.show(alloc)?;
+    Ok(store.same(&copy) && is_shown(&shown))
 }
 
-#[test]
-fn an_object_that_is_not_there_answers_nothing(rt: HostRuntime) {
-    assert!(rt; answers_elsewhere(rt.alloc()) == Ok(false));
-}
-
-/// What the store shows after `FIRST`.
-fn shown_after(alloc: Global) -> Result<[Shown; 4], OutOfMemory> {
-    let members = [1].to_vec(alloc)?;
-    let items = [7, 8].to_vec(alloc)?;
-    Ok([
-        Shown::Register(5),
-        Shown::Counter(1),
-        Shown::SetOf(members),
-        Shown::Queue(items),
-    ])
-}
-
-/// Whether the store shows more by now, and just what is expected.
-fn shows_more(store: &Store, alloc: Global, before: &[Shown]) -> Result<bool, OutOfMemory> {
-    let after = store.show(alloc)?;
-    let expected = shown_after(alloc)?;
-    Ok(after.as_slice() == expected.as_slice() && before < after.as_slice())
-}
-
-fn shows_its_states(alloc: Global) -> Result<bool, OutOfMemory> {
-    let mut store = opening(alloc, alloc)?;
+/// Whether the store shows more after `FIRST`.
+fn shows_more<A: Allocator + Copy>(alloc: A, store: &mut Store<A>) -> Result<bool, OutOfMemory> {
     let before = store.show(alloc)?;
-    Ok(runs(alloc, &mut store, true, &FIRST)? && shows_more(&store, alloc, &before)?)
-}
-
-#[test]
-fn a_store_shows_its_states(rt: HostRuntime) {
-    holds(&rt, shows_its_states(rt.alloc()));
+    let has_run = runs(alloc, store, How::ForGood, &FIRST)?;
+    let after = store.show(alloc)?;
+    Ok(has_run && before.as_slice() < after.as_slice())
 }
 
 /// Replays `FIRST`. Where that was refused, the store is as it opened, and the refusal, met once, does not come again.
-fn replay_is_refused<A: Allocator + Copy>(rt: &impl Abort, ample: A, store: &mut Store<A>) -> bool {
-    let is_refused = runs(ample, store, true, &FIRST).is_err();
-    if is_refused {
-        assert!(rt; runs(ample, store, false, &FRESH) == Ok(true));
+fn replays<A: Allocator + Copy>(ample: A, store: &mut Store<A>) -> Result<bool, OutOfMemory> {
+    let has_run = runs(ample, store, How::ForGood, &FIRST);
+    if has_run.is_err() && runs(ample, store, How::IfAtAll, &FRESH) != Ok(true) {
+        return Ok(false);
     }
-    is_refused
+    has_run
 }
 
-/// A store that opens and replays `FIRST`.
-struct Replays;
+/// What was answered to `WAITS`.
+const EMPTY: Execution = Execution {
+    object: 3,
+    op: Op::Deq,
+    answer: Answer::Empty,
+};
 
-impl Trial for Replays {
-    fn is_refused<R: Abort, A: Allocator + Copy>(
-        rt: &R,
-        alloc: A,
-        ample: A,
-    ) -> Result<bool, OutOfMemory> {
-        match opening(alloc, ample) {
-            Ok(mut store) => Ok(replay_is_refused(rt, ample, &mut store)),
-            Err(OutOfMemory) => Ok(true),
+/// Whether a block that is answered has just these executions then, and waits for nothing.
+fn is_answered<A: Allocator + Copy>(
+    block: &mut Block<A>,
+    answer: Answer,
+    ran: &[Execution],
+) -> Result<bool, OutOfMemory> {
+    block.answer(answer)?;
+    Ok(is_block(block, ran, None))
+}
+
+/// Whether an empty block grows by events.
+fn grows_by_events<A: Allocator + Copy>(block: &mut Block<A>) -> Result<bool, OutOfMemory> {
+    let is_fresh = is_answered(block, Answer::Done, &[])?;
+    block.invoke(WAITS);
+    let waits = is_block(block, &[], Some(WAITS));
+    Ok(is_fresh && waits && is_answered(block, Answer::Empty, &[EMPTY])?)
+}
+
+/// What is tried of a store at its opening.
+#[derive(Clone, Copy)]
+enum OfStore {
+    Blocks,
+    ReadsAndWaits,
+    ShowsMore,
+    Replays,
+}
+
+/// Whether that goes.
+fn store_goes<A: Allocator + Copy>(alloc: A, ample: A, what: OfStore) -> Result<bool, OutOfMemory> {
+    let mut store = opening(alloc, ample)?;
+    match what {
+        OfStore::Blocks => blocks_run(alloc, &mut store, &BLOCKS),
+        OfStore::ReadsAndWaits => reads_and_waits(alloc, &mut store),
+        OfStore::ShowsMore => shows_more(alloc, &mut store),
+        OfStore::Replays => replays(ample, &mut store),
+    }
+}
+
+/// A store that ran `FIRST`, copied and shown.
+fn copies<A: Allocator + Copy>(alloc: A, ample: A) -> Tried {
+    let mut store = opening(alloc, ample)?;
+    let has_run = runs(ample, &mut store, How::ForGood, &FIRST)?;
+    let is_copied = is_copied(alloc, &store);
+    Ok(is_copied.map(|is_copied| is_copied && has_run))
+}
+
+/// What is tried of objects.
+#[derive(Clone, Copy)]
+enum OfObjects {
+    Goes(Course),
+    /// An item is put in a set.
+    SetLeft,
+    /// An item is put in a queue.
+    QueueLeft,
+    Store(OfStore),
+    Copies,
+    BlockGrows,
+}
+
+impl Trial for OfObjects {
+    fn tried<A: Allocator + Copy>(&self, alloc: A, ample: A) -> Tried {
+        match *self {
+            OfObjects::Goes(course) => Ok(kind_goes(alloc, &course)),
+            OfObjects::SetLeft => {
+                let mut set = SetOf::<A>::opening(alloc, 0);
+                let then = (Op::Contains(3), Answer::Flag(false));
+                Ok(leaves::<SetOf<A>>(
+                    ObjKind::SetOf,
+                    &mut set,
+                    (Op::Add(3), Answer::Flag(true)),
+                    then,
+                ))
+            }
+            OfObjects::QueueLeft => {
+                let mut queue = Queue::<A>::opening(alloc, 0);
+                let then = (Op::Deq, Answer::Empty);
+                Ok(leaves::<Queue<A>>(ObjKind::Queue, &mut queue, (Op::Enq(3), Answer::Done), then))
+            }
+            OfObjects::Store(what) => Ok(store_goes(alloc, ample, what)),
+            OfObjects::Copies => copies(alloc, ample),
+            OfObjects::BlockGrows => Ok(grows_by_events(&mut Block::empty(alloc))),
         }
     }
 }
 
 #[test]
-fn each_growth_refused_leaves_the_store(rt: HostRuntime) {
-    refuse_each::<HostRuntime, Replays>(&rt, 4);
-}
-
-/// Copies and shows the store.
-fn is_copied<A: Allocator + Copy>(alloc: A, store: &Store<A>) -> Result<bool, OutOfMemory> {
-    let copy = store.dup()?;
-    let _shown = store.show(alloc)?;
-    Ok(store.same(&copy))
-}
-
-/// A store that is copied and shown. A list whose first growth was refused may ask for less and go on.
-struct Copies;
-
-impl Trial for Copies {
-    fn is_refused<R: Abort, A: Allocator + Copy>(
-        rt: &R,
-        alloc: A,
-        ample: A,
-    ) -> Result<bool, OutOfMemory> {
-        let mut store = opening(alloc, ample)?;
-        assert!(rt; runs(ample, &mut store, true, &FIRST)?);
-        Ok(is_refused(rt, is_copied(alloc, &store)))
-    }
+fn objects_answer_as_their_kinds_do(rt: HostRuntime) {
+    each_is_right(
+        &rt,
+        Growths::Refused(0),
+        &[
+            OfObjects::Goes(HOLDS),
+            OfObjects::Goes(RISES),
+            OfObjects::Goes(FALLS),
+        ],
+    );
+    each_is_right(
+        &rt,
+        Growths::Refused(2),
+        &[OfObjects::Goes(CHANGES), OfObjects::Goes(GIVES)],
+    );
 }
 
 #[test]
-fn each_growth_refused_leaves_no_copy(rt: HostRuntime) {
-    refuse_each_or_go_on::<HostRuntime, Copies>(&rt, 4);
+fn a_refused_operation_leaves_the_set_and_the_queue(rt: HostRuntime) {
+    each_is_right(
+        &rt,
+        Growths::Refused(1),
+        &[OfObjects::SetLeft, OfObjects::QueueLeft],
+    );
+}
+
+#[test]
+fn blocks_run_and_are_taken_back_and_a_store_shows_its_states(rt: HostRuntime) {
+    each_is_right(
+        &rt,
+        Growths::Met(4),
+        &[
+            OfObjects::Store(OfStore::Blocks),
+            OfObjects::Store(OfStore::ReadsAndWaits),
+            OfObjects::Store(OfStore::ShowsMore),
+            OfObjects::Copies,
+        ],
+    );
+    each_is_right(
+        &rt,
+        Growths::Refused(4),
+        &[OfObjects::Store(OfStore::Replays)],
+    );
+    each_is_right(&rt, Growths::Met(1), &[OfObjects::BlockGrows]);
+}
+
+#[test]
+fn only_operations_that_change_nothing_observe(rt: HostRuntime) {
+    let observes = [
+        Register::<Global>::observes(&Op::Read),
+        Register::<Global>::observes(&Op::Write(9)),
+        Counter::<Global>::observes(&Op::Get),
+        Counter::<Global>::observes(&Op::Inc),
+        SetOf::<Global>::observes(&Op::Contains(3)),
+        SetOf::<Global>::observes(&Op::Add(3)),
+        Queue::<Global>::observes(&Op::Deq),
+    ];
+    assert!(rt; observes == [true, false, true, false, true, false, false]);
 }
 
 #[test]
@@ -513,32 +534,4 @@ fn the_laws_hold(_rt: HostRuntime) {
     laws::opening_is_legality();
     laws::legality_is_by_parts();
     laws::blocks_replay_in_turn();
-}
-
-/// Answers a block: how many executions it has then, and what it waits for.
-fn answered(block: &mut Block, answer: Answer) -> Result<(usize, Option<Invocation>), OutOfMemory> {
-    block.answer(answer)?;
-    Ok((block.executions().len(), block.trailing()))
-}
-
-fn grows_by_events(block: &mut Block) -> Result<bool, OutOfMemory> {
-    let fresh = answered(block, Answer::Done)?;
-    block.invoke(WAITS);
-    let waits = block.trailing() == Some(WAITS);
-    let ended = answered(block, Answer::Empty)?;
-    let ran = Execution {
-        object: 3,
-        op: Op::Deq,
-        answer: Answer::Empty,
-    };
-    Ok(waits && [fresh, ended] == [(0, None), (1, None)] && block.executions() == [ran].as_slice())
-}
-
-fn empty_block_grows(alloc: Global) -> Result<bool, OutOfMemory> {
-    grows_by_events(&mut Block::empty(alloc))
-}
-
-#[test]
-fn a_block_grows_by_events(rt: HostRuntime) {
-    holds(&rt, empty_block_grows(rt.alloc()));
 }

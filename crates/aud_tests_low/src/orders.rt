@@ -1,15 +1,13 @@
-//! Orders of decisions, and placings on outside values with each growth refused in turn.
+//! Orders of decisions, and placings on outside values, with each growth refused in turn.
 
 use crate::fixtures::{
-    Case, READS, Trial, WRITES, WRITTEN, copy_ties, each_holds, history_of, holds, is_refused,
-    refuse_each,
+    Growths, READS, Trial, Tried, WRITES, WRITTEN, each_is_right, end, history_of, record,
 };
-use aud_event::{Answer, Event, Key, OpName, OutOfMemory};
+use aud_event::{Answer, Dup, Event, Key, OpName, OutOfMemory};
 use aud_history::{History, Status};
 use aud_witness::{Agenda, Decision, Fate, OrderFault, Placing, Prefix, allows};
-use std::alloc::{Allocator, Global};
+use std::alloc::Allocator;
 use std::cmp::Ordering;
-use std::process::Abort;
 
 const C1: Decision = Decision {
     tx: 1,
@@ -36,79 +34,35 @@ const C7: Decision = Decision {
     fate: Fate::C,
 };
 
-fn prefix(alloc: Global, decisions: &[Decision]) -> Result<Prefix, OutOfMemory> {
+fn prefix<A: Allocator + Copy>(alloc: A, decisions: &[Decision]) -> Result<Prefix<A>, OutOfMemory> {
     Ok(Prefix::from_decisions(Vec::from_slice(alloc, decisions)?))
 }
 
-/// How two keys compare, at any type of keys.
-fn order<K: Key>(a: &K, b: &K) -> Ordering {
-    a.cmp(b)
+/// Whether a copy ties with its source, at any type that is a key and is copied.
+fn copy_ties<K: Key + Dup>(key: &K) -> Result<bool, OutOfMemory> {
+    Ok(key.dup()?.cmp(key).is_eq())
 }
 
-/// A prefix that is less than another.
-struct Less(&'static [Decision], &'static [Decision]);
-
-impl Case for Less {
-    fn holds(&self, alloc: Global) -> Result<bool, OutOfMemory> {
-        let less = prefix(alloc, self.0)?;
-        let more = prefix(alloc, self.1)?;
-        Ok(order(&less, &more) == Ordering::Less)
-    }
+/// Whether a prefix is less than another, and its copy ties with it.
+fn is_less<A: Allocator + Copy>(
+    alloc: A,
+    less: &[Decision],
+    more: &[Decision],
+) -> Result<bool, OutOfMemory> {
+    let less = prefix(alloc, less)?;
+    let more = prefix(alloc, more)?;
+    Ok(less.cmp(&more) == Ordering::Less && copy_ties(&less)?)
 }
 
-#[test]
-fn prefixes_are_ordered_by_the_first_difference(rt: HostRuntime) {
-    each_holds(
-        &rt,
-        &[
-            Less(&[C1], &[C1, C2]),
-            Less(&[C1, C2], &[A1]),
-            Less(&[A1], &[C2]),
-        ],
-    );
-}
-
-fn prefix_ties(alloc: Global) -> Result<bool, OutOfMemory> {
-    copy_ties(&prefix(alloc, &[C1, C2])?)
-}
-
-#[test]
-fn copies_tie_with_their_sources(rt: HostRuntime) {
-    let ties = [prefix_ties(rt.alloc()), copy_ties(&C2)];
-    assert!(rt; ties == [Ok(true); 2]);
-}
-
-fn push_all(prefix: &mut Prefix, decisions: &[Decision]) -> Result<(), OutOfMemory> {
+/// Whether an empty prefix that the decisions are pushed on has them.
+fn grows_by<A: Allocator + Copy>(
+    grown: &mut Prefix<A>,
+    decisions: &[Decision],
+) -> Result<bool, OutOfMemory> {
     for decision in decisions {
-        prefix.push(*decision)?;
+        grown.push(*decision)?;
     }
-    Ok(())
-}
-
-fn grows_to(grown: &mut Prefix, wanted: &Prefix) -> Result<bool, OutOfMemory> {
-    push_all(grown, &[C1, C2])?;
-    Ok(*grown == *wanted && grown.decisions() == [C1, C2].as_slice())
-}
-
-fn grows_to_both(alloc: Global) -> Result<bool, OutOfMemory> {
-    let both = prefix(alloc, &[C1, C2])?;
-    grows_to(&mut Prefix::empty(alloc), &both)
-}
-
-#[test]
-fn prefixes_grow_by_decisions(rt: HostRuntime) {
-    holds(&rt, grows_to_both(rt.alloc()));
-}
-
-#[test]
-fn order_faults_have_their_numbers(rt: HostRuntime) {
-    let numbers = [
-        OrderFault::UnknownTx(9).number(),
-        OrderFault::Missing(9).number(),
-        OrderFault::RealTime(9).transaction(),
-    ];
-    assert!(rt; numbers == [1, 6, 9]);
-    assert!(rt; allows(Status::CommitPending, Fate::A) && !allows(Status::Live, Fate::C));
+    Ok(grown.decisions() == decisions)
 }
 
 /// Register `x` opens at 0. T1 writes 1 and asks to commit; T2 reads 0 and commits.
@@ -122,33 +76,19 @@ const PENDING_COMMIT_IS_UNSEEN: [(u32, Event); 7] = [
     (2, Event::Commit),
 ];
 
-fn agenda_of<A: Allocator + Copy>(
-    rt: &impl Abort,
-    alloc: A,
-    history: &History<A>,
-) -> Result<Agenda<A>, OutOfMemory> {
-    assert!(rt; history.first_fault().is_none());
-    Agenda::of(alloc, history)
-}
-
-fn has_two_rows(rt: &impl Abort, alloc: Global) -> Result<bool, OutOfMemory> {
-    let history = history_of(rt, alloc, &PENDING_COMMIT_IS_UNSEEN)?;
-    let agenda = agenda_of(rt, alloc, &history)?;
-    Ok(agenda.table().rows().len() == 2)
-}
-
-#[test]
-fn an_agenda_has_a_row_for_each_transaction(rt: HostRuntime) {
-    holds(&rt, has_two_rows(&rt, rt.alloc()));
-}
-
-/// Places each decision that can be placed. Whether what is reported of each is what is wanted.
+/// Places each decision that can be placed, where a refused place leaves the path. Whether what is reported of each is what is
+/// wanted.
 fn place_all<A: Allocator + Copy>(
     placing: &mut Placing<'_, A>,
     cases: &[(Decision, Result<(), OrderFault>)],
 ) -> Result<bool, OutOfMemory> {
     for (decision, wanted) in cases {
-        if placing.place(*decision)? != *wanted {
+        let before = placing.path().len();
+        let placed = placing.place(*decision);
+        if placed.is_err() && placing.path().len() != before {
+            return Ok(false);
+        }
+        if placed? != *wanted {
             return Ok(false);
         }
     }
@@ -176,29 +116,10 @@ fn places_and_takes_back<A: Allocator + Copy>(
     Ok(is_all && is_kept && placing.path() == [C2, A1].as_slice())
 }
 
-/// Places a decision that can be placed. A refused place leaves the path.
-fn place_one<A: Allocator + Copy>(
-    rt: &impl Abort,
-    placing: &mut Placing<'_, A>,
-    decision: Decision,
-) -> Result<bool, OutOfMemory> {
-    let before = placing.path().len();
-    match placing.place(decision) {
-        Ok(placed) => Ok(placed.is_ok()),
-        Err(OutOfMemory) => {
-            assert!(rt; placing.path().len() == before);
-            Err(OutOfMemory)
-        }
-    }
-}
-
 /// Places `1a 2c`, then takes both back.
-fn places_both<A: Allocator + Copy>(
-    rt: &impl Abort,
-    placing: &mut Placing<'_, A>,
-) -> Result<bool, OutOfMemory> {
+fn places_both<A: Allocator + Copy>(placing: &mut Placing<'_, A>) -> Result<bool, OutOfMemory> {
     let is_at_root = !placing.take_back();
-    let are_placed = place_one(rt, placing, A1)? && place_one(rt, placing, C2)?;
+    let are_placed = place_all(placing, &[(A1, Ok(())), (C2, Ok(()))])?;
     let taken = [
         placing.take_back(),
         placing.take_back(),
@@ -208,42 +129,80 @@ fn places_both<A: Allocator + Copy>(
 }
 
 /// Places decisions from a fresh root on, and takes them back.
-fn goes<A: Allocator + Copy>(
-    rt: &impl Abort,
-    alloc: A,
-    history: &History<A>,
-) -> Result<bool, OutOfMemory> {
-    let agenda = agenda_of(rt, alloc, history)?;
+fn goes<A: Allocator + Copy>(alloc: A, history: &History<A>) -> Result<bool, OutOfMemory> {
+    if history.first_fault().is_some() {
+        return Ok(false);
+    }
+    let agenda = Agenda::of(alloc, history)?;
     let mut placing = Placing::root(alloc, history.plan(), &agenda)?;
-    Ok(places_both(rt, &mut placing)? && places_and_takes_back(&mut placing)?)
+    let has_rows = agenda.table().rows().len() == 2;
+    Ok(has_rows && places_both(&mut placing)? && places_and_takes_back(&mut placing)?)
 }
 
-fn pending_goes(rt: &impl Abort, alloc: Global) -> Result<bool, OutOfMemory> {
-    let history = history_of(rt, alloc, &PENDING_COMMIT_IS_UNSEEN)?;
-    goes(rt, alloc, &history)
+/// What is tried of decisions.
+#[derive(Clone, Copy)]
+enum OfDecisions {
+    /// A prefix that is less than another.
+    Less(&'static [Decision], &'static [Decision]),
+    /// A prefix grows by decisions.
+    Grows,
+    /// Decisions are placed and taken back.
+    Placed,
 }
 
-#[test]
-fn decisions_are_placed_and_taken_back(rt: HostRuntime) {
-    holds(&rt, pending_goes(&rt, rt.alloc()));
-}
-
-/// An agenda, and decisions that are placed and taken back.
-struct Placings;
-
-impl Trial for Placings {
-    fn is_refused<R: Abort, A: Allocator + Copy>(
-        rt: &R,
-        alloc: A,
-        _ample: A,
-    ) -> Result<bool, OutOfMemory> {
-        let history = history_of(rt, alloc, &PENDING_COMMIT_IS_UNSEEN)?;
-        assert!(rt; history.events().len() == 7);
-        Ok(is_refused(rt, goes(rt, alloc, &history)))
+impl Trial for OfDecisions {
+    fn tried<A: Allocator + Copy>(&self, alloc: A, _ample: A) -> Tried {
+        match *self {
+            OfDecisions::Less(less, more) => Ok(is_less(alloc, less, more)),
+            OfDecisions::Grows => Ok(grows_by(&mut Prefix::empty(alloc), &[C1, C2])),
+            OfDecisions::Placed => {
+                Ok(goes(alloc, &history_of(alloc, &PENDING_COMMIT_IS_UNSEEN)?))
+            }
+        }
     }
 }
 
 #[test]
-fn each_growth_of_a_placing_is_refused_in_turn(rt: HostRuntime) {
-    refuse_each::<HostRuntime, Placings>(&rt, 6);
+fn prefixes_are_ordered_by_the_first_difference_and_grow(rt: HostRuntime) {
+    each_is_right(
+        &rt,
+        Growths::Met(0),
+        &[
+            OfDecisions::Less(&[C1], &[C1, C2]),
+            OfDecisions::Less(&[C1, C2], &[A1]),
+            OfDecisions::Less(&[A1], &[C2]),
+            OfDecisions::Grows,
+        ],
+    );
+}
+
+#[test]
+fn decisions_are_placed_and_taken_back(rt: HostRuntime) {
+    each_is_right(&rt, Growths::Refused(6), &[OfDecisions::Placed]);
+}
+
+#[test]
+fn copies_tie_with_their_sources(rt: HostRuntime) {
+    let ties = [
+        copy_ties(&7u32),
+        copy_ties(&-7i64),
+        copy_ties(&record(0, 0, 0, 0, Event::TryC)),
+        copy_ties(&end(0, 0)),
+        copy_ties(&C2),
+    ];
+    assert!(rt; ties == [Ok(true); 5]);
+}
+
+#[test]
+fn order_faults_have_their_numbers(rt: HostRuntime) {
+    let numbers = [
+        OrderFault::UnknownTx(9).number(),
+        OrderFault::Missing(9).number(),
+        OrderFault::RealTime(9).transaction(),
+    ];
+    let allowed = [
+        allows(Status::CommitPending, Fate::A),
+        allows(Status::Live, Fate::C),
+    ];
+    assert!(rt; numbers == [1, 6, 9] && allowed == [true, false]);
 }
