@@ -35,7 +35,8 @@ impl<T: Dup, A: Allocator> Model for Tree<T, A> {
 
     ghost view = { λ t. items_of t.left ++ t.item ∷ items_of t.right };
 
-    ghost invariant = { λ t. (t.count ≡ length (items_of t.left ++ t.item ∷ items_of t.right)) × (t.count < 2 ^ 60) × AreBalanced (length (items_of t.left)) (length (items_of t.right)) };
+    ghost invariant = { λ t. (t.count ≡ length (items_of t.left ++ t.item ∷ items_of t.right)) × (t.count < 2 ^ 60)
+        × AreBalanced (length (items_of t.left)) (length (items_of t.right)) };
 
     ghost size = { length };
 

@@ -72,7 +72,9 @@ impl<'a, N: Copy, R: Recorder<N>, A: Allocator + Copy> Model for Memo<'a, N, R, 
 
     ghost view = { λ m. record { shape = m.shape.now; states = states_of (history_of m.shape.now) m.kept.items; recorder = m.recorder } };
 
-    ghost invariant = { λ m. IsTrueMemo m.shape.now (states_of (history_of m.shape.now) m.kept.items) (R.noted m.recorder) (entries_of (history_of m.shape.now) m.spots) m.notes.items m.leads.items × R.is_for m.recorder m.shape.now };
+    ghost invariant = { λ m. IsTrueMemo m.shape.now (states_of (history_of m.shape.now) m.kept.items)
+        (R.noted m.recorder) (entries_of (history_of m.shape.now) m.spots) m.notes.items m.leads.items
+        × R.is_for m.recorder m.shape.now };
 }
 
 /// How much memory a memo takes, about, in bytes.

@@ -45,7 +45,9 @@ impl<'a, A: Allocator + Copy> Model for Ready<'a, A> {
 
     ghost view = { λ r. record { shape = r.shape.now; choices = r.choices.now; marks = r.marks; begun = r.begun } };
 
-    ghost invariant = { λ r. AreChoices (history_of r.shape.now) r.choices.now × HasRows r.choices.now (length r.choices.now) r.rows.items × (length r.marks ≡ length r.choices.now) };
+    ghost invariant = { λ r. AreChoices (history_of r.shape.now) r.choices.now
+        × HasRows r.choices.now (length r.choices.now) r.rows.items
+        × (length r.marks ≡ length r.choices.now) };
 }
 
 impl RowChoices {
