@@ -80,7 +80,8 @@ fn history_of_set<A: Allocator + Copy>(
     ensures { IfOk result (λ h. h ≡ record { plan = plan.value; events = hist set.now }) }
 {
     let _ordered = set.iter();
-    let events = history_of(alloc, set, records, plan.logs())?;
+    let _sound = plan.logs();
+    let events = history_of(alloc, set, records)?;
     Ok(History::new(plan, events))
 }
 
