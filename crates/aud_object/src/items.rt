@@ -88,7 +88,7 @@ impl<A: Allocator + Drop> Items<A> {
     pub(crate) fn enqueue(&mut self, item: i64) -> Result<(), OutOfMemory>
         ensures items { OnOk result (items_in self.new ≡ items_in self.old ++ item ∷ []) }
         ensures back { OnOk result (back_items self.new Change.Enq ≡ self.old) }
-        ensures refused { OnErr result (self.new ≡ self.old) }
+        ensures err { OnErr result (self.new ≡ self.old) }
     {
         self.all.push(item)?;
         Ok(())

@@ -183,7 +183,7 @@ impl<A: Allocator + Clone> Members<A> {
     #[tactic(auto, using(crate::proofs::Sets::stays))]
     fn bring(&mut self, value: i64) -> Result<(), OutOfMemory>
         ensures came { OnOk result (self.new ≡ with_value self.old value) }
-        ensures refused { OnErr result (self.new ≡ self.old) }
+        ensures err { OnErr result (self.new ≡ self.old) }
     {
         self.values.insert(value, true)?;
         Ok(())
@@ -195,7 +195,7 @@ impl<A: Allocator + Clone> Members<A> {
         ensures was { IfOk result (λ o. is_none o ≡ has_member (members self.old) value) }
         ensures after { OnOk result (members self.new ≡ with_member (members self.old) value) }
         ensures back { IfOk result (λ o. MatchOption o (self.new ≡ self.old) (λ change. back_members self.new change ≡ self.old)) }
-        ensures refused { OnErr result (self.new ≡ self.old) }
+        ensures err { OnErr result (self.new ≡ self.old) }
     {
         match self.flag(value) {
             Some(true) => Ok(None),

@@ -26,7 +26,7 @@ pub(crate) fn apply_items<A: Allocator + Drop>(
     ensures answer { IfOk result (λ a. a.0 ≡ answer_of (queue (items_in items.old)) op) }
     ensures after { OnOk result (queue (items_in items.new) ≡ after_op (queue (items_in items.old)) op) }
     ensures back { IfOk result (λ a. MatchOption a.1 (items.new ≡ items.old) (λ change. back_items items.new change ≡ items.old)) }
-    ensures refused { OnErr result (items.new ≡ items.old) }
+    ensures err { OnErr result (items.new ≡ items.old) }
 {
     match op {
         Op::Enq(v) => {

@@ -26,7 +26,7 @@ pub(crate) fn apply_members<A: Allocator + Clone>(
     ensures answer { IfOk result (λ a. a.0 ≡ answer_of (set_of (members set.old)) op) }
     ensures after { OnOk result (set_of (members set.new) ≡ after_op (set_of (members set.old)) op) }
     ensures back { IfOk result (λ a. MatchOption a.1 (set.new ≡ set.old) (λ change. back_members set.new change ≡ set.old)) }
-    ensures refused { OnErr result (set.new ≡ set.old) }
+    ensures err { OnErr result (set.new ≡ set.old) }
 {
     match op {
         Op::Add(v) => {

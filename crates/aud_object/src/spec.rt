@@ -31,7 +31,7 @@ pub trait ObjectSpec {
         requires { is_of_kind kind (name_of op.now) ≡ true }
         ensures answer { IfOk result (λ a. a ≡ answer_of (means state.old) op.now) }
         ensures after { OnOk result (means state.new ≡ after_op (means state.old) op.now) }
-        ensures refused { OnErr result (state.new ≡ state.old) };
+        ensures err { OnErr result (state.new ≡ state.old) };
 
     /// Whether the operation leaves every state as it is.
     fn observes(op: &Op) -> bool

@@ -40,7 +40,7 @@ impl<A: Allocator + Clone> State<A> {
         ensures answer { IfOk result (λ a. a.0 ≡ answer_of (meaning self.old) op) }
         ensures after { OnOk result (meaning self.new ≡ after_op (meaning self.old) op) }
         ensures back { IfOk result (λ a. MatchOption a.1 (self.new ≡ self.old) (λ change. back self.new change ≡ self.old)) }
-        ensures refused { OnErr result (self.new ≡ self.old) }
+        ensures err { OnErr result (self.new ≡ self.old) }
     {
         match self {
             State::Register(value) => Ok(apply_register(value, op)),

@@ -58,7 +58,7 @@ fn apply_at<A: Allocator + Clone>(
     ensures answer { IfOk result (λ r. option_map (λ a. a.0) r ≡ answer_at (map meaning states.old.items) object op) }
     ensures after { OnOk result (map meaning states.new.items ≡ after_at (map meaning states.old.items) object op) }
     ensures back { IfOk result (LeadsBack states.old.items object states.new.items) }
-    ensures refused { OnErr result (states.new.items ≡ states.old.items) }
+    ensures err { OnErr result (states.new.items ≡ states.old.items) }
 {
     match states.get_mut(object as usize) {
         Some(state) => Ok(Some(state.apply(op)?)),
@@ -202,7 +202,7 @@ impl<A: Allocator + Clone> Store<A> {
     /// Notes where a block begins.
     fn mark(&mut self) -> Result<(), OutOfMemory>
         ensures marked { OnOk result (self.new ≡ record { now = self.old.now; past = self.old.now ∷ self.old.past }) }
-        ensures refused { OnErr result (self.new ≡ self.old) }
+        ensures err { OnErr result (self.new ≡ self.old) }
     {
         self.log.push(Entry::Mark)?;
         Ok(())
@@ -243,7 +243,7 @@ impl<A: Allocator + Clone> Store<A> {
     /// memory runs out, the store is as it was. It costs what the block touches.
     pub fn replay<B: Allocator>(&mut self, block: &Block<B>) -> Result<bool, OutOfMemory>
         ensures right { IfOk result (λ right. Replays self.old block.now right self.new) }
-        ensures refused { OnErr result (self.new ≡ self.old) }
+        ensures err { OnErr result (self.new ≡ self.old) }
     {
         self.mark()?;
         let right = self.run(block.executions());

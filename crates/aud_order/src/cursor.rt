@@ -132,7 +132,7 @@ impl<'a, A: Allocator + Copy> Cursor<'a, A> {
         // Only a good decision moves the cursor.
         ensures goes { IfOk result (λ pushed. pushed ≡ Pushed.Good → self.new ≡ cursor_with self.old decision) }
         ensures stays { IfOk result (λ pushed. pushed ≢ Pushed.Good → self.new ≡ self.old) }
-        ensures refused { OnErr result (self.new ≡ self.old) }
+        ensures err { OnErr result (self.new ≡ self.old) }
     {
         let count = self.shape.table().rows().len();
         match self.placing.place(decision)? {

@@ -72,7 +72,7 @@ fn try_block<A: Allocator + Copy>(
     fate: Fate,
 ) -> Result<bool, OutOfMemory>
     ensures right { IfOk result (Tries store.old block.now fate store.new) }
-    ensures refused { OnErr result (store.new ≡ store.old) }
+    ensures err { OnErr result (store.new ≡ store.old) }
 {
     match fate {
         Fate::C => store.replay(block),
@@ -218,7 +218,7 @@ impl<'a, A: Allocator + Copy> Placing<'a, A> {
         ensures placed { IfOk result (λ r. MatchResult r
             (λ _. Advances self.old decision self.new (block_stepped self.old.spot decision place row.now))
             (λ fault. (block_stepped self.old.spot decision place row.now ≡ Err fault) × (self.new ≡ self.old))) }
-        ensures refused { OnErr result (self.new ≡ self.old) }
+        ensures err { OnErr result (self.new ≡ self.old) }
     {
         self.steps.reserve(1)?;
         self.path.reserve(1)?;
@@ -244,7 +244,7 @@ impl<'a, A: Allocator + Copy> Placing<'a, A> {
         ensures placed { IfOk result (λ r. MatchResult r
             (λ _. Advances self.old decision self.new (stepped self.old.agenda.rows self.old.spot decision))
             (λ fault. (stepped self.old.agenda.rows self.old.spot decision ≡ Err fault) × (self.new ≡ self.old))) }
-        ensures refused { OnErr result (self.new ≡ self.old) }
+        ensures err { OnErr result (self.new ≡ self.old) }
     {
         let agenda = self.agenda;
         let Some(place) = agenda.table().place(decision.tx) else {
