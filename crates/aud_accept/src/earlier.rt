@@ -7,13 +7,14 @@ ghost use Rattle.std.specs.List.{Contains};
 use aud_event::OutOfMemory;
 use aud_witness::Prefix;
 use std::alloc::{Allocator, Global};
-use std::collections::BTreeSet;
+use std::collections::HashSet;
+use std::hash::{BuildHasherDefault, FoldHasher};
 use std::marker::Model;
 
 /// A set of prefixes, seen as the list of them.
 #[derive(Drop)]
 pub(crate) struct Earlier<A: Allocator = Global> {
-    prefixes: BTreeSet<Prefix<A>, A>,
+    prefixes: HashSet<Prefix<A>, BuildHasherDefault<FoldHasher>, A>,
 }
 
 impl<A: Allocator> Model for Earlier<A> {
@@ -31,7 +32,7 @@ impl<A: Allocator + Copy> Earlier<A> {
         ensures { result ≡ [] }
     {
         Earlier {
-            prefixes: BTreeSet::new(alloc),
+            prefixes: HashSet::new(alloc),
         }
     }
 

@@ -1,4 +1,5 @@
 pub mod DecisionOrder
+pub mod Hashing
 pub mod Orders
 pub mod Prefixes
 pub mod Selection

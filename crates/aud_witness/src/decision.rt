@@ -5,21 +5,23 @@ ghost use Rattle.std.specs.Cmp.Lexicographic.{slice_cmp, lists_total};
 ghost use Rattle.std.specs.Cmp.{po, eq_by_cmp_equiv, partial_equiv_from_equiv};
 ghost use Rattle.std.specs.Ordering.{eq_by_cmp, as_partial_cmp};
 ghost use Rattle.aud_witness.specs.DecisionOrder.{decision_cmp, decisions_total, decision_exact, prefix_exact};
+ghost use Rattle.aud_witness.specs.Hashing.{list_input, same_input};
 
 use aud_event::{Dup, Key, OutOfMemory};
 use std::alloc::{Allocator, Global};
 use std::cmp::Ordering;
+use std::hash::{Hash, Hasher};
 use std::marker::Model;
 
 /// What a completion makes of a transaction: `C`, it commits, or `A`, it aborts.
-#[derive(Clone, Copy, Debug, PartialEq, Eq, PartialOrd, Ord)]
+#[derive(Clone, Copy, Debug, PartialEq, Eq, PartialOrd, Ord, Hash)]
 pub enum Fate {
     C,
     A,
 }
 
 /// A transaction with its fate. Decisions are ordered by the transaction's number, then `C` before `A`.
-#[derive(Clone, Copy, Debug, PartialEq, Eq, PartialOrd, Ord)]
+#[derive(Clone, Copy, Debug, PartialEq, Eq, PartialOrd, Ord, Hash)]
 pub struct Decision {
     pub tx: u32,
     pub fate: Fate,
@@ -150,6 +152,16 @@ impl<A: Allocator> PartialEq for Prefix<A> {
 
     fn eq(&self, other: &Prefix<A>) -> bool {
         self.cmp(other).is_eq()
+    }
+}
+
+impl<A: Allocator> Hash for Prefix<A> {
+    ghost hash_input = { list_input };
+
+    ghost respects_eq = { same_input };
+
+    fn hash<H: Hasher>(&self, state: &mut H) {
+        self.decisions.hash(state);
     }
 }
 
