@@ -3,7 +3,7 @@ use Rattle.std.proofs.Common.{◌≡◌, ◌<◌, ◌+◌, ◌-◌, ℕ, suc, Li
 use Rattle.std.specs.List.{All}
 use Rattle.std.proofs.lemmas.Fmt.{length-decimal-le}
 use Rattle.std.proofs.lemmas.List.Elements.{All-head, All-tail}
-use Rattle.json.specs.Print.{escape_byte, escape, quoted}
+use Rattle.json.specs.Print.{escape_byte, escape}
 use Rattle.json.proofs.Printed.Decimals.{IsNumber-decimal}
 use Rattle.serde_json.specs.Data.{Data, unsigned, number, string, object, no_members, member}
 use Rattle.serde_json.specs.Read.{read}
@@ -17,8 +17,6 @@ use Rattle.aud_text.proofs.OrderText.{reads_back}
 use Rattle.aud_text.proofs.Spelling.{IsPlain, plain_reads, quoted_then}
 use Rattle.aud_accept.specs.declared.cert.CertLine.TheVariants.{Kids, Silent, Same}
 use Rattle.aud_cert.specs.LineText.{Line, line_read, line_judged}
-use Rattle.aud_cert.specs.LineText as text
-use Rattle.aud_cert.specs.declared.reason.Reason.TheVariants as by
 use Rattle.aud_cert.specs.CertText.{header_read, lines_read, headed, lines_headed, with_line, cert_read}
 use Rattle.aud_cert.specs.Written.{line_text, header_text, ended, cert_text, IsShort, HasShort, IsWithin}
 use Rattle.aud_cert.proofs.Bytes.{plain-escape, order-plain}
@@ -83,7 +81,7 @@ header-short n h =
     let parts : length (header_text n) ≡ 8 + (length (decimal n) + 1) = omega (arith, length-append (decimal n) (codes "}")) in
     grind (arith, digits, parts)
 
-line-back : (line : Line) → IsWithin line → line_read (line_text line) ≡ Ok line
+pub line-back : (line : Line) → IsWithin line → line_read (line_text line) ≡ Ok line
 line-back line within =
     let t : nat_le (length (line_text line)) 65536 ≡ true = grind (arith, within.text) in
     let utf8 = text-utf8 (line_text line) (line-are_text line within.orders) in

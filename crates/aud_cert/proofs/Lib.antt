@@ -4,3 +4,4 @@ pub mod Parts
 pub mod Bytes
 pub mod LineBytes
 pub mod Back
+pub mod LineSpelled

@@ -1,7 +1,7 @@
 -- The lines that a search writes are accepted.
 use Rattle.std.specs.Prelude.{◌≡◌, ℕ, zero, suc, ◌+◌, ◌<◌, true, List, [], ◌∷◌, ◌++◌, map, length, take, Some, slice_get, refl}
 use Rattle.std.specs.List.{Contains}
-use Rattle.std.proofs.Common.{sym, ◌∙◌, ap, subst, arith, append_assoc, get_or}
+use Rattle.std.proofs.Common.{sym, ◌∙◌, ap, subst, arith, append_assoc}
 use Rattle.std.proofs.lemmas.List.{append-nil, length-map}
 use Rattle.std.proofs.lemmas.Option.{slice_get_within, get_or_from_slice_get}
 use Rattle.aud_event.specs.Meanings.{Declared}
@@ -13,7 +13,7 @@ use Rattle.aud_search.specs.Recorders.{HasNote, IsHearable, IsNotedAlike}
 use Rattle.aud_search.specs.Recorders as heard
 use Rattle.aud_accept.specs.declared.cert.CertLine.{CertLine}
 use Rattle.aud_accept.specs.declared.cert.CertLine.TheVariants.{Kids, Silent, Same}
-use Rattle.aud_accept.specs.Acceptance.{prefix_in, LeadAlike, HasKids, HasSilent, IsAcceptedLine, AreAccepted, EndsEmpty, IsAccepted}
+use Rattle.aud_accept.specs.Acceptance.{prefix_in, LeadAlike, IsAcceptedLine, AreAccepted, EndsEmpty, IsAccepted}
 use Rattle.aud_accept.proofs.Alike.{placed_at, are-alike}
 use Rattle.aud_cert.specs.Recorded.{LinesOf}
 use Rattle.aud_search.proofs.MemoLemmas.{last-there}

@@ -8,15 +8,19 @@ use Rattle.aud_cert.specs.CertText.{cert_read}
 use Rattle.aud_accept.specs.declared.cert.CertLine.{CertLine}
 use Rattle.aud_accept.specs.declared.cert.CertLine.TheVariants.{Kids, Silent, Same}
 
+-- the prefix, after the word before it
+abbrev pub prefix_text : List Decision → List ℕ
+prefix_text p = codes "\",\"p\":\"" ++ (order_text p ++ codes "\"}")
+
 -- lines without their line feeds, their keys in the order of their bytes
 abbrev pub kids_text : List Decision → List ℕ
-kids_text p = codes "{\"by\":\"kids\",\"p\":\"" ++ (order_text p ++ codes "\"}")
+kids_text p = codes "{\"by\":\"kids" ++ prefix_text p
 
 abbrev pub silent_text : List Decision → Decision → List ℕ
-silent_text p d = codes "{\"by\":\"silent\",\"d\":\"" ++ (decision_text d ++ (codes "\",\"p\":\"" ++ (order_text p ++ codes "\"}")))
+silent_text p d = codes "{\"by\":\"silent\",\"d\":\"" ++ (decision_text d ++ prefix_text p)
 
 abbrev pub same_text : List Decision → List Decision → List ℕ
-same_text p q = codes "{\"as\":\"" ++ (order_text q ++ (codes "\",\"by\":\"same\",\"p\":\"" ++ (order_text p ++ codes "\"}")))
+same_text p q = codes "{\"as\":\"" ++ (order_text q ++ (codes "\",\"by\":\"same" ++ prefix_text p))
 
 abbrev pub line_text : {X : Type 0} → CertLine X → List ℕ
 line_text (Kids p) = kids_text p

@@ -9,6 +9,7 @@ mod lines;
 mod making;
 mod read;
 mod reason;
+mod spelled;
 mod write;
 
 pub use aud_accept::{Cert, CertLine, check_cert};

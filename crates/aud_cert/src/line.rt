@@ -5,6 +5,7 @@ ghost use Rattle.serde_json.specs.View.{view, members_view};
 ghost use Rattle.aud_cert.specs.LineText.{order_at, is_long, is_out_of_range, is_one, all_texts, only_of, list_of, fault_with, line_of, line_judged, line_read};
 
 use crate::reason::{Reason, allowed_keys, reason_in, required_keys};
+use crate::spelled::line_spelled;
 use aud_accept::CertLine;
 use aud_event::OutOfMemory;
 use aud_text::{
@@ -74,7 +75,7 @@ fn has_great_id(text: &OrderText) -> bool
 }
 
 /// The one decision of a list of one.
-fn only(decisions: &[Decision]) -> Option<Decision>
+pub(crate) fn only(decisions: &[Decision]) -> Option<Decision>
     ensures { result ≡ only_of decisions.now }
 {
     match decisions {
@@ -190,6 +191,10 @@ pub(crate) fn read_line(alloc: Global, line: &[u8]) -> Result<CertLine, TextFaul
     ensures { MatchResult result (λ l. line_read line.now ≡ Ok l)
         (λ e. (e ≡ TextFault.OutOfMemory) ⊎ (line_read line.now ≡ Err e)) }
 {
+    // Most lines are spelled as they are written here, and need no JSON value.
+    if let Some(read) = line_spelled(alloc, line) {
+        return Ok(read);
+    }
     let value = match json_in(alloc, line, CERT_LINE_MAX) {
         Ok(value) => value,
         Err(fault) => return Err(fault),

@@ -18,7 +18,7 @@ use Rattle.aud_text.specs.declared.fault.TextFault.TheVariants as fault
 use Rattle.aud_text.specs.declared.word.WordRead.{WordRead}
 use Rattle.aud_text.specs.declared.word.WordRead.TheVariants.{Decided, TooGreat, Unknown}
 use Rattle.aud_text.specs.Orders.{words_of, words_read, word_read, with_word, order_read, order_text, decision_text, fate_letter}
-use Rattle.aud_text.proofs.Words.{word_reads_back, word_exact}
+use Rattle.aud_text.proofs.Words.{word_reads_back, word_exact, word_low}
 
 abbrev is_space : ℕ → Bool
 is_space b = b == 32
@@ -140,6 +140,22 @@ exact t ds h = by_length (nat_le (length t) 32768) (bytes_eq t (codes "none")) r
     by_length false c e g = absurd (cc)
     by_length true true e g = let same : t ≡ codes "none" = (bytes_eq-Decides t (codes "none")).0 e in let none : ds ≡ [] = cc in same ∙ ap order_text (sym none)
     by_length true false e g = texts_join t ds g
+
+words_low : (ws : List (List ℕ)) (ds : List Decision) → words_read ws ≡ Ok ds → All Low ds
+words_low [] [] h = All-nil Low
+words_low [] (d ∷ ds) h = absurd (cc)
+words_low (w ∷ ws) ds h =
+    let r = with_word_ok (word_read w) (words_read ws) ds h in
+    subst (All Low) (sym r.4) (All-cons Low r.0 r.1 (word_low w r.0 r.2) (words_low ws r.1 r.3))
+
+-- what reads as decisions is within the limits
+pub within : (t : List ℕ) (ds : List Decision) → order_read t ≡ Ok ds → All (λ d. d.tx < 1024) ds × (length t ≤ 32768)
+within t ds h = by_length (nat_le (length t) 32768) (bytes_eq t (codes "none")) refl h
+  where
+    by_length : (b c : Bool) → nat_le (length t) 32768 ≡ b → cond b (cond c (Ok []) (words_read (words_of t))) (Err fault.TooLong) ≡ Ok ds → All Low ds × (length t ≤ 32768)
+    by_length false c e g = absurd (cc)
+    by_length true true e g = let none : [] ≡ ds = cc in (subst (All Low) none (All-nil Low), grind (arith, e))
+    by_length true false e g = (words_low (words_of t) ds g, grind (arith, e))
 
 -- what the writer's steps leave
 pub order_written : (start mid all : List ℕ) (d : Decision) (ds order : List Decision) → start ≡ [] → mid ≡ start ++ decision_text d → all ≡ mid ++ flat_map (λ e. 32 ∷ decision_text e) ds → order ≡ d ∷ ds

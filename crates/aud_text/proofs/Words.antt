@@ -1,5 +1,5 @@
 -- What words say, and the words of a text.
-use Rattle.std.proofs.Common.{◌≡◌, ◌<◌, ◌≤◌, ◌-◌, ℕ, zero, suc, List, [], ◌∷◌, ◌++◌, Bool, true, false, ◌&&◌, ◌||◌, ◌==◌, not, length, take, get_or, slice_index, nat_lt, nat_le, cond, decimal, Result, Ok, Err, length-append, append_assoc, refl, ap, ◌∙◌, sym, arith}
+use Rattle.std.proofs.Common.{subst, ◌≡◌, ◌<◌, ◌≤◌, ◌-◌, ℕ, zero, suc, List, [], ◌∷◌, ◌++◌, Bool, true, false, ◌&&◌, ◌||◌, ◌==◌, not, length, take, get_or, slice_index, nat_lt, nat_le, cond, decimal, Result, Ok, Err, length-append, append_assoc, refl, ap, ◌∙◌, sym, arith}
 use Rattle.std.specs.Str.Parse.{digits_value, AllDigits}
 use Rattle.std.proofs.lemmas.Str.Parse.{digit_from_value, IsNumeralModel}
 use Rattle.std.proofs.lemmas.Fmt.{decimal_is_IsNumeral, first_decimal, decimal_digit, decimal-digits_value}
@@ -121,6 +121,27 @@ word_exact [] d h = absurd (cc)
 word_exact (x ∷ xs) d h =
     let r = last_apart x xs in
     r.2 ∙ ended_exact r.0 r.1 d (sym (word_ended r.0 r.1) ∙ (ap word_read (sym r.2) ∙ h))
+
+-- ---- what reads as a decision has an id within the limit
+
+id_low : (ds : List ℕ) (f : Fate) (d : Decision) → id_read ds f ≡ Decided d → d.tx < 1024
+id_low ds f d h =
+    let r = good_id (is_plain ds) (nat_lt (digits_value 10 ds) 1024) (record { tx = digits_value 10 ds; fate = f }) d h in
+    let low : digits_value 10 ds < 1024 = grind (arith, r.1) in
+    subst (λ e. e.tx < 1024) r.2 low
+
+ended_low : (ds : List ℕ) (x : ℕ) (d : Decision) → ended_read x ds ≡ Decided d → d.tx < 1024
+ended_low ds x d h = by_letter (x == 99) (x == 97) h
+  where
+    by_letter : (b c : Bool) → cond b (id_read ds C) (cond c (id_read ds A) Unknown) ≡ Decided d → d.tx < 1024
+    by_letter true c g = id_low ds C d g
+    by_letter false true g = id_low ds A d g
+    by_letter false false g = absurd (cc)
+
+pub word_low : (w : List ℕ) (d : Decision) → word_read w ≡ Decided d → d.tx < 1024
+word_low [] d h = absurd (cc)
+word_low (x ∷ xs) d h =
+    let r = last_apart x xs in ended_low r.0 r.1 d (sym (word_ended r.0 r.1) ∙ (ap word_read (sym r.2) ∙ h))
 
 -- ---- what was read so far
 

@@ -16,8 +16,8 @@ use crate::write::{argument_in, name_at};
 use aud_event::{Answer, EndMark, Event, Fact, Op, OpName, Plan, Record};
 use std::alloc::Allocator;
 
-/// What stands after the text, where the line begins with it.
-fn after<'l>(line: &'l [u8], text: &str) -> Option<&'l [u8]>
+/// What stands after the text, where the line begins with it. It does not allocate.
+pub fn after<'l>(line: &'l [u8], text: &str) -> Option<&'l [u8]>
     ensures { IfSome result (λ rest. line.now ≡ text.now ++ rest.now) }
 {
     line.strip_prefix(text.as_bytes())

@@ -1,1 +1,0 @@
-use Rattle.aud_cert.proofs.making.make_cert.Goals as goal

@@ -1,5 +1,5 @@
 use Rattle.std.specs.Prelude.{◌≡◌, ◌<◌, ◌+◌, Some, [], map, length, refl, slice_get}
-use Rattle.std.proofs.Common.{sym, ap, subst, arith}
+use Rattle.std.proofs.Common.{sym, subst, arith}
 use Rattle.aud_order.specs.Shapes.{objects_of, history_of}
 use Rattle.aud_accept.specs.Acceptance.{prefix_in, IsAccepted}
 use Rattle.aud_cert.specs.Recorded.{LinesOf}
