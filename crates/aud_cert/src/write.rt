@@ -1,12 +1,12 @@
 //! Writing the text of a certificate.
 
 ghost use Rattle.std.specs.Prelude.{◌≡◌, ◌++◌, ◌∷◌, [], IfOk, OnOk};
-ghost use Rattle.aud_text.specs.Orders.{order_text, decision_text, fate_letter};
+ghost use Rattle.aud_text.specs.Orders.{decision_text, fate_letter};
 ghost use Rattle.aud_cert.specs.Written.{kids_text, silent_text, same_text, line_text, header_text, ended, cert_text, ReadsBack};
 
 use aud_accept::{Cert, CertLine};
 use aud_event::OutOfMemory;
-use aud_text::write_order;
+use aud_text::push_order;
 use aud_witness::{Decision, Fate, Prefix};
 use itoa::Buffer;
 use std::alloc::Allocator;
@@ -15,18 +15,6 @@ fn push_text<A: Allocator>(text: &mut Vec<u8, A>, part: &str) -> Result<(), OutO
     ensures { OnOk result (text.new.items ≡ text.old.items ++ part.now) }
 {
     text.extend_from_slice(part.as_bytes())?;
-    Ok(())
-}
-
-fn push_order<A: Allocator + Copy, B: Allocator>(
-    alloc: A,
-    text: &mut Vec<u8, A>,
-    order: &Prefix<B>,
-) -> Result<(), OutOfMemory>
-    ensures { OnOk result (text.new.items ≡ text.old.items ++ order_text order.now) }
-{
-    let order = write_order(alloc, order)?;
-    text.extend_from_slice(&order)?;
     Ok(())
 }
 
@@ -48,21 +36,19 @@ fn push_decision<A: Allocator>(text: &mut Vec<u8, A>, decision: Decision) -> Res
     Ok(())
 }
 
-fn push_kids<A: Allocator + Copy, B: Allocator>(
-    alloc: A,
+fn push_kids<A: Allocator, B: Allocator>(
     text: &mut Vec<u8, A>,
     prefix: &Prefix<B>,
 ) -> Result<(), OutOfMemory>
     ensures { OnOk result (text.new.items ≡ text.old.items ++ kids_text prefix.now) }
 {
     push_text(text, "{\"by\":\"kids\",\"p\":\"")?;
-    push_order(alloc, text, prefix)?;
+    push_order(text, prefix)?;
     push_text(text, "\"}")?;
     Ok(())
 }
 
-fn push_silent<A: Allocator + Copy, B: Allocator>(
-    alloc: A,
+fn push_silent<A: Allocator, B: Allocator>(
     text: &mut Vec<u8, A>,
     prefix: &Prefix<B>,
     decision: Decision,
@@ -72,13 +58,12 @@ fn push_silent<A: Allocator + Copy, B: Allocator>(
     push_text(text, "{\"by\":\"silent\",\"d\":\"")?;
     push_decision(text, decision)?;
     push_text(text, "\",\"p\":\"")?;
-    push_order(alloc, text, prefix)?;
+    push_order(text, prefix)?;
     push_text(text, "\"}")?;
     Ok(())
 }
 
-fn push_same<A: Allocator + Copy, B: Allocator>(
-    alloc: A,
+fn push_same<A: Allocator, B: Allocator>(
     text: &mut Vec<u8, A>,
     prefix: &Prefix<B>,
     other: &Prefix<B>,
@@ -86,36 +71,34 @@ fn push_same<A: Allocator + Copy, B: Allocator>(
     ensures { OnOk result (text.new.items ≡ text.old.items ++ same_text prefix.now other.now) }
 {
     push_text(text, "{\"as\":\"")?;
-    push_order(alloc, text, other)?;
+    push_order(text, other)?;
     push_text(text, "\",\"by\":\"same\",\"p\":\"")?;
-    push_order(alloc, text, prefix)?;
+    push_order(text, prefix)?;
     push_text(text, "\"}")?;
     Ok(())
 }
 
-fn push_keys<A: Allocator + Copy, B: Allocator>(
-    alloc: A,
+fn push_keys<A: Allocator, B: Allocator>(
     text: &mut Vec<u8, A>,
     line: &CertLine<B>,
 ) -> Result<(), OutOfMemory>
     ensures { OnOk result (text.new.items ≡ text.old.items ++ line_text line.now) }
 {
     match line {
-        CertLine::Kids(prefix) => push_kids(alloc, text, prefix),
-        CertLine::Silent(prefix, decision) => push_silent(alloc, text, prefix, *decision),
-        CertLine::Same(prefix, other) => push_same(alloc, text, prefix, other),
+        CertLine::Kids(prefix) => push_kids(text, prefix),
+        CertLine::Silent(prefix, decision) => push_silent(text, prefix, *decision),
+        CertLine::Same(prefix, other) => push_same(text, prefix, other),
     }
 }
 
 /// Adds the line, with its line feed.
-fn push_line<A: Allocator + Copy, B: Allocator>(
-    alloc: A,
+fn push_line<A: Allocator, B: Allocator>(
     text: &mut Vec<u8, A>,
     line: &CertLine<B>,
 ) -> Result<(), OutOfMemory>
     ensures { OnOk result (text.new.items ≡ text.old.items ++ ended (line_text line.now)) }
 {
-    push_keys(alloc, text, line)?;
+    push_keys(text, line)?;
     push_text(text, "\n")
 }
 
@@ -137,7 +120,7 @@ fn text_of<A: Allocator + Copy, B: Allocator>(
     let mut text = Vec::new(alloc);
     push_header(&mut text, cert.lines.len())?;
     for line in &cert.lines {
-        push_line(alloc, &mut text, line)?;
+        push_line(&mut text, line)?;
     }
     Ok(text)
 }

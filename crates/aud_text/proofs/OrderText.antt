@@ -1,5 +1,5 @@
 -- The words of a text, and the text of decisions.
-use Rattle.std.proofs.Common.{◌≡◌, ◌<◌, ◌≤◌, ◌+◌, ℕ, List, [], ◌∷◌, ◌++◌, Bool, true, false, ◌==◌, map, length, take, drop, nat_lt, nat_le, cond, decimal, codes, bytes_eq, Option, Some, None, Result, Ok, Err, flat_map, refl, ap, ◌∙◌, sym, subst, arith}
+use Rattle.std.proofs.Common.{◌≡◌, ◌<◌, ◌≤◌, ◌+◌, ℕ, List, [], ◌∷◌, ◌++◌, Bool, true, false, ◌==◌, map, length, take, drop, nat_lt, nat_le, cond, decimal, codes, bytes_eq, Option, Some, None, Result, Ok, Err, flat_map, append_assoc, refl, ap, ◌∙◌, sym, subst, arith}
 use Rattle.std.specs.Prelude.{position}
 use Rattle.std.specs.List.{All, join_with_byte, position_or_len}
 use Rattle.std.specs.Str.Parse.{AllDigits}
@@ -158,10 +158,11 @@ within t ds h = by_length (nat_le (length t) 32768) (bytes_eq t (codes "none")) 
     by_length true false e g = (words_low (words_of t) ds g, grind (arith, e))
 
 -- what the writer's steps leave
-pub order_written : (start mid all : List ℕ) (d : Decision) (ds order : List Decision) → start ≡ [] → mid ≡ start ++ decision_text d → all ≡ mid ++ flat_map (λ e. 32 ∷ decision_text e) ds → order ≡ d ∷ ds
-    → all ≡ order_text order
-order_written start mid all d ds order s m a o =
-    a ∙ (ap (λ t. t ++ flat_map (λ e. 32 ∷ decision_text e) ds) (m ∙ ap (λ t. t ++ decision_text d) s) ∙ (join-more d ds ∙ ap order_text (sym o)))
+pub order_pushed : (start mid all : List ℕ) (d : Decision) (ds order : List Decision) → mid ≡ start ++ decision_text d → all ≡ mid ++ flat_map (λ e. 32 ∷ decision_text e) ds → order ≡ d ∷ ds
+    → all ≡ start ++ order_text order
+order_pushed start mid all d ds order m a o =
+    let more = flat_map (λ e. 32 ∷ decision_text e) ds in
+    a ∙ (ap (λ t. t ++ more) m ∙ (append_assoc start (decision_text d) more ∙ ap (λ t. start ++ t) (join-more d ds ∙ ap order_text (sym o))))
 
 pub written_back : (text : List ℕ) (ds : List Decision) → text ≡ order_text ds → All (λ d. d.tx < 1024) ds → length text ≤ 32768 → order_read text ≡ Ok ds
 written_back text ds e h l = ap order_read e ∙ reads_back ds h (subst (λ t. length t ≤ 32768) e l)

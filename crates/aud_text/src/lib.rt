@@ -17,7 +17,9 @@ mod write;
 pub use fact::{LINE_MAX, judge, read_fact};
 pub use fault::{PlanTextFault, TextFault};
 pub use line::{FilledLine, LineAt, count_lines, first_line, next_filled};
-pub use order::{ORDER_MAX, orders_read_back, orders_read_exactly, read_order, write_order};
+pub use order::{
+    ORDER_MAX, orders_read_back, orders_read_exactly, push_order, read_order, write_order,
+};
 pub use plan::read_plan;
 pub use spelled::after;
 pub use value::{has_only_allowed, has_required, json_in, text_if_there, whole_of, word_of};

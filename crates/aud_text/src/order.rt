@@ -114,7 +114,27 @@ fn push_more<A: Allocator>(text: &mut Vec<u8, A>, decisions: &[Decision]) -> Res
     Ok(())
 }
 
-/// The text of the decisions: `none`, or each with a space before the next.
+/// Puts the text of the decisions at the end: `none`, or each with a space before the next.
+pub fn push_order<A: Allocator, B: Allocator>(
+    text: &mut Vec<u8, A>,
+    order: &Prefix<B>,
+) -> Result<(), OutOfMemory>
+    ensures { OnOk result (text.new.items ≡ text.old.items ++ order_text order.now) }
+{
+    match order.decisions().split_first() {
+        None => {
+            text.extend_from_slice(b"none")?;
+            Ok(())
+        }
+        Some((first, rest)) => {
+            push_decision(text, *first)?;
+            push_more(text, rest)?;
+            Ok(())
+        }
+    }
+}
+
+/// The text of the decisions.
 ///
 /// It reads as the decisions where their ids are below 1,024 and the text is not too long.
 pub fn write_order<A: Allocator + Drop, B: Allocator>(
@@ -125,12 +145,7 @@ pub fn write_order<A: Allocator + Drop, B: Allocator>(
     ensures reads_back { IfOk result (λ text. ReadsBackAs order.now text.items) }
 {
     let mut text = Vec::new(alloc);
-    let Some((first, rest)) = order.decisions().split_first() else {
-        text.extend_from_slice(b"none")?;
-        return Ok(text);
-    };
-    push_decision(&mut text, *first)?;
-    push_more(&mut text, rest)?;
+    push_order(&mut text, order)?;
     Ok(text)
 }
 
