@@ -1,5 +1,6 @@
 -- The words of a text, and the text of decisions.
 use Rattle.std.proofs.Common.{◌≡◌, ◌<◌, ◌≤◌, ◌+◌, ℕ, List, [], ◌∷◌, ◌++◌, Bool, true, false, ◌==◌, map, length, take, drop, nat_lt, nat_le, cond, decimal, codes, bytes_eq, Option, Some, None, Result, Ok, Err, flat_map, append_assoc, refl, ap, ◌∙◌, sym, subst, arith}
+use mathlib.Core.List.{IsPrefix}
 use Rattle.std.specs.Prelude.{position}
 use Rattle.std.specs.List.{All, join_with_byte, position_or_len}
 use Rattle.std.specs.Str.Parse.{AllDigits}
@@ -163,6 +164,13 @@ pub order_pushed : (start mid all : List ℕ) (d : Decision) (ds order : List De
 order_pushed start mid all d ds order m a o =
     let more = flat_map (λ e. 32 ∷ decision_text e) ds in
     a ∙ (ap (λ t. t ++ more) m ∙ (append_assoc start (decision_text d) more ∙ ap (λ t. start ++ t) (join-more d ds ∙ ap order_text (sym o))))
+
+-- a text with more behind it, one byte more and what came after that
+pub further : (start more now mid new : List ℕ) (b : ℕ) → now ≡ start ++ more → mid ≡ now ++ b ∷ [] → IsPrefix mid new → IsPrefix start new
+further start more now mid new b n m p =
+    let one = more ++ b ∷ [] in
+    let first : start ++ one ≡ mid = sym (append_assoc start more (b ∷ [])) ∙ (ap (λ t. t ++ b ∷ []) (sym n) ∙ sym m) in
+    (one ++ p.0, sym (append_assoc start one p.0) ∙ (ap (λ t. t ++ p.0) first ∙ p.1))
 
 pub written_back : (text : List ℕ) (ds : List Decision) → text ≡ order_text ds → All (λ d. d.tx < 1024) ds → length text ≤ 32768 → order_read text ≡ Ok ds
 written_back text ds e h l = ap order_read e ∙ reads_back ds h (subst (λ t. length t ≤ 32768) e l)

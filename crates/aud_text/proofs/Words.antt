@@ -1,5 +1,5 @@
 -- What words say, and the words of a text.
-use Rattle.std.proofs.Common.{subst, ◌≡◌, ◌<◌, ◌≤◌, ◌-◌, ℕ, zero, suc, List, [], ◌∷◌, ◌++◌, Bool, true, false, ◌&&◌, ◌||◌, ◌==◌, not, length, take, get_or, slice_index, nat_lt, nat_le, cond, decimal, Result, Ok, Err, length-append, append_assoc, refl, ap, ◌∙◌, sym, arith}
+use Rattle.std.proofs.Common.{◌≡◌, ◌<◌, ◌≤◌, ◌-◌, ℕ, zero, suc, List, [], ◌∷◌, ◌++◌, Bool, true, false, ◌&&◌, ◌||◌, ◌==◌, not, length, take, get_or, slice_index, nat_lt, nat_le, cond, decimal, Result, Ok, Err, length-append, append_assoc, refl, ap, ◌∙◌, sym, subst, arith}
 use Rattle.std.specs.Str.Parse.{digits_value, AllDigits}
 use Rattle.std.proofs.lemmas.Str.Parse.{digit_from_value, IsNumeralModel}
 use Rattle.std.proofs.lemmas.Fmt.{decimal_is_IsNumeral, first_decimal, decimal_digit, decimal-digits_value}

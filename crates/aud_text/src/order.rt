@@ -1,6 +1,7 @@
 //! Order texts: lists of decisions.
 
-ghost use Rattle.std.specs.Prelude.{◌≡◌, ◌<◌, ◌==◌, ◌++◌, ◌∷◌, ◌⊎◌, ℕ, List, Ok, Err, All, length, position, IfOk, OnOk, IfSome, MatchResult, option_map, flat_map};
+ghost use Rattle.std.specs.Prelude.{◌≡◌, ◌<◌, ◌==◌, ◌++◌, ◌∷◌, ◌⊎◌, ℕ, List, Ok, Err, All, length, position, IfOk, OnOk, OnErr, IfSome, MatchResult, option_map, flat_map};
+ghost use mathlib.Core.List.{IsPrefix};
 ghost use Rattle.aud_witness.specs.declared.decision.Decision.{Decision as DecisionOf};
 ghost use Rattle.aud_text.specs.Orders.{words_of, words_left, words_read, order_read, order_text, decision_text, fate_letter, ReadsBackAs};
 
@@ -96,7 +97,8 @@ fn letter_of(fate: Fate) -> u8
 }
 
 fn push_decision<A: Allocator>(text: &mut Vec<u8, A>, decision: Decision) -> Result<(), OutOfMemory>
-    ensures { OnOk result (text.new.items ≡ text.old.items ++ decision_text decision) }
+    ensures ok { OnOk result (text.new.items ≡ text.old.items ++ decision_text decision) }
+    ensures err { OnErr result (IsPrefix text.old.items text.new.items) }
 {
     let mut buffer = Buffer::new();
     text.extend_from_slice(buffer.format(decision.tx).as_bytes())?;
@@ -105,7 +107,8 @@ fn push_decision<A: Allocator>(text: &mut Vec<u8, A>, decision: Decision) -> Res
 }
 
 fn push_more<A: Allocator>(text: &mut Vec<u8, A>, decisions: &[Decision]) -> Result<(), OutOfMemory>
-    ensures { OnOk result (text.new.items ≡ text.old.items ++ flat_map (λ d. 32 ∷ decision_text d) decisions.now) }
+    ensures ok { OnOk result (text.new.items ≡ text.old.items ++ flat_map (λ d. 32 ∷ decision_text d) decisions.now) }
+    ensures err { OnErr result (IsPrefix text.old.items text.new.items) }
 {
     for decision in decisions {
         text.push(b' ')?;
@@ -114,14 +117,14 @@ fn push_more<A: Allocator>(text: &mut Vec<u8, A>, decisions: &[Decision]) -> Res
     Ok(())
 }
 
-/// Puts the text of the decisions at the end: `none`, or each with a space before the next.
-pub fn push_order<A: Allocator, B: Allocator>(
+fn push_decisions<A: Allocator>(
     text: &mut Vec<u8, A>,
-    order: &Prefix<B>,
+    decisions: &[Decision],
 ) -> Result<(), OutOfMemory>
-    ensures { OnOk result (text.new.items ≡ text.old.items ++ order_text order.now) }
+    ensures ok { OnOk result (text.new.items ≡ text.old.items ++ order_text decisions.now) }
+    ensures err { OnErr result (IsPrefix text.old.items text.new.items) }
 {
-    match order.decisions().split_first() {
+    match decisions.split_first() {
         None => {
             text.extend_from_slice(b"none")?;
             Ok(())
@@ -132,6 +135,22 @@ pub fn push_order<A: Allocator, B: Allocator>(
             Ok(())
         }
     }
+}
+
+/// Puts the text of the decisions at the end: `none`, or each with a space before the next. A refused growth leaves the text.
+pub fn push_order<A: Allocator, B: Allocator>(
+    text: &mut Vec<u8, A>,
+    order: &Prefix<B>,
+) -> Result<(), OutOfMemory>
+    ensures ok { OnOk result (text.new.items ≡ text.old.items ++ order_text order.now) }
+    ensures err { OnErr result (text.new.items ≡ text.old.items) }
+{
+    let len = text.len();
+    let done = push_decisions(text, order.decisions());
+    if done.is_err() {
+        text.truncate(len);
+    }
+    done
 }
 
 /// The text of the decisions.

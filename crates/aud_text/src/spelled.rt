@@ -1,7 +1,7 @@
 //! Reading a line that is spelled as `write_fact` spells it, with no JSON value in between.
 //! What stands at a place is guessed from its bytes, and then looked for as it is written.
 
-ghost use Rattle.std.specs.Prelude.{◌≡◌, ◌++◌, Ok, Some, IfSome, FitsSigned, decimal};
+ghost use Rattle.std.specs.Prelude.{◌≡◌, ◌≢◌, ◌++◌, ℕ, List, Ok, Some, IfSome, FitsSigned, MatchOption, decimal};
 ghost use Rattle.std.specs.Int.{w64};
 ghost use Rattle.std.specs.Fmt.{signed_decimal};
 ghost use Rattle.aud_event.specs.Meanings.{PlanOf};
@@ -16,9 +16,9 @@ use crate::write::{argument_in, name_at};
 use aud_event::{Answer, EndMark, Event, Fact, Op, OpName, Plan, Record};
 use std::alloc::Allocator;
 
-/// What stands after the text, where the line begins with it. It does not allocate.
+/// What stands after the text, where the line begins with it; else nothing. It does not allocate.
 pub fn after<'l>(line: &'l [u8], text: &str) -> Option<&'l [u8]>
-    ensures { IfSome result (λ rest. line.now ≡ text.now ++ rest.now) }
+    ensures { MatchOption result ((rest : List ℕ) → line.now ≢ text.now ++ rest) (λ rest. line.now ≡ text.now ++ rest.now) }
 {
     line.strip_prefix(text.as_bytes())
 }

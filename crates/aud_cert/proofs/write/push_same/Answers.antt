@@ -5,8 +5,8 @@ use Rattle.aud_cert.proofs.write.push_same.Goals as goal
 
 pub returns : goal.returns
 returns g c =
-    let last = grown c.push_text-2.new.text.items c.push_order-2.new.text.items c.push_text-3.new.text.items (order_text c.args.prefix.now) (codes "\"}") c.in_ok-push_order-2.ensures c.in_ok-push_text-3.ensures in
+    let last = grown c.push_text-2.new.text.items c.push_order-2.new.text.items c.push_text-3.new.text.items (order_text c.args.prefix.now) (codes "\"}") c.in_ok-push_order-2.ensures.ok c.in_ok-push_text-3.ensures in
     let key = grown c.push_order.new.text.items c.push_text-2.new.text.items c.push_text-3.new.text.items (codes "\",\"by\":\"same\",\"p\":\"") (order_text c.args.prefix.now ++ codes "\"}") c.in_ok-push_text-2.ensures last in
-    let one = grown c.push_text.new.text.items c.push_order.new.text.items c.push_text-3.new.text.items (order_text c.args.other.now) (codes "\",\"by\":\"same\",\"p\":\"" ++ (order_text c.args.prefix.now ++ codes "\"}")) c.in_ok-push_order.ensures key in
+    let one = grown c.push_text.new.text.items c.push_order.new.text.items c.push_text-3.new.text.items (order_text c.args.other.now) (codes "\",\"by\":\"same\",\"p\":\"" ++ (order_text c.args.prefix.now ++ codes "\"}")) c.in_ok-push_order.ensures.ok key in
     grown c.args.text.now.items c.push_text.new.text.items c.push_text-3.new.text.items (codes "{\"as\":\"")
     (order_text c.args.other.now ++ (codes "\",\"by\":\"same\",\"p\":\"" ++ (order_text c.args.prefix.now ++ codes "\"}"))) c.in_ok-push_text.ensures one

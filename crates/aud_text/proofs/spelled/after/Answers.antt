@@ -1,12 +1,12 @@
-use Rattle.std.proofs.Common.{◌≡◌, ℕ, List, ◌++◌, Option, Some, None, ap, ◌∙◌}
-use Rattle.std.specs.Prelude.{IfSome, MatchOption, ◌≢◌}
+use Rattle.std.proofs.Common.{◌≡◌, ℕ, List, ◌++◌, Option, Some, None, ap, ◌∙◌, sym}
+use Rattle.std.specs.Prelude.{MatchOption, ◌≢◌}
 use denote.Ref.{Bor}
 use Rattle.std.proofs.lemmas.Slice.Eq.{strip_prefix_is}
 use Rattle.std.proofs.lemmas.Bool.Decides.{Decides-eqb}
 use Rattle.aud_text.proofs.spelled.after.Goals as goal
 
-found : (s p q : List ℕ) (r : Option (Bor (List ℕ))) → q ≡ p → MatchOption r ((rest : List ℕ) → s ≢ q ++ rest) (λ x. s ≡ q ++ x.now) → IfSome r (λ rest. s ≡ p ++ rest.now)
-found s p q None same m = tt
+found : (s p q : List ℕ) (r : Option (Bor (List ℕ))) → q ≡ p → MatchOption r ((rest : List ℕ) → s ≢ q ++ rest) (λ x. s ≡ q ++ x.now) → MatchOption r ((rest : List ℕ) → s ≢ p ++ rest) (λ x. s ≡ p ++ x.now)
+found s p q None same m = λ rest e. m rest (e ∙ ap (λ l. l ++ rest) (sym same))
 found s p q (Some rest) same m = m ∙ ap (λ l. l ++ rest.now) same
 
 pub returns : goal.returns
