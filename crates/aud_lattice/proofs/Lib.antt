@@ -2,6 +2,8 @@ pub mod Leftovers
 pub mod Leads
 pub mod Grouped
 pub mod Grown
+pub mod Cuts
+pub mod Remains
 pub mod Turns
 pub mod CoverCrosses
 pub mod Crosses

@@ -61,7 +61,7 @@ module _ {T : Type 0} {R : T → T → Ordering} (o : IsTotalOrder R) where
   sorted_right (y ∷ l) k r s = sorted_right l k r s.1
 
   -- the first of a sorted list is below the middle
-  below_middle : (y : T) (l : List T) (k : T) (r : List T) → AllByRecursion (λ z. R y z ≡ Less) (l ++ k ∷ r) → R y k ≡ Less
+  pub below_middle : (y : T) (l : List T) (k : T) (r : List T) → AllByRecursion (λ z. R y z ≡ Less) (l ++ k ∷ r) → R y k ≡ Less
   below_middle y [] k r b = b.0
   below_middle y (z ∷ l) k r b = below_middle y l k r b.1
 

@@ -1,6 +1,6 @@
 -- A tree turned to its lighter side.
 use Rattle.std.proofs.Common.{◌≡◌, ℕ, ◌+◌, ◌*◌, ◌<◌, ◌≤◌, List, ◌∷◌, ◌++◌, length, length-append, append_assoc, ap, ◌∙◌, arith}
-use Rattle.aud_lattice.specs.Trees.{AreBalanced, IsToPart}
+use Rattle.aud_lattice.specs.Trees.{AreBalanced, IsHeavy, IsToPart}
 
 -- one tree for three: those of the outer side and of a first part, of a second part and the light side, and of both
 pub record AreTurned {T : Type 0} (first low high last : List T) (x z : T) : Type 0 where
@@ -13,7 +13,7 @@ length_around l x r = omega (arith, length-append l (x ∷ r))
 
 -- the side of a heavy tree that is next to the light side is not the lighter one, and is parted
 pub turned_right : {T : Type 0} (outer low high light near : List T) (x y z : T) → near ≡ low ++ y ∷ high → IsToPart (length outer) (length near) (length light) → AreBalanced (length low) (length high) → AreTurned outer low high light x z
-turned_right outer low high light near x y z f (heavier, inner, outside) inside =
+turned_right outer low high light near x y z f ((heavier, most), inner, outside) inside =
     let n : length near ≡ length low + length high + 1 = ap length f ∙ length_around low y high in
     let b : length (outer ++ x ∷ low) ≡ length outer + length low + 1 = length_around outer x low in
     let a : length (high ++ z ∷ light) ≡ length high + length light + 1 = length_around high z light in
@@ -24,7 +24,7 @@ turned_right outer low high light near x y z f (heavier, inner, outside) inside 
     }
 
 pub turned_left : {T : Type 0} (outer low high light near : List T) (x y z : T) → near ≡ low ++ y ∷ high → IsToPart (length outer) (length near) (length light) → AreBalanced (length low) (length high) → AreTurned light low high outer z x
-turned_left outer low high light near x y z f (heavier, inner, outside) inside =
+turned_left outer low high light near x y z f ((heavier, most), inner, outside) inside =
     let n : length near ≡ length low + length high + 1 = ap length f ∙ length_around low y high in
     let b : length (light ++ z ∷ low) ≡ length light + length low + 1 = length_around light z low in
     let a : length (high ++ x ∷ outer) ≡ length high + length outer + 1 = length_around high x outer in
@@ -34,26 +34,26 @@ turned_left outer low high light near x y z f (heavier, inner, outside) inside =
       whole = (omega arith, omega arith);
     }
 
--- so it is where a heavy tree has one item too many
-pub to_part_right : {T : Type 0} (outer near heavy : List T) (x : T) (light : ℕ) → heavy ≡ outer ++ x ∷ near → length heavy + 1 ≡ 3 * (light + 1) + 1 → 2 * (length outer + 1) ≤ length near + 1 → AreBalanced (length outer) (length near) → IsToPart (length outer) (length near) light
-to_part_right outer near heavy x light e heavier inner outside =
+-- so it is where a tree is too heavy
+pub to_part_right : {T : Type 0} (outer near heavy : List T) (x : T) (light : ℕ) → heavy ≡ outer ++ x ∷ near → IsHeavy (length heavy) light → 2 * (length outer + 1) ≤ length near + 1 → AreBalanced (length outer) (length near) → IsToPart (length outer) (length near) light
+to_part_right outer near heavy x light e (heavier, most) inner outside =
     let h : length heavy ≡ length outer + length near + 1 = ap length e ∙ length_around outer x near in
-    (omega arith, inner, outside)
+    ((omega arith, omega arith), inner, outside)
 
-pub to_part_left : {T : Type 0} (outer near heavy : List T) (x : T) (light : ℕ) → heavy ≡ near ++ x ∷ outer → length heavy + 1 ≡ 3 * (light + 1) + 1 → 2 * (length outer + 1) ≤ length near + 1 → AreBalanced (length near) (length outer) → IsToPart (length outer) (length near) light
-to_part_left outer near heavy x light e heavier inner outside =
+pub to_part_left : {T : Type 0} (outer near heavy : List T) (x : T) (light : ℕ) → heavy ≡ near ++ x ∷ outer → IsHeavy (length heavy) light → 2 * (length outer + 1) ≤ length near + 1 → AreBalanced (length near) (length outer) → IsToPart (length outer) (length near) light
+to_part_left outer near heavy x light e (heavier, most) inner outside =
     let h : length heavy ≡ length near + length outer + 1 = ap length e ∙ length_around near x outer in
-    (omega arith, inner, (outside.1, outside.0))
+    ((omega arith, omega arith), inner, (outside.1, outside.0))
 
 -- that side is the lighter one, and goes over as it is
-pub moved_right : {T : Type 0} (outer light near heavy : List T) (x z : T) → heavy ≡ outer ++ x ∷ near → length heavy + 1 ≡ 3 * (length light + 1) + 1 → length near + 1 < 2 * (length outer + 1) → AreBalanced (length outer) (length near) → AreBalanced (length near) (length light) × AreBalanced (length outer) (length (near ++ z ∷ light))
-moved_right outer light near heavy x z e heavier inner outside =
+pub moved_right : {T : Type 0} (outer light near heavy : List T) (x z : T) → heavy ≡ outer ++ x ∷ near → IsHeavy (length heavy) (length light) → length near + 1 < 2 * (length outer + 1) → AreBalanced (length outer) (length near) → AreBalanced (length near) (length light) × AreBalanced (length outer) (length (near ++ z ∷ light))
+moved_right outer light near heavy x z e (heavier, most) inner outside =
     let h : length heavy ≡ length outer + length near + 1 = ap length e ∙ length_around outer x near in
     let a : length (near ++ z ∷ light) ≡ length near + length light + 1 = length_around near z light in
     ((omega arith, omega arith), (omega arith, omega arith))
 
-pub moved_left : {T : Type 0} (outer light near heavy : List T) (x z : T) → heavy ≡ near ++ x ∷ outer → length heavy + 1 ≡ 3 * (length light + 1) + 1 → length near + 1 < 2 * (length outer + 1) → AreBalanced (length near) (length outer) → AreBalanced (length light) (length near) × AreBalanced (length (light ++ z ∷ near)) (length outer)
-moved_left outer light near heavy x z e heavier inner outside =
+pub moved_left : {T : Type 0} (outer light near heavy : List T) (x z : T) → heavy ≡ near ++ x ∷ outer → IsHeavy (length heavy) (length light) → length near + 1 < 2 * (length outer + 1) → AreBalanced (length near) (length outer) → AreBalanced (length light) (length near) × AreBalanced (length (light ++ z ∷ near)) (length outer)
+moved_left outer light near heavy x z e (heavier, most) inner outside =
     let h : length heavy ≡ length near + length outer + 1 = ap length e ∙ length_around near x outer in
     let b : length (light ++ z ∷ near) ≡ length light + length near + 1 = length_around light z near in
     ((omega arith, omega arith), (omega arith, omega arith))

@@ -1,6 +1,7 @@
 pub mod Laws
 pub mod Sets
 pub mod Trees
+pub mod Cuts
 pub mod Pairs
 pub mod Least
 pub mod Covers

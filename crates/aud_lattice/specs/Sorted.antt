@@ -63,7 +63,7 @@ module _ {T : Type 0} {R : T → T → Ordering} (o : IsTotalOrder R) where
   absent_below q [] b = refl
   absent_below q (y ∷ ys) b = ap (λ r. is_eq r || has R ys q) b.0 ∙ absent_below q ys b.1
 
-  first_there : (x : T) (xs : List T) → has R (x ∷ xs) x ≡ true
+  pub first_there : (x : T) (xs : List T) → has R (x ∷ xs) x ≡ true
   first_there x xs = ap (λ r. is_eq r || has R xs x) (tied_itself o x)
 
   -- a test that ties with what it lies below is false, so the rest of two equal sets is equal

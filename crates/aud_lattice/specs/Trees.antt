@@ -14,13 +14,18 @@ items_of (Some a) = arc_value a
 abbrev pub AreBalanced : ℕ → ℕ → Type 0
 AreBalanced l r = (l + 1 ≤ 3 * (r + 1)) × (r + 1 ≤ 3 * (l + 1))
 
--- so but for one item
+-- a side is more than three times the other, each counted with one more, and no more than thirteen thirds of it
+abbrev pub IsHeavy : ℕ → ℕ → Type 0
+IsHeavy heavy light = (3 * (light + 1) < heavy + 1) × (3 * (heavy + 1) ≤ 13 * (light + 1))
+
+-- neither side is more than thirteen thirds of the other: so it is where one side of a balanced tree took in a tree that is less
+-- than a third of the whole
 abbrev pub NearlyBalanced : ℕ → ℕ → Type 0
-NearlyBalanced l r = (l + 1 ≤ 3 * (r + 1) + 1) × (r + 1 ≤ 3 * (l + 1) + 1)
+NearlyBalanced l r = (3 * (l + 1) ≤ 13 * (r + 1)) × (3 * (r + 1) ≤ 13 * (l + 1))
 
 -- the sides of a heavy tree beside a light one: the inner one, which is next to the light one, is not the lighter of the two
 abbrev pub IsToPart : ℕ → ℕ → ℕ → Type 0
-IsToPart outer inner light = (outer + inner + 1 + 1 ≡ 3 * (light + 1) + 1) × (2 * (outer + 1) ≤ inner + 1) × AreBalanced outer inner
+IsToPart outer inner light = IsHeavy (outer + inner + 1) light × (2 * (outer + 1) ≤ inner + 1) × AreBalanced outer inner
 
 -- a tree of the items with x, where x is none of them; else no tree
 abbrev pub IsWithNew : {T Z : Type 0} → (T → T → Ordering) → T → List T → Option (Option (Arc (List T) Z)) → Type 0

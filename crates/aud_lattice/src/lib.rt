@@ -14,6 +14,7 @@ mod groupings;
 mod iter;
 pub mod laws;
 mod least;
+mod link;
 mod mark;
 mod merge;
 mod pair;

@@ -8,6 +8,7 @@ ghost use Rattle.aud_lattice.specs.Trees.{items_of};
 use crate::bulk::{arranged, tree_of};
 use crate::copies::push_copy;
 use crate::iter::all_of;
+use crate::link::{beside, relinked, split};
 use crate::tree::{Link, Tree, contains, count, shared, with};
 use aud_event::{Dup, Key, OutOfMemory};
 use std::alloc::Allocator;
@@ -16,6 +17,9 @@ use std::cmp::Ordering;
 // A tree takes in others' items one by one while these are at most one for so many of its own. Where they are more, a tree that is
 // built anew of all costs less than the nodes of their paths.
 const FEW: usize = 8;
+
+// Trees of so many items together are not cut in parts any more: what cutting shares is less than what it costs there.
+const SMALL: usize = 64;
 
 // The tree with a copy of the item. One that is there already needs no allocation.
 #[tactic(auto, using(crate::proofs::Splits::with_there))]
@@ -128,9 +132,43 @@ fn built_alike<T: Key + Dup, A: Allocator>(xs: &Link<T, A>, ys: &Link<T, A>) -> 
     built_alike(right, after)
 }
 
-/// The items of both: those of the smaller tree are put into the larger one. Of two trees with the same items the answer is the
-/// second, so that who joins it once more finds it built alike, which takes no look-ups.
-#[tactic(auto, using(crate::proofs::Pours::union_swap, crate::proofs::Pours::union_itself))]
+// One tree with the items of another, which is cut where the tree parts. The parts of either that lie apart from the other are shared,
+// and so is each part to which the other brings nothing new.
+#[tactic(auto, using(crate::proofs::Pours::union_itself))]
+fn merged<T: Key + Dup, A: Allocator + Clone>(
+    alloc: &A,
+    from: &Link<T, A>,
+    into: &Link<T, A>,
+) -> Result<Link<T, A>, OutOfMemory>
+    requires from_sorted { IsStrictlySortedBy T.Ord.cmp (items_of from.now) }
+    requires into_sorted { IsStrictlySortedBy T.Ord.cmp (items_of into.now) }
+    ensures { IfOk result (λ all. items_of all ≡ union T.Ord.cmp (items_of from.now) (items_of into.now)) }
+{
+    if built_alike(from, into) {
+        return shared(into);
+    }
+    let Some(all) = into else {
+        return shared(from);
+    };
+    if count(from) <= FEW || count(from) + count(into) <= SMALL {
+        return grown(alloc, from, into);
+    }
+    let Tree {
+        left,
+        item,
+        right,
+        ..
+    } = &**all;
+    let (before, _, after) = split(alloc, from, item)?;
+    let low = merged(alloc, &before, left)?;
+    let high = merged(alloc, &after, right)?;
+    relinked(alloc, into, low, item, high)
+}
+
+/// The items of both: those of the smaller tree are put into the larger one. What lies in runs of one of them is shared, and so is the
+/// larger tree where nothing new comes. Of two trees with the same items the answer is the second, so that who joins it once more
+/// finds it built alike, which takes no look-ups.
+#[tactic(auto, using(crate::proofs::Pours::union_swap))]
 pub fn joined<T: Key + Dup, A: Allocator + Clone>(
     alloc: &A,
     xs: &Link<T, A>,
@@ -140,17 +178,54 @@ pub fn joined<T: Key + Dup, A: Allocator + Clone>(
     requires ys_sorted { IsStrictlySortedBy T.Ord.cmp (items_of ys.now) }
     ensures { IfOk result (λ all. items_of all ≡ union T.Ord.cmp (items_of xs.now) (items_of ys.now)) }
 {
-    if built_alike(xs, ys) {
-        shared(ys)
-    } else if count(xs) <= count(ys) {
-        grown(alloc, xs, ys)
+    if count(xs) <= count(ys) {
+        merged(alloc, xs, ys)
     } else {
-        grown(alloc, ys, xs)
+        merged(alloc, ys, xs)
     }
 }
 
-/// The items of the first tree that the second has not. Only these are copied.
+/// The items of the first tree that the second has not. The second is cut where the first parts; what is left of the first in runs is
+/// shared, and where all is left it is the same tree still.
 pub fn without<T: Key + Dup, A: Allocator + Clone>(
+    alloc: &A,
+    xs: &Link<T, A>,
+    ys: &Link<T, A>,
+) -> Result<Link<T, A>, OutOfMemory>
+    requires xs_sorted { IsStrictlySortedBy T.Ord.cmp (items_of xs.now) }
+    requires ys_sorted { IsStrictlySortedBy T.Ord.cmp (items_of ys.now) }
+    ensures { IfOk result (λ all. items_of all ≡ without T.Ord.cmp (items_of xs.now) (items_of ys.now)) }
+{
+    if built_alike(xs, ys) {
+        return Ok(None);
+    }
+    let Some(all) = xs else {
+        return Ok(None);
+    };
+    if count(ys) == 0 {
+        return shared(xs);
+    }
+    if count(xs) <= SMALL {
+        return sifted(alloc, xs, ys);
+    }
+    let Tree {
+        left,
+        item,
+        right,
+        ..
+    } = &**all;
+    let (before, is_there, after) = split(alloc, ys, item)?;
+    let low = without(alloc, left, &before)?;
+    let high = without(alloc, right, &after)?;
+    if is_there {
+        beside(alloc, low, high)
+    } else {
+        relinked(alloc, xs, low, item, high)
+    }
+}
+
+// The same by a look-up for each item. The tree itself, if all is left.
+fn sifted<T: Key + Dup, A: Allocator + Clone>(
     alloc: &A,
     xs: &Link<T, A>,
     ys: &Link<T, A>,
@@ -159,7 +234,11 @@ pub fn without<T: Key + Dup, A: Allocator + Clone>(
     ensures { IfOk result (λ all. items_of all ≡ without T.Ord.cmp (items_of xs.now) (items_of ys.now)) }
 {
     let left = left_over(alloc, xs, ys)?;
-    tree_of(alloc, left)
+    if left.len() == count(xs) {
+        shared(xs)
+    } else {
+        tree_of(alloc, left)
+    }
 }
 
 // The same, as a list.

@@ -4,7 +4,7 @@ ghost use Rattle.std.specs.Prelude.{◌≡◌, ◌∷◌, ◌++◌, ◌<◌, ◌
 ghost use Rattle.std.specs.List.Sorted.{IsStrictlySortedBy};
 ghost use Rattle.std.specs.Option.{option_copied};
 ghost use Rattle.aud_lattice.specs.Sets.{has};
-ghost use Rattle.aud_lattice.specs.Trees.{Found, items_of, AreBalanced, NearlyBalanced, IsToPart, IsWithNew};
+ghost use Rattle.aud_lattice.specs.Trees.{Found, items_of, AreBalanced, NearlyBalanced, IsHeavy, IsToPart, IsWithNew};
 
 use aud_event::{Dup, Key, OutOfMemory};
 use std::alloc::{Allocator, Global};
@@ -92,8 +92,8 @@ pub fn node<T: Dup, A: Allocator + Clone>(
     Ok(Some(tree))
 }
 
-// The same where one side may have one item too many: the tree is turned to the other side then.
-fn balanced<T: Dup, A: Allocator + Clone>(
+/// The same where one side may be too heavy, as after a light tree was joined to it: the tree is turned to the other side then.
+pub fn balanced<T: Dup, A: Allocator + Clone>(
     alloc: &A,
     left: Link<T, A>,
     item: T,
@@ -117,7 +117,7 @@ fn to_right<T: Dup, A: Allocator + Clone>(
     item: T,
     right: Link<T, A>,
 ) -> Result<Link<T, A>, OutOfMemory>
-    requires { length left.now + 1 ≡ 3 * (length (items_of right) + 1) + 1 }
+    requires { IsHeavy (length left.now) (length (items_of right)) }
     ensures { IfOk result (λ tree. items_of tree ≡ left.now ++ item ∷ items_of right) }
 {
     let Tree {
@@ -166,7 +166,7 @@ fn to_left<T: Dup, A: Allocator + Clone>(
     item: T,
     right: &Tree<T, A>,
 ) -> Result<Link<T, A>, OutOfMemory>
-    requires { length right.now + 1 ≡ 3 * (length (items_of left) + 1) + 1 }
+    requires { IsHeavy (length right.now) (length (items_of left)) }
     ensures { IfOk result (λ tree. items_of tree ≡ items_of left ++ item ∷ right.now) }
 {
     let Tree {
