@@ -1,3 +1,4 @@
+pub mod Keys
 pub mod Members
 pub mod Placing
 pub mod Kids

@@ -2,3 +2,4 @@ pub mod Acceptance
 pub mod Laws
 pub mod Moves
 pub mod OfShapes
+pub mod Places

@@ -10,46 +10,36 @@ ghost use Rattle.aud_accept.specs.OfShapes.{AreGoodFor, HasKidsFor, HasLines, Ha
 use crate::cert::{Cert, CertLine};
 use crate::earlier::Earlier;
 use crate::moving::go_to;
-use aud_event::{Dup, OutOfMemory};
+use crate::place::{Place, sum_of};
+use aud_event::OutOfMemory;
 use aud_order::{Cursor, Shape};
-use aud_witness::{Decision, Fate, Prefix};
+use aud_witness::{Decision, Fate};
 use std::alloc::Allocator;
 
-/// The prefix with one decision more.
-fn with_next<A: Allocator + Copy>(
-    prefix: &Prefix<A>,
-    decision: Decision,
-) -> Result<Prefix<A>, OutOfMemory>
-    ensures { IfOk result (λ next. next ≡ prefix.now ++ decision ∷ []) }
-{
-    let mut next = prefix.dup()?;
-    next.push(decision)?;
-    Ok(next)
-}
-
 /// Whether the prefix followed by each of the kids is the prefix of an earlier line.
-fn has_all<A: Allocator + Copy>(
-    earlier: &Earlier<A>,
-    prefix: &Prefix<A>,
+fn has_all<'c, A: Allocator + Copy>(
+    earlier: &Earlier<'c, A>,
+    prefix: &'c [Decision],
     kids: &[Decision],
-) -> Result<bool, OutOfMemory>
-    ensures { IfOk result (λ all. IsTrue all ↔ HasLines earlier.now prefix.now kids.now) }
+) -> bool
+    ensures { IsTrue result ↔ HasLines earlier.now prefix.entry.now kids.now }
 {
+    let sum = sum_of(prefix);
     for kid in kids {
-        let next = with_next(prefix, *kid)?;
+        let next = Place::after(prefix, sum, *kid);
         if !earlier.has(&next) {
-            return Ok(false);
+            return false;
         }
     }
-    Ok(true)
+    true
 }
 
 /// Whether the prefix is not full and each of its kids, which are computed anew, is the prefix of an earlier line.
-fn has_kids<A: Allocator + Copy>(
+fn has_kids<'c, A: Allocator + Copy>(
     alloc: A,
     cursor: &mut Cursor<A>,
-    earlier: &Earlier<A>,
-    prefix: &Prefix<A>,
+    earlier: &Earlier<'c, A>,
+    prefix: &'c [Decision],
 ) -> Result<bool, OutOfMemory>
     requires { cursor.old.path ≡ prefix.now }
     ensures accepted { IfOk result (λ has. IsTrue has ↔ HasKidsFor cursor.old.shape earlier.now prefix.now) }
@@ -59,8 +49,7 @@ fn has_kids<A: Allocator + Copy>(
         return Ok(false);
     }
     let kids = cursor.kids(alloc)?;
-    let has = has_all(earlier, prefix, &kids)?;
-    Ok(has)
+    Ok(has_all(earlier, prefix, &kids))
 }
 
 fn is_same_fate(a: Fate, b: Fate) -> bool
@@ -90,11 +79,11 @@ pub fn is_silent<A: Allocator + Copy>(shape: &Shape<A>, decision: Decision) -> b
 
 /// Whether the decision is of a silent transaction with its silent fate, is good after the prefix, and leads to the prefix of an
 /// earlier line.
-fn has_silent<A: Allocator + Copy>(
+fn has_silent<'c, A: Allocator + Copy>(
     shape: &Shape<A>,
     cursor: &mut Cursor<A>,
-    earlier: &Earlier<A>,
-    prefix: &Prefix<A>,
+    earlier: &Earlier<'c, A>,
+    prefix: &'c [Decision],
     decision: Decision,
 ) -> Result<bool, OutOfMemory>
     requires path { cursor.old.path ≡ prefix.now }
@@ -108,7 +97,7 @@ fn has_silent<A: Allocator + Copy>(
     if !cursor.push(decision)?.is_good() {
         return Ok(false);
     }
-    let next = with_next(prefix, decision)?;
+    let next = Place::after(prefix, sum_of(prefix), decision);
     Ok(earlier.has(&next))
 }
 
@@ -126,21 +115,21 @@ pub fn lead_alike<A: Allocator + Copy>(cursor: &Cursor<A>, other: &Cursor<A>) ->
 }
 
 /// Whether the prefix is that of an earlier line, and leads to where the cursor stands.
-fn has_same<A: Allocator + Copy>(
+fn has_same<'c, A: Allocator + Copy>(
     cursor: &Cursor<A>,
     other: &mut Cursor<A>,
-    earlier: &Earlier<A>,
-    prefix: &Prefix<A>,
+    earlier: &Earlier<'c, A>,
+    prefix: &'c [Decision],
 ) -> Result<bool, OutOfMemory>
     requires shape { other.old.shape ≡ cursor.now.shape }
     requires good { AreGoodFor cursor.now.shape earlier.now }
     ensures accepted { IfOk result (λ has. IsTrue has ↔ HasSameFor cursor.now.shape earlier.now cursor.now.path prefix.now) }
     ensures shape { OnOk result (other.new.shape ≡ other.old.shape) }
 {
-    if !earlier.has(prefix) {
+    if !earlier.has(&Place::of(prefix)) {
         return Ok(false);
     }
-    if !go_to(other, prefix.decisions())? {
+    if !go_to(other, prefix)? {
         return Ok(false);
     }
     Ok(lead_alike(cursor, other))
@@ -148,13 +137,13 @@ fn has_same<A: Allocator + Copy>(
 
 /// Whether the line is accepted after those whose prefixes are the earlier ones. The cursors may stand anywhere; each goes on
 /// from what its prefix and the next have in common.
-fn accepts<A: Allocator + Copy>(
+fn accepts<'c, A: Allocator + Copy>(
     alloc: A,
     shape: &Shape<A>,
     cursor: &mut Cursor<A>,
     other: &mut Cursor<A>,
-    earlier: &Earlier<A>,
-    line: &CertLine<A>,
+    earlier: &Earlier<'c, A>,
+    line: &'c CertLine<A>,
 ) -> Result<bool, OutOfMemory>
     requires cursor { cursor.old.shape ≡ shape.now }
     requires other { other.old.shape ≡ shape.now }
@@ -167,11 +156,11 @@ fn accepts<A: Allocator + Copy>(
         return Ok(false);
     }
     match line {
-        CertLine::Kids(prefix) => has_kids(alloc, cursor, earlier, prefix),
+        CertLine::Kids(prefix) => has_kids(alloc, cursor, earlier, prefix.decisions()),
         CertLine::Silent(prefix, decision) => {
-            has_silent(shape, cursor, earlier, prefix, *decision)
+            has_silent(shape, cursor, earlier, prefix.decisions(), *decision)
         }
-        CertLine::Same(_, prefix) => has_same(cursor, other, earlier, prefix),
+        CertLine::Same(_, prefix) => has_same(cursor, other, earlier, prefix.decisions()),
     }
 }
 
@@ -202,12 +191,12 @@ pub fn check_cert<A: Allocator + Copy>(
     }
     let mut cursor = Cursor::root(alloc, shape)?;
     let mut other = Cursor::root(alloc, shape)?;
-    let mut earlier = Earlier::none(alloc);
+    let mut earlier = Earlier::with_room(alloc, cert.lines.len())?;
     for line in &cert.lines {
         if !accepts(alloc, shape, &mut cursor, &mut other, &earlier, line)? {
             return Ok(false);
         }
-        earlier.add(line.prefix().dup()?)?;
+        earlier.add(Place::of(line.prefix().decisions()))?;
     }
     Ok(true)
 }

@@ -6,6 +6,7 @@ mod checking;
 mod earlier;
 pub mod laws;
 mod moving;
+mod place;
 
 pub use cert::{Cert, CertLine};
 pub use checking::{check_cert, is_silent, lead_alike};
