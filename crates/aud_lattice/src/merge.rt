@@ -1,4 +1,5 @@
-//! Two trees at once.
+//! Two trees at once. A join costs some nodes for each place where runs of the two meet, and shares all else; where the items alternate
+//! one by one, it costs about as much as a tree that is built anew of all.
 
 ghost use Rattle.std.specs.Prelude.{◌≡◌, ◌∷◌, ◌++◌, [], IfOk, OnOk, IsTrue, ◌↔◌};
 ghost use Rattle.std.specs.List.Sorted.{IsStrictlySortedBy};

@@ -96,7 +96,8 @@ impl<T: Key + Dup, A: Allocator + Clone> UnionSet<T, A> {
         Ok(true)
     }
 
-    /// The items that the other has not. Each item is looked up in the other once, and only those that are left take memory.
+    /// The items that the other has not. The other is cut where this set's tree parts; what is left in runs is shared, and all is where
+    /// nothing is taken away.
     #[tactic(auto, using(crate::proofs::Leftovers::sorted_without))]
     pub fn without(&self, other: &UnionSet<T, A>) -> Result<UnionSet<T, A>, OutOfMemory>
         ensures left { IfOk result (λ left. left ≡ without T.Ord.cmp self.now other.now) }
@@ -145,7 +146,7 @@ impl<T: Key + Dup, A: Allocator + Clone> Lattice for UnionSet<T, A> {
     ghost laws = { either_laws };
 
     #[tactic(auto, using(crate::specs::Sorted::sorted_union, crate::proofs::Members::contains_union))]
-    // The items of the smaller set that the larger has not are put into it, whichever of the two is `self`.
+    // The smaller set is cut where the larger one's tree parts, whichever of the two is `self`; runs of either are shared.
     fn join(&mut self, other: &UnionSet<T, A>) -> Result<(), OutOfMemory>
         ensures ok { OnOk result (self.new ≡ union T.Ord.cmp self.old other.now) }
         ensures members { OnOk result ((x : T) → Contains self.new x ↔ (Contains self.old x ⊎ Contains other.now x)) }
