@@ -2,6 +2,7 @@ pub mod Checked
 pub mod Read
 pub mod Bounds
 pub mod Splitting
+pub mod FactLines
 pub mod HistoryLemmas
 pub mod WorkedLines
 pub mod Ends
