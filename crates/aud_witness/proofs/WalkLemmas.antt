@@ -1,5 +1,5 @@
 -- Decisions placed in turn by the rows of the table: what can be placed is good, and an order is judged exactly.
-use Rattle.std.specs.Prelude.{◌≡◌, ℕ, ◌+◌, ◌<◌, ◌≤◌, Bool, true, false, not, nat_eq, List, [], ◌∷◌, ◌++◌, map, filter, length, take, drop, Option, Some, None, is_some, Result, Ok, Err, MatchResult, refl}
+use Rattle.std.specs.Prelude.{◌≡◌, ◌↔◌, ℕ, ◌+◌, ◌<◌, ◌≤◌, Bool, true, false, not, nat_eq, List, [], ◌∷◌, ◌++◌, map, filter, length, take, drop, Option, Some, None, is_some, Result, Ok, Err, MatchResult, IsOk, refl}
 use Rattle.std.specs.List.{list_any, list_all}
 use Rattle.std.proofs.Common.{sym, ◌∙◌, ap, subst, cond, inl, inr, get_or, append_assoc}
 use Rattle.std.proofs.lemmas.List.{take_more, take_all, drop_more, drop_all, append-nil}
@@ -14,10 +14,11 @@ use Rattle.aud_witness.specs.declared.decision.Decision.{Decision}
 use Rattle.aud_witness.specs.declared.fault.OrderFault.{OrderFault}
 use Rattle.aud_witness.specs.declared.fault.OrderFault.TheVariants.{Missing}
 use Rattle.aud_witness.specs.Orders.{is_named, Shows, IsFull, IsGood}
-use Rattle.aud_witness.specs.OrderFaults.{place_fault, least_tx, fault_after, first_order_fault}
+use Rattle.aud_witness.specs.OrderFaults.{place_fault, least_tx, fault_after, first_order_fault, ReportsOrderFault}
 use Rattle.aud_witness.specs.Spots.{Spot, first_spot, stepped, unplaced}
+use Rattle.aud_witness.specs.Agendas.{AgendaOf}
 use Rattle.aud_witness.specs.Placings.{PlacingOf, Advances}
-use Rattle.aud_witness.specs.Walks.{walked, are_all_placed, WalksAreGood}
+use Rattle.aud_witness.specs.Walks.{walked, walk_fault, are_all_placed, WalksAreGood}
 use Rattle.aud_witness.proofs.Beginnings.{IsGood-from_Shows}
 use Rattle.aud_witness.proofs.Good.{IsGood-empty, IsGood-push, Shows-from_IsGood}
 use Rattle.aud_witness.proofs.Faults.{IsGoodNext-from_no_fault, no_fault-from_IsGoodNext, IsFull-from_IsGood, Shows-from_no_fault, no_fault-from_Shows}
@@ -119,39 +120,6 @@ walks-say plan h fine within =
 
 -- # What is reported of an order
 
--- the first i decisions were placed, and led to the spot
-pub record Goes (objects : List Declared) (h : History) (p : List Decision) (i : ℕ) (s : Spot) : Type 0 where
-  pub stands : Stands objects h (take i p) s
-  pub fault : fault_after objects h (take i p) (drop i p) ≡ first_order_fault objects h p
-
-pub Goes-root : (objects : List Declared) (h : History) (p : List Decision) → Goes objects h p 0 (first_spot (table_of h) objects)
-Goes-root objects h p = record { stands = Stands-root objects h; fault = refl }
-
--- the fault after i decisions, where the next one is d
-next-fault : (objects : List Declared) (h : History) (p : List Decision) (i : ℕ) (d d0 : Decision) → i < length p → get_or p i d0 ≡ d →
-    fault_after objects h (take i p) (drop i p) ≡ fault_after objects h (take i p) (d ∷ drop (i + 1) p)
-next-fault objects h p i d d0 inside is = ap (fault_after objects h (take i p)) (drop_more p i d0 inside ∙ ap (λ x. x ∷ drop (i + 1) p) is)
-
-pub Goes-on : (objects : List Declared) (h : History) (p : List Decision) (i : ℕ) (d d0 : Decision) (s t : Spot) → IsWellFormed h → Fits objects h → i < length p → get_or p i d0 ≡ d →
-    Goes objects h p i s → stepped (table_of h) s d ≡ Ok t → Goes objects h p (i + 1) t
-Goes-on objects h p i d d0 s t fine fits inside is goes led =
-    let reported : Reported objects h (take i p) d (Ok t) = subst (λ r. Reported objects h (take i p) d r) led (stepped-reported objects h (take i p) s d fine (fits d.tx) goes.stands) in
-    let longer : take (i + 1) p ≡ take i p ++ d ∷ [] = take_more p i d0 inside ∙ ap (λ x. take i p ++ x ∷ []) is in
-    let on : fault_after objects h (take i p) (d ∷ drop (i + 1) p) ≡ fault_after objects h (take i p ++ d ∷ []) (drop (i + 1) p) =
-    ap (λ (o : Option OrderFault). elim o as (λ (_ : Option OrderFault). Option OrderFault) [ Some fault ↦ Some fault | None ↦ fault_after objects h (take i p ++ d ∷ []) (drop (i + 1) p) ]) reported.0 in
-    record {
-      stands = subst (λ l. Stands objects h l t) (sym longer) reported.1;
-      fault = ap (λ l. fault_after objects h l (drop (i + 1) p)) longer ∙ (sym on ∙ (sym (next-fault objects h p i d d0 inside is) ∙ goes.fault));
-    }
-
-pub Goes-wrong : (objects : List Declared) (h : History) (p : List Decision) (i : ℕ) (d d0 : Decision) (s : Spot) (fault : OrderFault) → IsWellFormed h → Fits objects h → i < length p → get_or p i d0 ≡ d →
-    Goes objects h p i s → stepped (table_of h) s d ≡ Err fault → first_order_fault objects h p ≡ Some fault
-Goes-wrong objects h p i d d0 s fault fine fits inside is goes led =
-    let reported : place_fault objects h (take i p) d ≡ Some fault = subst (λ r. Reported objects h (take i p) d r) led (stepped-reported objects h (take i p) s d fine (fits d.tx) goes.stands) in
-    sym goes.fault
-    ∙ (next-fault objects h p i d d0 inside is
-    ∙ ap (λ (o : Option OrderFault). elim o as (λ (_ : Option OrderFault). Option OrderFault) [ Some fault ↦ Some fault | None ↦ fault_after objects h (take i p ++ d ∷ []) (drop (i + 1) p) ]) reported)
-
 unplaced-are_unnamed : (h : History) (f : ℕ → Bool) (ts : List ℕ) → unplaced (map (row_of h) ts) (map f ts) ≡ filter (λ t. not (f t)) ts
 unplaced-are_unnamed h f [] = refl
 unplaced-are_unnamed h f (t ∷ ts) =
@@ -160,35 +128,58 @@ unplaced-are_unnamed h f (t ∷ ts) =
       | false ↦ ap (λ l. t ∷ l) (unplaced-are_unnamed h f ts)
     ]
 
--- a missing transaction, if there is one
-abbrev pub missing : Option ℕ → Option OrderFault
-missing None = None
-missing (Some t) = Some (Missing t)
+-- the fault after a list, by what is reported of the next decision
+fault-first : (objects : List Declared) (h : History) (p : List Decision) (d : Decision) (rest : List Decision) (o : Option OrderFault) → place_fault objects h p d ≡ o →
+    fault_after objects h p (d ∷ rest) ≡ (elim o as (λ (_ : Option OrderFault). Option OrderFault) [ Some fault ↦ Some fault | None ↦ fault_after objects h (p ++ d ∷ []) rest ])
+fault-first objects h p d rest o is = ap (λ (o : Option OrderFault). elim o as (λ (_ : Option OrderFault). Option OrderFault) [ Some fault ↦ Some fault | None ↦ fault_after objects h (p ++ d ∷ []) rest ]) is
 
-pub Goes-out : (objects : List Declared) (h : History) (p : List Decision) (i : ℕ) (s : Spot) → length p ≤ i → Goes objects h p i s →
-    first_order_fault objects h p ≡ missing (least_tx (unplaced (table_of h) s.placed))
-Goes-out objects h p i s past goes =
-    let all : take i p ≡ p = take_all i p past in
-    let none : drop i p ≡ [] = drop_all i p past in
-    sym goes.fault
-    ∙ (ap (fault_after objects h (take i p)) none
-    ∙ (by_least (least_tx (filter (λ t. not (is_named (take i p) t)) (transactions h)))
-    ∙ ap (λ l. missing (least_tx l)) (sym (unplaced-are_unnamed h (is_named (take i p)) (transactions h)) ∙ ap (unplaced (table_of h)) (sym goes.stands.placed))))
+-- what a walk reports is what is reported of the list
+pub walk-reported : (objects : List Declared) (h : History) (p rest : List Decision) (s : Spot) → IsWellFormed h → Fits objects h → Stands objects h p s →
+    walk_fault (table_of h) s rest ≡ fault_after objects h p rest
+walk-reported objects h p [] s fine fits stands =
+    ap (λ l. elim (least_tx l) as (λ (_ : Option ℕ). Option OrderFault) [ None ↦ None | Some t ↦ Some (Missing t) ])
+    (ap (unplaced (table_of h)) stands.placed ∙ unplaced-are_unnamed h (is_named p) (transactions h))
+walk-reported objects h p (d ∷ rest) s fine fits stands =
+    elim (stepped (table_of h) s d) as (λ (r : Result Spot OrderFault). Reported objects h p d r →
+    (elim r as (λ (_ : Result Spot OrderFault). Option OrderFault) [ Err fault ↦ Some fault | Ok t ↦ walk_fault (table_of h) t rest ]) ≡ fault_after objects h p (d ∷ rest)) [
+      | Err fault ↦ λ reported. sym (fault-first objects h p d rest (Some fault) reported)
+      | Ok t ↦ λ reported. walk-reported objects h (p ++ d ∷ []) rest t fine fits reported.1 ∙ sym (fault-first objects h p d rest None reported.0)
+    ] (stepped-reported objects h p s d fine (fits d.tx) stands)
+
+-- what is reported of an order, where the placing began at its root
+pub walk-judged : (objects : List Declared) (h : History) (p items : List Decision) (rows : List RowOf) (s : Spot) (r : Result (Unit {0}) OrderFault) → IsWellFormed h → Fits objects h →
+    items ≡ p → rows ≡ table_of h → s ≡ first_spot (table_of h) objects → MatchResult r (λ _. walk_fault rows s items ≡ None) (λ fault. walk_fault rows s items ≡ Some fault) →
+    ReportsOrderFault objects h p r
+walk-judged objects h p items rows s r fine fits same table root judged = by_walk r judged
   where
-    by_least : (o : Option ℕ) → (elim o as (λ (_ : Option ℕ). Option OrderFault) [ None ↦ None | Some t ↦ Some (Missing t) ]) ≡ missing o
-    by_least None = refl
-    by_least (Some t) = refl
+    walk : first_order_fault objects h p ≡ walk_fault rows s items
+    walk =
+        sym (walk-reported objects h [] p (first_spot (table_of h) objects) fine fits (Stands-root objects h))
+        ∙ (ap (λ t. walk_fault t (first_spot (table_of h) objects) p) (sym table) ∙ (ap (λ t. walk_fault rows t p) (sym root) ∙ ap (walk_fault rows s) (sym same)))
 
-pub not-shown : (objects : List Declared) (h : History) (p : List Decision) (fault : OrderFault) → first_order_fault objects h p ≡ Some fault →
+    by_walk : (r : Result (Unit {0}) OrderFault) → MatchResult r (λ _. walk_fault rows s items ≡ None) (λ fault. walk_fault rows s items ≡ Some fault) → ReportsOrderFault objects h p r
+    by_walk (Ok _) none = walk ∙ none
+    by_walk (Err fault) some = walk ∙ some
+
+not-shown : (objects : List Declared) (h : History) (p : List Decision) (fault : OrderFault) → first_order_fault objects h p ≡ Some fault →
     (false ≡ true → Shows objects h p) × (Shows objects h p → false ≡ true)
 not-shown objects h p fault reported = (
   λ e. absurd (cc),
   λ shown. (let none : first_order_fault objects h p ≡ None = no_fault-from_Shows objects h p shown in absurd (cc)),
 )
 
-pub is-shown : (objects : List Declared) (h : History) (p : List Decision) → first_order_fault objects h p ≡ None →
+is-shown : (objects : List Declared) (h : History) (p : List Decision) → first_order_fault objects h p ≡ None →
     (true ≡ true → Shows objects h p) × (Shows objects h p → true ≡ true)
 is-shown objects h p none = (λ _. Shows-from_no_fault objects h p none, λ _. refl)
+
+pub judged-shows : (objects : List Declared) (h : History) (p : List Decision) (r : Result (Unit {0}) OrderFault) → ReportsOrderFault objects h p r → IsOk r ↔ Shows objects h p
+judged-shows objects h p (Ok _) none = is-shown objects h p none
+judged-shows objects h p (Err fault) some = not-shown objects h p fault some
+
+-- a missing transaction, if there is one
+abbrev pub missing : Option ℕ → Option OrderFault
+missing None = None
+missing (Some t) = Some (Missing t)
 
 -- what placing a decision answered
 pub step-refused : (old new : PlacingOf) (d : Decision) (r : Result (Unit {0}) OrderFault) (fault : OrderFault) →
@@ -203,13 +194,28 @@ pub step-taken : (old new : PlacingOf) (d : Decision) (r : Result (Unit {0}) Ord
 step-taken old new d (Ok _) reported is = (reported.spot, reported.agenda)
 step-taken old new d (Err f) reported is = absurd (cc)
 
--- the same over what a loop has at hand
-pub Goes-wrong-here : (objects : List Declared) (h : History) (p items : List Decision) (i : ℕ) (d d0 : Decision) (s : Spot) (fault : OrderFault) (rows : List RowOf) → IsWellFormed h → Fits objects h →
-    items ≡ p → rows ≡ table_of h → i < length items → Goes objects h p i s → stepped rows s d ≡ Err fault → get_or items i d0 ≡ d → first_order_fault objects h p ≡ Some fault
-Goes-wrong-here objects h p items i d d0 s fault rows fine fits same table inside goes led is =
-    Goes-wrong objects h p i d d0 s fault fine fits (subst (λ l. i < length l) same inside) (ap (λ l. get_or l i d0) (sym same) ∙ is) goes (subst (λ r. stepped r s d ≡ Err fault) table led)
+-- a walk that goes on, stops or ends at the decision of the index
+pub walk-on : (old new : PlacingOf) (p : List Decision) (i : ℕ) (d d0 : Decision) (r : Result (Unit {0}) OrderFault) → i < length p → get_or p i d0 ≡ d →
+    MatchResult r (λ _. Advances old d new (stepped old.agenda.rows old.spot d)) (λ f. (stepped old.agenda.rows old.spot d ≡ Err f) × (new ≡ old)) → r ≡ Ok tt →
+    walk_fault old.agenda.rows old.spot (drop i p) ≡ walk_fault new.agenda.rows new.spot (drop (i + 1) p)
+walk-on old new p i d d0 r inside is reported taken =
+    let led = step-taken old new d r reported taken in
+    ap (walk_fault old.agenda.rows old.spot) (drop_more p i d0 inside ∙ ap (λ x. x ∷ drop (i + 1) p) is)
+    ∙ (ap (λ (r : Result Spot OrderFault). elim r as (λ (_ : Result Spot OrderFault). Option OrderFault) [ Err fault ↦ Some fault | Ok t ↦ walk_fault old.agenda.rows t (drop (i + 1) p) ]) led.0
+    ∙ ap (λ (a : AgendaOf). walk_fault a.rows new.spot (drop (i + 1) p)) (sym led.1))
 
-pub Goes-on-here : (objects : List Declared) (h : History) (p items : List Decision) (i : ℕ) (d d0 : Decision) (s t : Spot) (rows : List RowOf) → IsWellFormed h → Fits objects h →
-    items ≡ p → rows ≡ table_of h → i < length items → Goes objects h p i s → stepped rows s d ≡ Ok t → get_or items i d0 ≡ d → Goes objects h p (i + 1) t
-Goes-on-here objects h p items i d d0 s t rows fine fits same table inside goes led is =
-    Goes-on objects h p i d d0 s t fine fits (subst (λ l. i < length l) same inside) (ap (λ l. get_or l i d0) (sym same) ∙ is) goes (subst (λ r. stepped r s d ≡ Ok t) table led)
+pub walk-stops : (old new : PlacingOf) (p : List Decision) (i : ℕ) (d d0 : Decision) (r : Result (Unit {0}) OrderFault) (fault : OrderFault) → i < length p → get_or p i d0 ≡ d →
+    MatchResult r (λ _. Advances old d new (stepped old.agenda.rows old.spot d)) (λ f. (stepped old.agenda.rows old.spot d ≡ Err f) × (new ≡ old)) → r ≡ Err fault →
+    walk_fault old.agenda.rows old.spot (drop i p) ≡ Some fault
+walk-stops old new p i d d0 r fault inside is reported refused =
+    ap (walk_fault old.agenda.rows old.spot) (drop_more p i d0 inside ∙ ap (λ x. x ∷ drop (i + 1) p) is)
+    ∙ ap (λ (r : Result Spot OrderFault). elim r as (λ (_ : Result Spot OrderFault). Option OrderFault) [ Err fault ↦ Some fault | Ok t ↦ walk_fault old.agenda.rows t (drop (i + 1) p) ])
+    (step-refused old new d r fault reported refused)
+
+pub walk-ends : (rows : List RowOf) (s : Spot) (p : List Decision) (i : ℕ) (o : Option ℕ) → length p ≤ i → o ≡ least_tx (unplaced rows s.placed) →
+    walk_fault rows s (drop i p) ≡ missing o
+walk-ends rows s p i o past is = ap (walk_fault rows s) (drop_all i p past) ∙ (by_least (least_tx (unplaced rows s.placed)) ∙ ap missing (sym is))
+  where
+    by_least : (o : Option ℕ) → (elim o as (λ (_ : Option ℕ). Option OrderFault) [ None ↦ None | Some t ↦ Some (Missing t) ]) ≡ missing o
+    by_least None = refl
+    by_least (Some t) = refl

@@ -7,13 +7,21 @@ use Rattle.aud_history.specs.WellFormed.{IsWellFormed}
 use Rattle.aud_history.specs.FirstFault.{IsWithinLimits}
 use Rattle.aud_history.specs.Table.{RowOf, table_of}
 use Rattle.aud_witness.specs.declared.decision.Decision.{Decision}
+use Rattle.aud_witness.specs.declared.fault.OrderFault.{OrderFault}
+use Rattle.aud_witness.specs.declared.fault.OrderFault.TheVariants.{Missing}
+use Rattle.aud_witness.specs.OrderFaults.{least_tx}
 use Rattle.aud_witness.specs.Orders.{Shows, IsGood}
-use Rattle.aud_witness.specs.Spots.{Spot, first_spot, stepped}
+use Rattle.aud_witness.specs.Spots.{Spot, first_spot, stepped, unplaced}
 
 -- where the decisions lead, if each can be placed in turn
 abbrev pub walked : List RowOf → Spot → List Decision → Option Spot
 walked rows s [] = Some s
 walked rows s (d ∷ p) = elim (stepped rows s d) [ Err _ ↦ None | Ok t ↦ walked rows t p ]
+
+-- what is wrong with the first decision that cannot be placed in turn, or with what is left out
+abbrev pub walk_fault : List RowOf → Spot → List Decision → Option OrderFault
+walk_fault rows s [] = elim (least_tx (unplaced rows s.placed)) [ None ↦ None | Some t ↦ Some (Missing t) ]
+walk_fault rows s (d ∷ p) = elim (stepped rows s d) [ Err fault ↦ Some fault | Ok t ↦ walk_fault rows t p ]
 
 -- every row is placed
 abbrev pub are_all_placed : Spot → Bool
