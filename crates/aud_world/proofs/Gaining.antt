@@ -1,7 +1,9 @@
 -- One of many gains atoms.
-use Rattle.std.proofs.Common.{◌≡◌, ℕ, zero, suc, ◌<◌, List, [], ◌∷◌, ◌++◌, map, length, slice_index_or, slice_set, replicate, refl, sym, ap, subst, ◌∙◌, arith}
-use Rattle.std.specs.Prelude.{Some, slice_get}
-use Rattle.std.proofs.lemmas.Option.{get_or_from_slice_get, slice_get_within}
+use Rattle.std.proofs.Common.{◌≡◌, ℕ, zero, suc, ◌<◌, List, [], ◌∷◌, ◌++◌, map, length, slice_index_or, slice_set, replicate, refl, sym, ap, subst, ◌∙◌, arith, inl, inr, Bor}
+use Rattle.std.specs.Prelude.{Option, Some, None, slice_get, ◌≤◌, MatchOption}
+use Rattle.std.specs.List.{HoldsAt}
+use Rattle.std.specs.Option.{option_copied}
+use Rattle.std.proofs.lemmas.Option.{get_or_from_slice_get, slice_get_within, slice_get_read, slice_get_cases}
 use Rattle.aud_event.specs.Meanings.{PlanOf}
 use Rattle.aud_know.specs.Norms.{atoms_of}
 use Rattle.aud_know.specs.Known.{KnownAtom, KnowledgeOf, knowing, norm_of, Takes}
@@ -124,3 +126,8 @@ posted w w' c n node s there plan nodes packets = record {
       packets ∙ (λ i. s.packets i ++ knows_at w.plan w.nodes c.nodes n node s.nodes there i ∷ []) ∙ sym (map_push (knowing w.plan) c.packets (at_place c.nodes n))
       ∙ ap (λ p. map (knowing p) (c.packets ++ at_place c.nodes n ∷ [])) (sym plan);
 }
+
+-- what stands at a place, as it was looked up
+pub looked_up : {A : Type 0} (xs : List A) (n : ℕ) (o : Option (Bor A)) → MatchOption o (length xs ≤ n) (λ x. (n < length xs) × HoldsAt (λ y. x.now ≡ y) xs n) → option_copied o ≡ slice_get xs n
+looked_up xs n None far = elim (slice_get_cases xs n).1 [ inl p ↦ absurd (omega (arith, far, p.1)) | inr p ↦ sym p.1 ]
+looked_up xs n (Some x) h = sym (slice_get_read xs (length xs) n x.now refl h.0 (h.1 x.now))

@@ -11,8 +11,6 @@ use Rattle.aud_event.specs.Meanings.{PlanOf}
 use Rattle.aud_event.specs.Facts.{first_fact_fault}
 use Rattle.aud_event.specs.declared.fact.Fact.{Fact}
 use Rattle.aud_event.specs.Exactness.{fact_exact}
-use Rattle.aud_event.specs.contracts.fact.FactOrd.TheImpl as fact_order
-use Rattle.aud_event.specs.contracts.fact.FactOrd.TheImpl.Laws as fact_laws
 use Rattle.aud_lattice.specs.Sets.{by_order}
 use Rattle.aud_lattice.specs.Sorted.{sorted_union}
 use Rattle.aud_lattice.proofs.Members.{contains_union}

@@ -5,3 +5,4 @@ pub mod Saying
 pub mod Stepping
 pub mod Running
 pub mod Tracing
+pub mod Taking

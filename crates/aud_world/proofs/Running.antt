@@ -22,6 +22,10 @@ leads_more {X} old mid new moves i m lt e before step c s =
     subst (λ (l : List (Move X)). IsWorldOf new (after_moves c l)) (sym (take_more moves i m lt ∙ ap (λ x. take i moves ++ x ∷ []) (sym e)))
     (subst (IsWorldOf new) (sym (moves_append c (take i moves) (m ∷ []))) (step (after_moves c (take i moves)) (before c s)))
 
+-- a refused move leads nowhere else
+pub led_back : {X : Type 0} (old mid new : WorldOf) (moves : List (Move X)) → new ≡ mid → Leads old moves mid → Leads old moves new
+led_back {X} old mid new moves e before = subst (λ (v : WorldOf). Leads old moves v) (sym e) before
+
 pub all_more : {A : Type 0} (P : A → Type 0) (xs : List A) (i : ℕ) (x : A) → i < length xs → x ≡ slice_index_or xs i x → AllByRecursion P (take i xs) → P x → AllByRecursion P (take (i + 1) xs)
 all_more P xs i x lt e h k = subst (AllByRecursion P) (sym (take_more xs i x lt ∙ ap (λ y. take i xs ++ y ∷ []) (sym e))) (all_push P (take i xs) x h k)
 

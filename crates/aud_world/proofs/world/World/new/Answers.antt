@@ -1,4 +1,5 @@
-use Rattle.std.proofs.Common.{refl, sym, subst, ◌∙◌, List, []}
+use Rattle.std.proofs.Common.{refl, sym, ap, subst, ◌∙◌, List, [], length}
+use Rattle.std.proofs.lemmas.List.{length-replicate}
 use Rattle.aud_know.specs.Known.{KnowledgeOf, knowing}
 use Rattle.aud_world.specs.Worlds.{AreOfPlan}
 use Rattle.aud_world.proofs.Gaining.{map_replicate, of_plan_replicate}
@@ -17,3 +18,9 @@ returns-clause-first g c = record {
   nodes = c.in_ok-nodes.ensures ∙ map_replicate (knowing c.in_ok-plan.plan.value) c.args.nodes [];
   packets = c.new-2.ensures.items;
 }
+
+pub returns-clause-plan : goal.returns-clause-plan
+returns-clause-plan g c = c.in_ok-plan.ensures.ok
+
+pub returns-clause-len : goal.returns-clause-len
+returns-clause-len g c = ap length c.in_ok-nodes.ensures ∙ length-replicate c.args.nodes (knowing c.in_ok-plan.plan.value [])
