@@ -1,20 +1,14 @@
 -- What the node that a list leads to says of the list.
-use Rattle.std.specs.Prelude.{◌≡◌, ◌↔◌, ◌<◌, false, IsTrue, List, [], ◌∷◌, ◌++◌, length, Some, None, refl}
+use Rattle.std.specs.Prelude.{◌≡◌, ◌↔◌, false, IsTrue, List, [], ◌∷◌, ◌++◌, Some, None, refl}
 use Rattle.std.proofs.Common.{sym, ◌∙◌, ap, subst, append_assoc}
 use Rattle.std.proofs.lemmas.List.{append-nil}
-use Rattle.std.specs.Arc.{arc_value}
-use Rattle.std.specs.BTreeMap.{get}
-use Rattle.std.specs.declared.sync.Arc.{Arc}
-use Rattle.std.specs.declared.collections.BTreeMap.{BTreeMap}
 use Rattle.aud_lattice.specs.declared.mark.Mark.TheVariants.{Covered, Inner, Outside}
-use Rattle.aud_lattice.specs.declared.trie.Trie.{Trie, out-Trie, size-Trie}
-use Rattle.aud_lattice.specs.declared.trie.Trie.TheOpen.{Member, Fork}
+use Rattle.aud_lattice.specs.declared.trie.Trie.{Trie}
 use Rattle.aud_lattice.specs.Marks.{mark_of}
 use Rattle.aud_lattice.proofs.Marked.{covered_is, inner_is}
 use Rattle.aud_lattice.specs.Paths.{paths}
-use Rattle.aud_lattice.proofs.Pathed.{marks, member_mark, fork_mark, bare_end, full_end, gone_mark, known_mark, mark_under, mark_nowhere}
-use Rattle.aud_lattice.proofs.Tries.{child_size, fork_child, found_node, gone_node}
-use Rattle.aud_lattice.specs.Walks.{node_of, node_at, walk_mark, IsTrie}
+use Rattle.aud_lattice.proofs.Pathed.{marks, inner_opened, gone_mark, known_mark, mark_under, mark_nowhere}
+use Rattle.aud_lattice.specs.Walks.{child, node_at, walk_mark, IsTrie}
 use Rattle.aud_witness.specs.declared.decision.Decision.{Decision}
 use Rattle.aud_witness.specs.DecisionOrder.{decision_cmp, decisions_total, decision_exact}
 use Rattle.aud_witness.specs.Orders.{IsGood, IsGoodNext}
@@ -40,21 +34,20 @@ module _ {A : Type 0} (cover : List (List Decision)) (p : List Decision) (node :
   here : mark_of decision_cmp cover p ≡ walk_mark decision_cmp node []
   here = ap (mark_of decision_cmp cover) (sym (append-nil p)) ∙ leads []
 
-  pub at-member : out-Trie Decision A node ≡ Member → IsCovered cover p
-  at-member e = is-covered cover p (here ∙ sym (member_mark decision_cmp node [] e))
+  pub at-member : walk_mark decision_cmp node [] ≡ Covered → IsCovered cover p
+  at-member e = is-covered cover p (here ∙ e)
 
-  module _ (next : BTreeMap Decision (Arc (Trie Decision A) A) A) (e : out-Trie Decision A node ≡ Fork next) where
-    pub at-end : length next.entries ≡ 0 → (IsCovered cover p → ⊥) × (IsInside cover p → ⊥)
-    at-end none = is-outside cover p (here ∙ sym (bare_end decision_cmp next.entries none ∙ fork_mark decision_cmp node next [] e refl))
+  pub at-end : walk_mark decision_cmp node [] ≡ Outside → (IsCovered cover p → ⊥) × (IsInside cover p → ⊥)
+  at-end e = is-outside cover p (here ∙ e)
 
-    pub at-inner : (length next.entries ≡ 0 → ⊥) → (IsCovered cover p → ⊥) × IsInside cover p
-    at-inner some = is-inner cover p (here ∙ sym (full_end decision_cmp next.entries some ∙ fork_mark decision_cmp node next [] e refl))
+  pub at-inner : walk_mark decision_cmp node [] ≡ Inner → (IsCovered cover p → ⊥) × IsInside cover p
+  at-inner e = is-inner cover p (here ∙ e)
 
-    pub kid-leads : (d : Decision) (u : Trie Decision A) → node_of decision_cmp next d ≡ Some u → LeadsTo cover (p ++ d ∷ []) u
-    kid-leads d u found q = ap (mark_of decision_cmp cover) (append_assoc p (d ∷ []) q) ∙ leads (d ∷ q) ∙ sym (known_mark decision_cmp node next (d ∷ q) d q u e refl found)
+  pub kid-leads : (d : Decision) (u : Trie Decision A) → child decision_cmp node d ≡ Some u → LeadsTo cover (p ++ d ∷ []) u
+  kid-leads d u found q = ap (mark_of decision_cmp cover) (append_assoc p (d ∷ []) q) ∙ leads (d ∷ q) ∙ known_mark decision_cmp node d q u found
 
-    pub kid-outside : (d : Decision) → node_of decision_cmp next d ≡ None → (IsCovered cover (p ++ d ∷ []) → ⊥) × (IsInside cover (p ++ d ∷ []) → ⊥)
-    kid-outside d gone = is-outside cover (p ++ d ∷ []) (leads (d ∷ []) ∙ sym (gone_mark decision_cmp node next (d ∷ []) d [] e refl gone))
+  pub kid-outside : walk_mark decision_cmp node [] ≡ Inner → (d : Decision) → child decision_cmp node d ≡ None → (IsCovered cover (p ++ d ∷ []) → ⊥) × (IsInside cover (p ++ d ∷ []) → ⊥)
+  kid-outside e d gone = is-outside cover (p ++ d ∷ []) (leads (d ∷ []) ∙ gone_mark decision_cmp node d [] (inner_opened decision_cmp node e) gone)
 
 module _ {A : Type 0} (cover : List (List Decision)) (root : Trie Decision A) (good : IsTrie decision_cmp root) (is : paths root ≡ cover) where
   root_mark : (q : List Decision) → mark_of decision_cmp cover q ≡ walk_mark decision_cmp root q
@@ -71,24 +64,16 @@ module _ {A : Type 0} (cover : List (List Decision)) (root : Trie Decision A) (g
 
 -- # With a cursor
 
-module _ {A : Type 0} (cover : List (List Decision)) (start : CursorOf) (node : Trie Decision A) (leads : LeadsTo cover start.path node)
-    (next : BTreeMap Decision (Arc (Trie Decision A) A) A) (e : out-Trie Decision A node ≡ Fork next) (d : Decision) where
+module _ {A : Type 0} (cover : List (List Decision)) (start : CursorOf) (node : Trie Decision A) (leads : LeadsTo cover start.path node) (d : Decision) where
   -- a kid that was pushed leads to its node
-  pub pushed-leads : (cur pushed : CursorOf) (a : Arc (Trie Decision A) A) (u : Trie Decision A) → get decision_cmp next d ≡ Some a → u ≡ arc_value a →
-      cur ≡ start → pushed ≡ cursor_with cur d → LeadsTo cover pushed.path u
-  pushed-leads cur pushed a u found is same grown =
-      subst (λ (c : CursorOf). LeadsTo cover c.path u) (sym (grown ∙ ap (λ (c : CursorOf). cursor_with c d) same))
-      (subst (λ (w : Trie Decision A). LeadsTo cover (start.path ++ d ∷ []) w) (sym is) (kid-leads cover start.path node leads next e d (arc_value a) (found_node decision_cmp next d a found)))
+  pub pushed-leads : (cur pushed : CursorOf) (u : Trie Decision A) → child decision_cmp node d ≡ Some u → cur ≡ start → pushed ≡ cursor_with cur d → LeadsTo cover pushed.path u
+  pushed-leads cur pushed u found same grown =
+      subst (λ (c : CursorOf). LeadsTo cover c.path u) (sym (grown ∙ ap (λ (c : CursorOf). cursor_with c d) same)) (kid-leads cover start.path node leads d u found)
 
   -- a good kid that leads nowhere is not closed
-  pub gone-closed : get decision_cmp next d ≡ None → IsGood (objects_of start.shape) (history_of start.shape) start.path → IsGoodNext (objects_of start.shape) (history_of start.shape) start.path d →
-      (IsCovered cover start.path → ⊥) × IsInside cover start.path → IsTrue false ↔ IsClosed (objects_of start.shape) (history_of start.shape) cover start.path
-  gone-closed gone good one inner =
-      at-open_kid (objects_of start.shape) (history_of start.shape) cover start.path d false good inner one
+  pub gone-closed : walk_mark decision_cmp node [] ≡ Inner → child decision_cmp node d ≡ None → IsGood (objects_of start.shape) (history_of start.shape) start.path → IsGoodNext (objects_of start.shape) (history_of start.shape) start.path d →
+      IsTrue false ↔ IsClosed (objects_of start.shape) (history_of start.shape) cover start.path
+  gone-closed inner gone good one =
+      at-open_kid (objects_of start.shape) (history_of start.shape) cover start.path d false good (at-inner cover start.path node leads inner) one
       (at-outside (objects_of start.shape) (history_of start.shape) cover (start.path ++ d ∷ []) (IsGood-push (objects_of start.shape) (history_of start.shape) start.path d good one)
-      (kid-outside cover start.path node leads next e d (gone_node decision_cmp next d gone))) refl
-
--- the measure falls
-pub node-falls : {A : Type 0} (node : Trie Decision A) (next : BTreeMap Decision (Arc (Trie Decision A) A) A) → out-Trie Decision A node ≡ Fork next → (d : Decision) (a : Arc (Trie Decision A) A) →
-    get decision_cmp next d ≡ Some a → size-Trie Decision A (arc_value a) < size-Trie Decision A node
-node-falls node next e d a found = child_size decision_cmp node d (arc_value a) (fork_child decision_cmp node next e d ∙ found_node decision_cmp next d a found)
+      (kid-outside cover start.path node leads inner d gone)) refl

@@ -3,40 +3,40 @@
 ghost use Rattle.std.specs.Prelude.{◌≡◌, ◌↔◌, IfOk, OnOk, IsTrue};
 ghost use Rattle.aud_order.specs.Shapes.{objects_of, history_of};
 ghost use Rattle.aud_cover.specs.Closings.{IsClosed};
+ghost use Rattle.aud_lattice.specs.Places.{trie_at};
 ghost use Rattle.aud_cover.specs.Leading.{ReportsClosed};
 
 use aud_event::OutOfMemory;
-use aud_lattice::{Cover, Mark, Trie};
+use aud_lattice::{Cover, Mark, Place};
 use aud_order::{Cursor, Shape};
 use aud_witness::{Decision, Prefix};
 use std::alloc::Allocator;
 
-/// Whether the cursor's list is closed, where it leads to the node. The cursor comes back to it.
+/// Whether the cursor's list is closed, where it leads to the place. The cursor comes back to it.
 fn closed_here<A: Allocator + Copy>(
     alloc: A,
-    node: &Trie<Decision, A>,
+    place: &Place<Decision, A>,
     cursor: &mut Cursor<A>,
 ) -> Result<bool, OutOfMemory>
-    ensures closed { IfOk result (ReportsClosed cursor.old node.now) }
+    ensures closed { IfOk result (ReportsClosed cursor.old (trie_at place.now)) }
     ensures back { OnOk result (cursor.new ≡ cursor.old) }
 {
     let _good = cursor.prefix();
-    let Trie::Fork(next) = node else {
-        return Ok(true);
-    };
-    if next.is_empty() {
-        return Ok(false);
+    match place.here() {
+        Mark::Covered => return Ok(true),
+        Mark::Outside => return Ok(false),
+        Mark::Inner => {}
     }
     if cursor.full() {
         return Ok(false);
     }
     let kids = cursor.kids(alloc)?;
     for kid in &kids {
-        let Some(below) = next.get(kid) else {
+        let Some(below) = place.step(kid) else {
             return Ok(false);
         };
         let _ = cursor.push(*kid)?;
-        let is_closed = closed_here(alloc, below, cursor)?;
+        let is_closed = closed_here(alloc, &below, cursor)?;
         let _ = cursor.pop();
         if !is_closed {
             return Ok(false);
@@ -62,8 +62,8 @@ pub fn closed<A: Allocator + Copy>(
     let Some(mut cursor) = Cursor::after(alloc, shape, prefix.decisions())? else {
         return Ok(true);
     };
-    match cover.trie().node(prefix.decisions()) {
-        Some(node) => closed_here(alloc, node, &mut cursor),
+    match cover.trie().place().at(prefix.decisions()) {
+        Some(place) => closed_here(alloc, &place, &mut cursor),
         None => Ok(false),
     }
 }

@@ -3,30 +3,30 @@
 ghost use Rattle.std.specs.Prelude.{◌≡◌, IfOk, OnOk};
 ghost use Rattle.aud_order.specs.Shapes.{objects_of, history_of};
 ghost use Rattle.aud_cover.specs.Openings.{AreOpen, IsEmptyWhereClosed};
+ghost use Rattle.aud_lattice.specs.Places.{trie_at};
 ghost use Rattle.aud_cover.specs.Leading.{AddsOpen};
 
 use aud_event::OutOfMemory;
-use aud_lattice::{Cover, Trie};
+use aud_lattice::{Cover, Mark, Place};
 use aud_order::{Cursor, Shape};
 use aud_witness::{Decision, Prefix, add_copy};
 use std::alloc::Allocator;
 
-/// Adds the open lists that begin with the cursor's, the least first, where it leads to the node. The cursor comes back to it.
+/// Adds the open lists that begin with the cursor's, the least first, where it leads to the place. The cursor comes back to it.
 fn open_here<A: Allocator + Copy>(
     alloc: A,
-    node: &Trie<Decision, A>,
+    place: &Place<Decision, A>,
     cursor: &mut Cursor<A>,
     list: &mut Vec<Prefix<A>, A>,
 ) -> Result<(), OutOfMemory>
-    ensures added { OnOk result (AddsOpen cursor.old node.now list.old.items list.new.items) }
+    ensures added { OnOk result (AddsOpen cursor.old (trie_at place.now) list.old.items list.new.items) }
     ensures back { OnOk result (cursor.new ≡ cursor.old) }
 {
     let path = cursor.prefix();
-    let Trie::Fork(next) = node else {
-        return Ok(());
-    };
-    if next.is_empty() {
-        return add_copy(alloc, path, list);
+    match place.here() {
+        Mark::Covered => return Ok(()),
+        Mark::Outside => return add_copy(alloc, path, list),
+        Mark::Inner => {}
     }
     if cursor.full() {
         return Ok(());
@@ -34,8 +34,8 @@ fn open_here<A: Allocator + Copy>(
     let kids = cursor.kids(alloc)?;
     for kid in &kids {
         let _ = cursor.push(*kid)?;
-        match next.get(kid) {
-            Some(below) => open_here(alloc, below, cursor, list)?,
+        match place.step(kid) {
+            Some(below) => open_here(alloc, &below, cursor, list)?,
             None => add_copy(alloc, cursor.prefix(), list)?,
         }
         let _ = cursor.pop();
@@ -57,6 +57,6 @@ pub fn open_list<A: Allocator + Copy>(
 {
     let mut list = Vec::new(alloc);
     let mut cursor = Cursor::root(alloc, shape)?;
-    open_here(alloc, cover.trie(), &mut cursor, &mut list)?;
+    open_here(alloc, &cover.trie().place(), &mut cursor, &mut list)?;
     Ok(list)
 }

@@ -15,5 +15,7 @@ pub mod Members
 pub mod Minimal
 pub mod Marked
 pub mod Tries
+pub mod Depths
+pub mod Rests
 pub mod Pathed
 pub mod Normed

@@ -10,6 +10,7 @@ pub mod Norms
 pub mod FactRank
 pub mod Walks
 pub mod Paths
+pub mod Places
 pub mod Sorted
 pub mod Covering
 pub mod Leasts

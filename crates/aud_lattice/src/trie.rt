@@ -1,15 +1,19 @@
-//! Tries of lists, whose nodes are shared: a changed trie keeps what it did not change of the old one.
+//! Tries of lists, whose nodes are shared: a changed trie keeps what it did not change of the old one. A list that stands
+//! alone is kept as a list, since most nodes of a trie of long lists would have one node under them.
 
 ghost use Rattle.std.specs.Prelude.{None, ◌≡◌, ◌++◌, OnOk, OnErr, IfOk, IfSome, IsTrue, ◌↔◌, [], ◌∷◌, map};
 ghost use Rattle.std.specs.Option.{option_copied};
 ghost use Rattle.std.specs.Arc.{arc_value};
 ghost use Rattle.std.specs.BTreeMap.{IsOrdered};
-ghost use Rattle.aud_lattice.specs.Walks.{walk, walk_mark, leads, left_under, nothing, but, starts, node_at, node_of, now_of, AreAlike, AreAlikeBut, AreJoined, IsAdded, IsTrie, IsLeft, IsLive, IsMet, IsWithin, JoinsUnder, LeavesUnder, StandsUnder, ReportsWhetherBare};
+ghost use Rattle.aud_lattice.specs.Places.{trie_at};
+ghost use Rattle.aud_lattice.specs.Sets.{either};
+ghost use Rattle.aud_lattice.specs.Walks.{walk, walk_mark, leads, left_under, nothing, but, starts, node_of, now_of, AreAlike, AreAlikeBut, AreJoined, HasBoth, IsAdded, IsTrie, IsLeft, IsLive, IsMet, IsWithin, JoinsUnder, LeavesUnder, StandsUnder, ReportsWhetherBare};
 ghost use Rattle.aud_lattice.specs.Paths.{paths};
 ghost use Rattle.aud_lattice.specs.Covers.{begins};
 ghost use Rattle.aud_lattice.specs.declared.trie.Trie.TheVariants.{Fork};
 
 use crate::mark::Mark;
+use crate::place::Place;
 use crate::row::Row;
 use aud_event::{Dup, Key, OutOfMemory};
 use std::alloc::{Allocator, Global};
@@ -17,11 +21,11 @@ use std::collections::BTreeMap;
 use std::mem;
 use std::sync::Arc;
 
-/// A member, or an ordered map from an element to the next node, which other tries may share.
+/// What is left of one list, or an ordered map from an element to the next node, which other tries may share.
 #[derive(Drop)]
 pub enum Trie<D: Key + Dup, A: Allocator + Copy = Global> {
-    /// The end of a list.
-    Member,
+    /// One list alone. Where it is empty a list ends here.
+    Rest(Row<D, A>),
     /// The nodes under each element.
     Fork(BTreeMap<D, Arc<Trie<D, A>, A>, A>),
 }
@@ -85,17 +89,24 @@ fn own_nodes<D: Key + Dup, A: Allocator + Copy>(
     }
 }
 
-// The node that stands alone, with its element. Most nodes have no other beside them, and a walk need not look for one.
-fn alone<D: Key + Dup, A: Allocator + Copy>(
-    nodes: &BTreeMap<D, Arc<Trie<D, A>, A>, A>,
-) -> Option<(&D, &Arc<Trie<D, A>, A>)>
-    ensures { IfSome result (λ e. nodes.now.entries ≡ (e.0.now, e.1.now) ∷ []) }
+// Puts the trie under the element, where there is none.
+fn add<D: Key + Dup, A: Allocator + Copy>(
+    next: &mut BTreeMap<D, Arc<Trie<D, A>, A>, A>,
+    alloc: &A,
+    first: &D,
+    below: Trie<D, A>,
+) -> Result<(), OutOfMemory>
+    requires into { IsTrie D.Ord.cmp (Fork next.old) }
+    requires below { IsTrie D.Ord.cmp below }
+    requires live { IsLive D.Ord.cmp below }
+    requires absent { node_of D.Ord.cmp next.old first.now ≡ None }
+    ensures good { OnOk result (IsTrie D.Ord.cmp (Fork next.new)) }
+    ensures others { OnOk result (AreAlikeBut D.Ord.cmp first.now next.old next.new) }
+    ensures under { OnOk result (walk D.Ord.cmp (Fork next.new)
+        ≡ either (starts D.Ord.cmp first.now (walk D.Ord.cmp below)) (walk D.Ord.cmp (Fork next.old))) }
 {
-    if nodes.len() == 1 {
-        nodes.first_key_value()
-    } else {
-        None
-    }
+    let node = Arc::new(*alloc, below)?;
+    set(next, first, node)
 }
 
 impl<D: Key + Dup, A: Allocator + Copy> Trie<D, A> {
@@ -107,59 +118,75 @@ impl<D: Key + Dup, A: Allocator + Copy> Trie<D, A> {
         Trie::Fork(BTreeMap::new(alloc))
     }
 
+    // The trie of the empty list. It does not allocate.
+    fn end(alloc: A) -> Trie<D, A>
+        ensures nothing_left { walk D.Ord.cmp result ≡ begins D.Ord.cmp [] }
+        ensures good { IsTrie D.Ord.cmp result }
+    {
+        Trie::Rest(Row::empty(alloc))
+    }
+
+    // The trie of one list.
+    fn of_list(alloc: &A, list: &[D]) -> Result<Trie<D, A>, OutOfMemory>
+        ensures good { IfOk result (IsTrie D.Ord.cmp) }
+        ensures one { IfOk result (λ t. walk D.Ord.cmp t ≡ begins D.Ord.cmp list.now) }
+    {
+        let rest = Row::copy_of(*alloc, list)?;
+        Ok(Trie::Rest(rest))
+    }
+
+    // The trie of two lists; of the shorter where it begins the other.
+    fn of_both(alloc: &A, one: &[D], other: &[D]) -> Result<Trie<D, A>, OutOfMemory>
+        ensures good { IfOk result (IsTrie D.Ord.cmp) }
+        ensures both { IfOk result (HasBoth D.Ord.cmp one.now other.now) }
+    {
+        let known: Place<D, A> = Place::Rest(one);
+        match known.mark(other) {
+            Mark::Covered => Trie::of_list(alloc, one),
+            Mark::Inner => Trie::of_list(alloc, other),
+            Mark::Outside => Trie::parted(alloc, one, other),
+        }
+    }
+
+    // The same, node by node.
+    fn parted(alloc: &A, one: &[D], other: &[D]) -> Result<Trie<D, A>, OutOfMemory>
+        ensures good { IfOk result (IsTrie D.Ord.cmp) }
+        ensures both { IfOk result (HasBoth D.Ord.cmp one.now other.now) }
+    {
+        let Some((head, tail)) = one.split_first() else {
+            return Ok(Trie::end(*alloc));
+        };
+        let Some((first, rest)) = other.split_first() else {
+            return Ok(Trie::end(*alloc));
+        };
+        let mut next = BTreeMap::new(*alloc);
+        if head.cmp(first).is_eq() {
+            let below = Trie::parted(alloc, tail, rest)?;
+            add(&mut next, alloc, head, below)?;
+            return Ok(Trie::Fork(next));
+        }
+        let below = Trie::of_list(alloc, tail)?;
+        add(&mut next, alloc, head, below)?;
+        let beside = Trie::of_list(alloc, rest)?;
+        add(&mut next, alloc, first, beside)?;
+        Ok(Trie::Fork(next))
+    }
+
+    /// The place of the whole trie. It does not allocate.
+    pub fn place(&self) -> Place<'_, D, A>
+        ensures { trie_at result ≡ self.now }
+    {
+        match self {
+            Trie::Rest(rest) => Place::Rest(rest.as_slice()),
+            Trie::Fork(nodes) => Place::Fork(nodes),
+        }
+    }
+
     /// How the list stands to the trie. It does not allocate.
     pub fn mark(&self, list: &[D]) -> Mark
         ensures { result ≡ walk_mark D.Ord.cmp self.now list.now }
     {
-        match self {
-            Trie::Member => Mark::Covered,
-            Trie::Fork(next) => match list.split_first() {
-                None => {
-                    if next.is_empty() {
-                        Mark::Outside
-                    } else {
-                        Mark::Inner
-                    }
-                }
-                Some((first, rest)) => match next.get(first) {
-                    None => Mark::Outside,
-                    Some(node) => node.mark(rest),
-                },
-            },
-        }
-    }
-
-    /// The node that the list leads to, if it leads to one. It does not allocate.
-    pub fn node(&self, list: &[D]) -> Option<&Trie<D, A>>
-        ensures { option_copied result ≡ node_at D.Ord.cmp list.now self.now }
-    {
-        match list.split_first() {
-            None => Some(self),
-            Some((first, rest)) => match self {
-                Trie::Member => None,
-                Trie::Fork(next) => match next.get(first) {
-                    None => None,
-                    Some(below) => below.node(rest),
-                },
-            },
-        }
-    }
-
-    // The trie of one list.
-    fn chain(alloc: &A, list: &[D]) -> Result<Trie<D, A>, OutOfMemory>
-        ensures good { IfOk result (IsTrie D.Ord.cmp) }
-        ensures one { IfOk result (λ t. walk D.Ord.cmp t ≡ begins D.Ord.cmp list.now) }
-    {
-        match list.split_first() {
-            None => Ok(Trie::Member),
-            Some((first, rest)) => {
-                let node = Trie::chain(alloc, rest)?;
-                let node = Arc::new(*alloc, node)?;
-                let mut next = BTreeMap::new(*alloc);
-                set(&mut next, first, node)?;
-                Ok(Trie::Fork(next))
-            }
-        }
+        self.place().mark(list)
     }
 
     /// A trie of the same lists, which shares the nodes below the root.
@@ -169,7 +196,7 @@ impl<D: Key + Dup, A: Allocator + Copy> Trie<D, A> {
         ensures same { IfOk result (λ t. walk D.Ord.cmp t ≡ walk D.Ord.cmp self.now) }
     {
         match self {
-            Trie::Member => Ok(Trie::Member),
+            Trie::Rest(rest) => Trie::of_list(alloc, rest.as_slice()),
             Trie::Fork(nodes) => {
                 let all = shared_nodes(nodes, alloc)?;
                 Ok(Trie::Fork(all))
@@ -184,8 +211,17 @@ impl<D: Key + Dup, A: Allocator + Copy> Trie<D, A> {
         ensures ok { OnOk result (IsAdded D.Ord.cmp list.now self.old self.new) }
         ensures err { OnErr result (walk D.Ord.cmp self.new ≡ walk D.Ord.cmp self.old) }
     {
-        match mem::replace(self, Trie::Member) {
-            Trie::Member => Ok(()),
+        match mem::replace(self, Trie::end(*alloc)) {
+            Trie::Rest(known) => match Trie::of_both(alloc, known.as_slice(), list) {
+                Ok(both) => {
+                    *self = both;
+                    Ok(())
+                }
+                Err(refused) => {
+                    *self = Trie::Rest(known);
+                    Err(refused)
+                }
+            },
             Trie::Fork(mut next) => match list.split_first() {
                 None => Ok(()),
                 Some((first, rest)) => {
@@ -216,7 +252,7 @@ impl<D: Key + Dup, A: Allocator + Copy> Trie<D, A> {
                 set(next, first, node)
             }
             None => {
-                let node = Trie::chain(alloc, rest)?;
+                let node = Trie::of_list(alloc, rest)?;
                 let node = Arc::new(*alloc, node)?;
                 set(next, first, node)
             }
@@ -231,9 +267,9 @@ impl<D: Key + Dup, A: Allocator + Copy> Trie<D, A> {
         ensures both { IfOk result (IsAdded D.Ord.cmp list.now self.now) }
     {
         match self {
-            Trie::Member => Ok(Trie::Member),
+            Trie::Rest(known) => Trie::of_both(alloc, known.as_slice(), list),
             Trie::Fork(next) => match list.split_first() {
-                None => Ok(Trie::Member),
+                None => Ok(Trie::end(*alloc)),
                 Some((first, rest)) => {
                     let mut all = shared_nodes(next, alloc)?;
                     Trie::put_under(&mut all, alloc, first, rest)?;
@@ -256,17 +292,19 @@ impl<D: Key + Dup, A: Allocator + Copy> Trie<D, A> {
         ensures good { IfOk result (λ joined. IsTrie D.Ord.cmp (now_of self.now joined)) }
         ensures both { IfOk result (λ joined. AreJoined D.Ord.cmp from.now self.now (now_of self.now joined)) }
     {
-        match self {
-            Trie::Member => Ok(None),
-            Trie::Fork(ours) => match from {
-                Trie::Member => Ok(Some(Trie::Member)),
-                Trie::Fork(theirs) => {
-                    if let Some((first, node)) = alone(theirs) {
-                        return match Trie::grafted(ours, None, first, node, alloc)? {
-                            Some(nodes) => Ok(Some(Trie::Fork(nodes))),
-                            None => Ok(None),
-                        };
+        match from {
+            Trie::Rest(theirs) => match self.mark(theirs.as_slice()) {
+                Mark::Covered => Ok(None),
+                _ => Ok(Some(self.with(alloc, theirs.as_slice())?)),
+            },
+            Trie::Fork(theirs) => match self {
+                Trie::Rest(ours) => {
+                    if from.is_within(&self.place()) {
+                        return Ok(None);
                     }
+                    Ok(Some(from.with(alloc, ours.as_slice())?))
+                }
+                Trie::Fork(ours) => {
                     let mut all = None;
                     for (first, node) in theirs {
                         all = Trie::grafted(ours, all, first, node, alloc)?;
@@ -328,43 +366,37 @@ impl<D: Key + Dup, A: Allocator + Copy> Trie<D, A> {
 
     /// Whether each list with a beginning here has one there. It does not allocate.
     #[cycle(withins)]
-    pub(crate) fn is_within(&self, other: &Trie<D, A>) -> bool
+    pub(crate) fn is_within(&self, other: &Place<D, A>) -> bool
         requires here { IsTrie D.Ord.cmp self.now }
-        requires there { IsTrie D.Ord.cmp other.now }
-        ensures { IsTrue result ↔ IsWithin (walk D.Ord.cmp self.now) (walk D.Ord.cmp other.now) }
+        requires there { IsTrie D.Ord.cmp (trie_at other.now) }
+        ensures { IsTrue result ↔ IsWithin (walk D.Ord.cmp self.now) (walk D.Ord.cmp (trie_at other.now)) }
     {
-        match other {
-            Trie::Member => true,
-            Trie::Fork(_) => match self {
-                Trie::Member => false,
-                Trie::Fork(nodes) => {
-                    if let Some((first, node)) = alone(nodes) {
-                        return Trie::is_within_at(node, first, other);
-                    }
-                    for (first, node) in nodes {
-                        if !Trie::is_within_at(node, first, other) {
-                            return false;
-                        }
-                    }
-                    true
-                }
+        match self {
+            Trie::Rest(rest) => match other.mark(rest.as_slice()) {
+                Mark::Covered => true,
+                _ => false,
             },
+            Trie::Fork(nodes) => {
+                for (first, node) in nodes {
+                    if !Trie::is_within_at(node, first, other) {
+                        return false;
+                    }
+                }
+                true
+            }
         }
     }
 
     #[cycle(withins)]
-    fn is_within_at(node: &Trie<D, A>, first: &D, other: &Trie<D, A>) -> bool
+    fn is_within_at(node: &Trie<D, A>, first: &D, other: &Place<D, A>) -> bool
         requires node { IsTrie D.Ord.cmp node.now }
         requires live { IsLive D.Ord.cmp node.now }
-        requires there { IsTrie D.Ord.cmp other.now }
-        ensures { IsTrue result ↔ IsWithin (starts D.Ord.cmp first.now (walk D.Ord.cmp node.now)) (walk D.Ord.cmp other.now) }
+        requires there { IsTrie D.Ord.cmp (trie_at other.now) }
+        ensures { IsTrue result ↔ IsWithin (starts D.Ord.cmp first.now (walk D.Ord.cmp node.now)) (walk D.Ord.cmp (trie_at other.now)) }
     {
-        match other {
-            Trie::Member => true,
-            Trie::Fork(theirs) => match theirs.get(first) {
-                None => false,
-                Some(known) => node.is_within(known),
-            },
+        match other.step(first) {
+            None => other.is_end(),
+            Some(known) => node.is_within(&known),
         }
     }
 
@@ -374,34 +406,32 @@ impl<D: Key + Dup, A: Allocator + Copy> Trie<D, A> {
         ensures { ReportsWhetherBare D.Ord.cmp result self.now }
     {
         match self {
-            Trie::Member => false,
+            Trie::Rest(_) => false,
             Trie::Fork(next) => next.is_empty(),
         }
     }
 
     /// A trie of the lists that the other has not. What the other has nothing beside is shared.
     #[cycle(leavings)]
-    pub(crate) fn without(&self, other: &Trie<D, A>, alloc: &A) -> Result<Trie<D, A>, OutOfMemory>
-        requires here { IsTrie D.Ord.cmp self.now }
-        requires there { IsTrie D.Ord.cmp other.now }
+    pub(crate) fn without(&self, other: &Place<D, A>, alloc: &A) -> Result<Trie<D, A>, OutOfMemory>
+        requires { IsTrie D.Ord.cmp self.now }
         ensures good { IfOk result (IsTrie D.Ord.cmp) }
-        ensures left { IfOk result (λ t. leads D.Ord.cmp t ≡ but (leads D.Ord.cmp self.now) (leads D.Ord.cmp other.now)) }
+        ensures left { IfOk result (λ t. leads D.Ord.cmp t ≡ but (leads D.Ord.cmp self.now) (leads D.Ord.cmp (trie_at other.now))) }
     {
         match self {
-            Trie::Member => match other {
-                Trie::Member => Ok(Trie::empty(*alloc)),
-                Trie::Fork(_) => Ok(Trie::Member),
-            },
-            Trie::Fork(nodes) => match other {
-                Trie::Member => self.copied(alloc),
-                Trie::Fork(theirs) => {
-                    let mut all = BTreeMap::new(*alloc);
-                    for (first, node) in nodes {
-                        Trie::leave(&mut all, first, node, theirs, alloc)?;
-                    }
-                    Ok(Trie::Fork(all))
+            Trie::Rest(rest) => {
+                if other.has(rest.as_slice()) {
+                    return Ok(Trie::empty(*alloc));
                 }
-            },
+                Trie::of_list(alloc, rest.as_slice())
+            }
+            Trie::Fork(nodes) => {
+                let mut all = BTreeMap::new(*alloc);
+                for (first, node) in nodes {
+                    Trie::leave(&mut all, first, node, other, alloc)?;
+                }
+                Ok(Trie::Fork(all))
+            }
         }
     }
 
@@ -411,17 +441,16 @@ impl<D: Key + Dup, A: Allocator + Copy> Trie<D, A> {
         all: &mut BTreeMap<D, Arc<Trie<D, A>, A>, A>,
         first: &D,
         node: &Arc<Trie<D, A>, A>,
-        theirs: &BTreeMap<D, Arc<Trie<D, A>, A>, A>,
+        theirs: &Place<D, A>,
         alloc: &A,
     ) -> Result<(), OutOfMemory>
         requires node { IsTrie D.Ord.cmp (arc_value node.now) }
         requires live { IsLive D.Ord.cmp (arc_value node.now) }
-        requires theirs { IsTrie D.Ord.cmp (Fork theirs.now) }
         requires into { IsTrie D.Ord.cmp (Fork all.old) }
         requires absent { node_of D.Ord.cmp all.old first.now ≡ None }
         ensures good { OnOk result (IsTrie D.Ord.cmp (Fork all.new)) }
         ensures others { OnOk result (AreAlikeBut D.Ord.cmp first.now all.old all.new) }
-        ensures left { OnOk result (LeavesUnder D.Ord.cmp first.now (arc_value node.now) theirs.now all.old all.new) }
+        ensures left { OnOk result (LeavesUnder D.Ord.cmp first.now (arc_value node.now) (trie_at theirs.now) all.old all.new) }
     {
         match Trie::left(first, node, theirs, alloc)? {
             None => Ok(()),
@@ -434,18 +463,17 @@ impl<D: Key + Dup, A: Allocator + Copy> Trie<D, A> {
     fn left(
         first: &D,
         ours: &Arc<Trie<D, A>, A>,
-        theirs: &BTreeMap<D, Arc<Trie<D, A>, A>, A>,
+        theirs: &Place<D, A>,
         alloc: &A,
     ) -> Result<Option<Arc<Trie<D, A>, A>>, OutOfMemory>
         requires ours { IsTrie D.Ord.cmp (arc_value ours.now) }
         requires live { IsLive D.Ord.cmp (arc_value ours.now) }
-        requires theirs { IsTrie D.Ord.cmp (Fork theirs.now) }
-        ensures { IfOk result (IsLeft D.Ord.cmp (left_under D.Ord.cmp first.now (arc_value ours.now) theirs.now)) }
+        ensures { IfOk result (IsLeft D.Ord.cmp (left_under D.Ord.cmp first.now (arc_value ours.now) (trie_at theirs.now))) }
     {
-        match theirs.get(first) {
+        match theirs.step(first) {
             None => Ok(Some(Arc::try_clone(ours)?)),
             Some(known) => {
-                let left = ours.without(known, alloc)?;
+                let left = ours.without(&known, alloc)?;
                 if left.is_bare() {
                     Ok(None)
                 } else {
@@ -467,15 +495,12 @@ impl<D: Key + Dup, A: Allocator + Copy> Trie<D, A> {
         ensures all { OnOk result (all.new.items ≡ all.old.items ++ map (λ p. path.old.items ++ p) (paths self.now)) }
     {
         match self {
-            Trie::Member => {
-                let row = Row::copy_of(*alloc, path)?;
+            Trie::Rest(rest) => {
+                let row = Row::copy_of_both(*alloc, path, rest.as_slice())?;
                 all.push(row)?;
                 Ok(())
             }
             Trie::Fork(nodes) => {
-                if let Some((first, node)) = alone(nodes) {
-                    return Trie::push_under(node, first, alloc, path, all);
-                }
                 for (first, node) in nodes {
                     Trie::push_under(node, first, alloc, path, all)?;
                 }

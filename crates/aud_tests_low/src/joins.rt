@@ -151,12 +151,20 @@ fn marks_each<A: Allocator + Copy>(cover: &Cover<u32, A>) -> bool {
     true
 }
 
-/// Whether the trie of that cover leads to its members and to the node between, and nowhere below a member.
+/// How the list stands to the trie, if it leads to a place there.
+fn mark_at<A: Allocator + Copy>(trie: &Trie<u32, A>, list: &[u32]) -> Option<Mark> {
+    match trie.place().at(list) {
+        Some(place) => Some(place.here()),
+        None => None,
+    }
+}
+
+/// Whether the trie of that cover leads to the ends of its lists and to the place between, and nowhere below an end.
 fn leads<A: Allocator + Copy>(trie: &Trie<u32, A>) -> bool {
-    let ends = matches!(trie.node(&[1]), Some(Trie::Member))
-        && matches!(trie.node(&[2, 2]), Some(Trie::Member));
-    let inner = matches!(trie.node(&[2]), Some(Trie::Fork(_)));
-    ends && inner && trie.node(&[1, 2]).is_none() && trie.mark(&[2]) == Mark::Inner
+    let ends = mark_at(trie, &[1]) == Some(Mark::Covered)
+        && mark_at(trie, &[2, 2]) == Some(Mark::Covered);
+    let inner = mark_at(trie, &[2]) == Some(Mark::Inner);
+    ends && inner && mark_at(trie, &[1, 2]).is_none() && trie.mark(&[2]) == Mark::Inner
 }
 
 /// Whether these are `1` and `2 2`, in this order.

@@ -1,9 +1,9 @@
 use Rattle.std.specs.Prelude.{◌≡◌, ◌↔◌, IsTrue, List, Some, None}
-use Rattle.std.specs.Option.{option_copied}
 use Rattle.std.proofs.Common.{sym, ◌∙◌, ap, subst}
 use Rattle.aud_lattice.specs.declared.mark.Mark.TheVariants.{Covered}
 use Rattle.aud_lattice.specs.Marks.{mark_of}
 use Rattle.aud_event.proofs.Results.{if_both}
+use Rattle.aud_lattice.specs.Places.{trie_at, tries_at}
 use Rattle.aud_lattice.specs.Walks.{node_at}
 use Rattle.aud_witness.specs.declared.decision.Decision.{Decision}
 use Rattle.aud_witness.specs.DecisionOrder.{decision_cmp}
@@ -29,14 +29,15 @@ returns-in_default-2 g c =
     let none : IsCursorAfter shape p None = subst (IsCursorAfter shape p) c.in_default-2.is (subst (λ (l : List Decision). IsCursorAfter shape l c.in_ok-cursor.field-0) c.decisions-2.ensures c.in_ok-cursor.ensures) in
     at-bad (objects_of shape) (history_of shape) c.args.cover.now p none
 
-pub returns-in-Some-node : goal.returns-in-Some-node
-returns-in-Some-node g c =
+pub returns-in-Some-at : goal.returns-in-Some-at
+returns-in-Some-at g c =
     let shape = c.args.shape.now in
     let p = c.args.prefix.now in
     let cover = c.args.cover.now in
-    let node = c.in-Some-node.node.now in
+    let root = c.trie.result.now in
+    let node = trie_at c.in-Some-at.place in
     let found : IsCursorAfter shape p (Some c.in-Some.cursor) = subst (IsCursorAfter shape p) c.in-Some.is (subst (λ (l : List Decision). IsCursorAfter shape l c.in_ok-cursor.field-0) c.decisions-2.ensures c.in_ok-cursor.ensures) in
-    let at : node_at decision_cmp p c.trie.result.now ≡ Some node = ap (λ l. node_at decision_cmp l c.trie.result.now) (sym c.decisions-3.ensures) ∙ sym c.node.ensures ∙ ap option_copied c.in-Some-node.is in
+    let at : node_at decision_cmp p root ≡ Some node = (λ i. node_at decision_cmp (sym c.decisions-3.ensures i) (sym c.place.ensures i)) ∙ sym c.at.ensures ∙ ap tries_at c.in-Some-at.is in
     let leads : LeadsTo cover p node = node-leads cover c.trie.result.now c.trie.ensures.good c.trie.ensures.lists p node at in
     if_both c.closed_here.result (ReportsClosed c.in-Some.cursor node) (ReportsClosed c.in-Some.cursor node) (λ b. IsTrue b ↔ IsClosedAt cover (record { shape = shape; path = p }))
     (λ b reported _. subst (λ (w : CursorOf). ReportsClosed w node b) found.0 reported cover leads) c.closed_here.ensures.closed c.closed_here.ensures.closed
@@ -47,6 +48,6 @@ returns g c =
     let p = c.args.prefix.now in
     let cover = c.args.cover.now in
     let found : IsCursorAfter shape p (Some c.in-Some.cursor) = subst (IsCursorAfter shape p) c.in-Some.is (subst (λ (l : List Decision). IsCursorAfter shape l c.in_ok-cursor.field-0) c.decisions-2.ensures c.in_ok-cursor.ensures) in
-    let at : node_at decision_cmp p c.trie.result.now ≡ None = ap (λ l. node_at decision_cmp l c.trie.result.now) (sym c.decisions-3.ensures) ∙ sym c.node.ensures ∙ ap option_copied c.in-None.is in
+    let at : node_at decision_cmp p c.trie.result.now ≡ None = (λ i. node_at decision_cmp (sym c.decisions-3.ensures i) (sym c.place.ensures i)) ∙ sym c.at.ensures ∙ ap tries_at c.in-None.is in
     let apart : mark_of decision_cmp cover p ≡ Covered → ⊥ = λ e. c.in_default.not-Covered (c.mark.ensures.mark ∙ ap (mark_of decision_cmp cover) c.decisions.ensures ∙ e) in
     at-outside (objects_of shape) (history_of shape) cover p found.1 (nowhere-outside cover c.trie.result.now c.trie.ensures.good c.trie.ensures.lists p at apart)

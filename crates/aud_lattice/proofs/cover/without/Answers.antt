@@ -1,4 +1,5 @@
-use Rattle.std.proofs.Common.{◌≡◌}
+use Rattle.std.proofs.Common.{◌≡◌, ◌∙◌}
+use Rattle.aud_lattice.specs.Places.{trie_at}
 use Rattle.aud_lattice.specs.Walks.{leads, but, IsTrie}
 use Rattle.aud_event.proofs.Results.{if_both}
 use Rattle.aud_lattice.proofs.Pathed.{cover-paths}
@@ -15,6 +16,6 @@ returns-clause-members g c =
     let R = g.D.Ord.cmp in
     let x = c.args.root.now in
     let y = c.args.other.now in
-    if_both c.without.result (IsTrie R) (λ t. leads R t ≡ but (leads R x) (leads R y)) _
-    (λ t good is. left_members R g.met.D.Ord.total g.met.D.Key.exact x y t c.requires.root c.requires.other good is)
+    if_both c.without.result (IsTrie R) (λ t. leads R t ≡ but (leads R x) (leads R (trie_at c.place.result))) _
+    (λ t good is. left_members R g.met.D.Ord.total g.met.D.Key.exact x y t c.requires.root c.requires.other good (is ∙ (λ i. but (leads R x) (leads R (c.place.ensures i)))))
     c.without.ensures.good c.without.ensures.left
