@@ -1,9 +1,9 @@
-pub mod Keys
-pub mod Members
-pub mod Placing
-pub mod Kids
-pub mod Refutes
-pub mod OnTheWay
-pub mod Ends
+mod Beginnings
 pub mod Alike
+pub mod Ends
+pub mod Keys
+pub mod Kids
 pub mod Lines
+pub mod OnTheWay
+pub mod Placing
+pub mod Refutes

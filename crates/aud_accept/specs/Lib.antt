@@ -1,4 +1,5 @@
 pub mod Acceptance
+pub mod Beginnings
 pub mod Laws
 pub mod Moves
 pub mod OfShapes

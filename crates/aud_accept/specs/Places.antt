@@ -1,5 +1,5 @@
--- Lists of decisions as the keys of a set: each is kept in two parts, beside the number that it is hashed by.
-use Rattle.std.specs.Prelude.{◌≡◌, ℕ, ◌+◌, ◌*◌, ◌%◌, ◌^◌, List, [], ◌∷◌, ◌++◌, Option, None, Some, true}
+-- Lists of decisions as the keys of a table, and the number that each is hashed by.
+use Rattle.std.specs.Prelude.{◌≡◌, ℕ, ◌+◌, ◌*◌, ◌%◌, ◌^◌, List, true}
 use Rattle.std.specs.Cmp.{Equal-is}
 use Rattle.std.specs.Cmp.Lexicographic.{slice_cmp}
 use Rattle.std.specs.Hash.{HashWrites, u64}
@@ -10,13 +10,6 @@ use Rattle.aud_witness.specs.declared.decision.Fate.{Fate}
 use Rattle.aud_witness.specs.declared.decision.Fate.TheVariants.{C, A}
 use Rattle.aud_witness.specs.declared.decision.Decision.{Decision}
 use Rattle.aud_witness.specs.DecisionOrder.{decision_cmp, prefix_exact}
-
--- a beginning, and the decision after it, if there is one
-abbrev pub joined : List Decision → Option Decision → List Decision
-joined front None = front
-joined front (Some d) = front ++ d ∷ []
-
--- # Hashing
 
 abbrev pub numbered : ℕ → Fate → ℕ
 numbered tx C = tx * 2
@@ -39,10 +32,3 @@ sum_input ds = u64 (sum_of ds)
 
 pub same_sum : (x y : List Decision) → eq_by_cmp (slice_cmp decision_cmp) x y ≡ true → sum_input x ≡ sum_input y
 same_sum x y e i = sum_input (prefix_exact x y ((Equal-is (slice_cmp decision_cmp x y)).0 e) i)
-
--- # What a key keeps
-
--- the beginning has all decisions where none is after it, and the sum is the list's
-pub record IsKept (front : List Decision) (last : Option Decision) (sum : ℕ) : Type 0 where
-  pub whole : last ≡ None → front ≡ []
-  pub summed : sum ≡ sum_of (joined front last)

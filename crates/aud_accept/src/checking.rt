@@ -8,9 +8,8 @@ ghost use Rattle.aud_accept.specs.Acceptance.{prefix_in, LeadAlike, EndsEmpty, I
 ghost use Rattle.aud_accept.specs.OfShapes.{AreGoodFor, HasKidsFor, HasLines, HasSameFor, HasSilentFor, IsAcceptedFor};
 
 use crate::cert::{Cert, CertLine};
-use crate::earlier::Earlier;
+use crate::earlier::{Earlier, is_among};
 use crate::moving::go_to;
-use crate::place::{Place, sum_of};
 use aud_event::OutOfMemory;
 use aud_order::{Cursor, Shape};
 use aud_witness::{Decision, Fate};
@@ -24,10 +23,9 @@ fn has_all<'c, A: Allocator + Copy>(
 ) -> bool
     ensures { IsTrue result ↔ HasLines earlier.now prefix.entry.now kids.now }
 {
-    let sum = sum_of(prefix);
+    let noted = earlier.after(prefix);
     for kid in kids {
-        let next = Place::after(prefix, sum, *kid);
-        if !earlier.has(&next) {
+        if !is_among(noted, *kid) {
             return false;
         }
     }
@@ -97,8 +95,7 @@ fn has_silent<'c, A: Allocator + Copy>(
     if !cursor.push(decision)?.is_good() {
         return Ok(false);
     }
-    let next = Place::after(prefix, sum_of(prefix), decision);
-    Ok(earlier.has(&next))
+    Ok(earlier.has_after(prefix, decision))
 }
 
 /// Whether the prefixes of the two cursors place the same transactions and leave the same states.
@@ -126,7 +123,7 @@ fn has_same<'c, A: Allocator + Copy>(
     ensures accepted { IfOk result (λ has. IsTrue has ↔ HasSameFor cursor.now.shape earlier.now cursor.now.path prefix.now) }
     ensures shape { OnOk result (other.new.shape ≡ other.old.shape) }
 {
-    if !earlier.has(&Place::of(prefix)) {
+    if !earlier.has(prefix) {
         return Ok(false);
     }
     if !go_to(other, prefix)? {
@@ -191,12 +188,12 @@ pub fn check_cert<A: Allocator + Copy>(
     }
     let mut cursor = Cursor::root(alloc, shape)?;
     let mut other = Cursor::root(alloc, shape)?;
-    let mut earlier = Earlier::with_room(alloc, cert.lines.len())?;
+    let mut earlier = Earlier::none(alloc);
     for line in &cert.lines {
         if !accepts(alloc, shape, &mut cursor, &mut other, &earlier, line)? {
             return Ok(false);
         }
-        earlier.add(Place::of(line.prefix().decisions()))?;
+        earlier.add(line.prefix().decisions())?;
     }
     Ok(true)
 }

@@ -1,6 +1,6 @@
-//! Lists of decisions as the keys of a set, which own none of their decisions.
+//! Lists of decisions as the keys of a table, which own none of their decisions.
 
-ghost use Rattle.std.specs.Prelude.{◌≡◌, ◌↔◌, ◌++◌, [], ◌∷◌, Some, IsTrue};
+ghost use Rattle.std.specs.Prelude.{◌≡◌, ◌↔◌, IsTrue};
 ghost use Rattle.std.specs.List.{fold};
 ghost use Rattle.std.specs.Cmp.Lexicographic.{slice_cmp, lists_total};
 ghost use Rattle.std.specs.Cmp.{eq_by_cmp_equiv, partial_equiv_from_equiv};
@@ -12,26 +12,23 @@ use aud_witness::{Decision, Fate};
 use std::hash::{Hash, Hasher};
 use std::marker::Model;
 
-/// A list of decisions, kept as all but its last decision and that one, so that a list and a decision after it need no copy.
-///
-/// It is hashed by a number that is made once, from that of the list without its last decision.
+/// A list of decisions, beside the number that it is hashed by, which is made once.
 #[derive(Drop)]
 pub(crate) struct Place<'a> {
-    front: &'a [Decision],
-    last: Option<Decision>,
+    list: &'a [Decision],
     sum: u64,
 }
 
 impl<'a> Model for Place<'a> {
-    ghost use Rattle.std.specs.Prelude.{List};
+    ghost use Rattle.std.specs.Prelude.{◌≡◌, List};
     ghost use Rattle.aud_witness.specs.declared.decision.Decision.{Decision};
-    ghost use Rattle.aud_accept.specs.Places.{joined, IsKept};
+    ghost use Rattle.aud_accept.specs.Places.{sum_of};
 
     ghost Value = { List Decision };
 
-    ghost view = { λ p. joined p.front.now p.last };
+    ghost view = { λ p. p.list.now };
 
-    ghost invariant = { λ p. IsKept p.front.now p.last p.sum };
+    ghost invariant = { λ p. p.sum ≡ sum_of p.list.now };
 }
 
 /// A number of its own for each decision.
@@ -53,7 +50,7 @@ fn stir(sum: u64, decision: Decision) -> u64
 }
 
 /// The number by which a list is hashed.
-pub(crate) fn sum_of(decisions: &[Decision]) -> u64
+fn sum_of(decisions: &[Decision]) -> u64
     ensures { result ≡ sum_of decisions.now }
 {
     let mut sum = 0;
@@ -61,12 +58,6 @@ pub(crate) fn sum_of(decisions: &[Decision]) -> u64
         sum = stir(sum, *decision);
     }
     sum
-}
-
-fn is_same_end(a: Option<Decision>, b: Option<Decision>) -> bool
-    ensures { IsTrue result ↔ (a ≡ b) }
-{
-    a == b
 }
 
 /// Whether the lists are the same.
@@ -77,29 +68,13 @@ fn are_same(a: &[Decision], b: &[Decision]) -> bool
 }
 
 impl<'a> Place<'a> {
-    /// The list of a beginning, whose number is at hand, and one decision more.
-    pub(crate) fn after(front: &'a [Decision], sum: u64, last: Decision) -> Place<'a>
-        requires { sum ≡ sum_of front.now }
-        ensures { result ≡ front.entry.now ++ last ∷ [] }
+    /// The list of the decisions.
+    pub(crate) fn of(list: &'a [Decision]) -> Place<'a>
+        ensures { result ≡ list.entry.now }
     {
         Place {
-            front,
-            last: Some(last),
-            sum: stir(sum, last),
-        }
-    }
-
-    /// The list of the decisions.
-    pub(crate) fn of(decisions: &'a [Decision]) -> Place<'a>
-        ensures { result ≡ decisions.entry.now }
-    {
-        match decisions.split_last() {
-            Some((last, front)) => Place::after(front, sum_of(front), *last),
-            None => Place {
-                front: decisions,
-                last: None,
-                sum: 0,
-            },
+            list,
+            sum: sum_of(list),
         }
     }
 }
@@ -114,13 +89,7 @@ impl<'a> PartialEq for Place<'a> {
     ghost laws = { partial_equiv_from_equiv (eq_by_cmp_equiv (lists_total decisions_total)) };
 
     fn eq(&self, other: &Place<'a>) -> bool {
-        if self.sum != other.sum {
-            return false;
-        }
-        if !is_same_end(self.last, other.last) {
-            return false;
-        }
-        are_same(self.front, other.front)
+        self.sum == other.sum && are_same(self.list, other.list)
     }
 }
 

@@ -5,3 +5,4 @@ pub mod Bytes
 pub mod LineBytes
 pub mod Back
 pub mod LineSpelled
+mod OrderSpelled

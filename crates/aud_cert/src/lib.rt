@@ -7,6 +7,7 @@ pub mod laws;
 mod line;
 mod lines;
 mod making;
+mod order;
 mod read;
 mod reason;
 mod spelled;

@@ -186,13 +186,17 @@ fn judge_line(alloc: Global, value: &Value) -> Result<CertLine, TextFault>
     }
 }
 
-/// The line that a text says, or the least fault that it deserves.
-pub(crate) fn read_line(alloc: Global, line: &[u8]) -> Result<CertLine, TextFault>
+/// The line that a text says, or the least fault that it deserves. The list is room that each call writes over.
+pub(crate) fn read_line(
+    alloc: Global,
+    line: &[u8],
+    list: &mut Vec<Decision>,
+) -> Result<CertLine, TextFault>
     ensures { MatchResult result (λ l. line_read line.now ≡ Ok l)
         (λ e. (e ≡ TextFault.OutOfMemory) ⊎ (line_read line.now ≡ Err e)) }
 {
     // Most lines are spelled as they are written here, and need no JSON value.
-    if let Some(read) = line_spelled(alloc, line) {
+    if let Some(read) = line_spelled(alloc, line, list) {
         return Ok(read);
     }
     let value = match json_in(alloc, line, CERT_LINE_MAX) {

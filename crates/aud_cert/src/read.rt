@@ -88,6 +88,7 @@ fn read_lines(
         (λ e. (e.fault ≡ TextFault.OutOfMemory) ⊎ (lines_left text.now left.now number count ≡ Err e)) }
 {
     let mut lines = Vec::new(alloc);
+    let mut list = Vec::new(alloc);
     let mut rest = left;
     let mut line = number;
     for i in 0..count {
@@ -95,7 +96,7 @@ fn read_lines(
             return Err(ends_early(text));
         };
         line = next.number;
-        let read = match read_line(alloc, next.line) {
+        let read = match read_line(alloc, next.line, &mut list) {
             Ok(read) => read,
             Err(fault) => return Err(CertTextFault { line, fault }),
         };
