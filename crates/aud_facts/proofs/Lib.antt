@@ -4,6 +4,7 @@ pub mod Ordered
 pub mod Conflicts
 pub mod Surveys
 pub mod Inserted
+pub mod Shared
 pub mod Sealing
 pub mod Limits
 pub mod Grown

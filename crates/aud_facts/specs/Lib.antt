@@ -6,5 +6,6 @@ pub mod Sets
 pub mod Growth
 pub mod Quiet
 pub mod Joins
+pub mod Shares
 pub mod Scans
 pub mod Worked

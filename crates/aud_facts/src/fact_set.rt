@@ -1,6 +1,6 @@
 //! Facts of one plan.
 
-ghost use Rattle.std.specs.Prelude.{◌≡◌, IfOk, OnOk, OnErr, IsTrue, ◌↔◌, [], None, MatchOption, All, false};
+ghost use Rattle.std.specs.Prelude.{◌≡◌, IfOk, OnOk, OnErr, IsTrue, ◌↔◌, ◌<◌, [], None, MatchOption, All, false};
 ghost use Rattle.aud_event.specs.Facts.{first_fact_fault};
 ghost use Rattle.aud_event.specs.contracts.fact.FactOrd.TheImpl as fact_ord;
 ghost use Rattle.aud_lattice.specs.Sets.{has, with_item, inserted};
@@ -8,11 +8,13 @@ ghost use Rattle.aud_facts.specs.Growth.{AreInConflict};
 ghost use Rattle.aud_facts.specs.Joins.{joined};
 ghost use Rattle.aud_facts.specs.Order.{AreOrdered};
 ghost use Rattle.aud_facts.specs.Sets.{FactsOf, AreSealed, AreSound, IsSealOf, AreWithout};
+ghost use Rattle.aud_facts.specs.Shares.{share_of};
 ghost use Rattle.aud_facts.specs.Status.{fact_status, hist, count, is_record};
 
 use crate::conflict::status_in;
 use crate::placing::history_of;
 use crate::sealed::Sealed;
+use crate::share::listed_share;
 use crate::status::FactStatus;
 use aud_event::{Dup, Fact, OutOfMemory, Plan};
 use aud_history::History;
@@ -166,6 +168,21 @@ impl<A: Allocator + Copy> Facts<A> {
             plan,
             set,
         })
+    }
+
+    /// The facts of a share of the logs: those whose number, divided by how many shares there are, leaves the number of this one.
+    /// All facts are the only share of one, which shares what it has with its source.
+    pub fn share(&self, shares: usize, number: usize) -> Result<Facts<A>, OutOfMemory>
+        requires { 0 < shares }
+        ensures { IfOk result (λ share. share ≡ record { plan = self.now.plan; facts = share_of shares number self.now.facts }) }
+    {
+        if shares == 1 && number == 0 {
+            return self.dup();
+        }
+        let _ordered = self.set.iter();
+        let share = listed_share(self.alloc, &self.set, shares, number)?;
+        let plan = Arc::try_clone(&self.plan)?;
+        Facts::from_vec(self.alloc, plan, share)
     }
 
     /// Whether both have equal plans and the same facts. It does not allocate.

@@ -7,6 +7,7 @@ pub mod laws;
 mod placing;
 mod scan;
 mod sealed;
+mod share;
 mod status;
 mod survey;
 mod table;

@@ -81,6 +81,14 @@ empty_keeps plan = record {
   true_for = record { refuted = λ _ q h. absurd (let lt = h.1 in omega arith); shown = λ _ q e. absurd (cc) };
 }
 
+-- facts are known, and nothing was found of them
+pub facts_keep : (plan : PlanOf) (facts : List Fact) → AreOrdered facts → AreSound plan facts → IsKnowledge plan (record { facts = facts; cover = []; witness = None })
+facts_keep plan facts ordered sound = record {
+  normal = record { facts = ordered; cover = (empty_keeps plan).normal.cover };
+  sound = sound;
+  true_for = record { refuted = λ _ q h. absurd (let lt = h.1 in omega arith); shown = λ _ q e. absurd (cc) };
+}
+
 module _ (law : SealedIsAll) (plan : PlanOf) where
   -- what is merged with true atoms
   with_atoms : (n m : Held) (atoms : List KnownAtom) → IsKnowledge plan n → AreSound plan m.facts → IsTrueUnder plan (norm_of atoms) → m ≡ merge fact_order.ghosts.cmp decision_cmp n (norm_of atoms) → IsKnowledge plan m

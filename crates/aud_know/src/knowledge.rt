@@ -7,7 +7,7 @@ ghost use Rattle.aud_event.specs.Facts.{first_fact_fault};
 ghost use Rattle.aud_cover.specs.Closings.{IsCovered};
 ghost use Rattle.aud_know.specs.Norms.{fact, refuted, shown, atoms_of};
 ghost use Rattle.aud_know.specs.Beyond.{IsBeyond, JoinAlike};
-ghost use Rattle.aud_know.specs.Known.{knowing, Takes};
+ghost use Rattle.aud_know.specs.Known.{knowing, knowing_facts, Takes};
 ghost use Rattle.aud_know.specs.Truth.{IsKnowledge};
 ghost use Rattle.aud_know.specs.Findings.{found, IsTrueFinding};
 ghost use Rattle.aud_know.specs.Items.{item_atoms, IsOfPlan};
@@ -59,10 +59,18 @@ impl<A: Allocator + Copy> Knowledge<A> {
     pub fn empty(alloc: A, plan: Arc<Plan<A>, A>) -> Result<Knowledge<A>, OutOfMemory>
         ensures { IfOk result (λ k. k ≡ knowing plan.value []) }
     {
+        Knowledge::of_facts(alloc, Facts::empty(alloc, plan))
+    }
+
+    /// The facts are known, and nothing else. They are not copied.
+    pub fn of_facts(alloc: A, facts: Facts<A>) -> Result<Knowledge<A>, OutOfMemory>
+        ensures { IfOk result (λ k. k ≡ knowing_facts facts) }
+    {
+        let _ordered = facts.set();
         let cover = Arc::new(alloc, Cover::empty(alloc))?;
         Ok(Knowledge {
             alloc,
-            facts: Facts::empty(alloc, plan),
+            facts,
             cover,
             witness: None,
         })

@@ -294,6 +294,15 @@ fn are_apart<A: Allocator + Copy>(one: &Facts<A>, two: &Facts<A>) -> Result<bool
     Ok(is_copied && !one.same(two) && fit == [true, false])
 }
 
+/// Whether the run in two logs is shared out by its logs: no log leaves 2, and the only share of one is all.
+fn shares_out<A: Allocator + Copy>(facts: &Facts<A>) -> Result<bool, OutOfMemory> {
+    let first = facts.share(2, 0)?;
+    let second = facts.share(2, 1)?;
+    let third = facts.share(2, 2)?;
+    let is_shared = has_just(&first, &two_logs()[..5]) && has_just(&second, &two_logs()[5..]);
+    Ok(is_shared && has_just(&third, &[]) && facts.share(1, 0)?.same(facts))
+}
+
 /// What is tried of the facts of a run.
 #[derive(Clone, Copy)]
 enum OfFacts<'a> {
@@ -310,6 +319,7 @@ enum OfFacts<'a> {
     BothJoin,
     ConflictsLate,
     AreApart,
+    Shares,
 }
 
 /// What comes of the set of the run's facts, in one log, or in two.
@@ -355,6 +365,7 @@ impl<'a> Trial for OfFacts<'a> {
             OfFacts::Inserts => Ok(inserts(&mut rotated(alloc, 1, &one_log()[..8], 0)?)),
             OfFacts::Seals => one_set(alloc, true),
             OfFacts::ConflictsLate => one_set(alloc, false),
+            OfFacts::Shares => Ok(shares_out(&rotated(alloc, 2, &two_logs(), 3)?)),
             OfFacts::Joins | OfFacts::BothJoin | OfFacts::AreApart => two_sets(alloc, *self),
         }
     }
@@ -456,11 +467,16 @@ fn a_refused_call_changes_no_set(rt: HostRuntime) {
 }
 
 #[test]
-fn sets_join_in_any_order_and_a_sealed_one_that_grows_conflicts(rt: HostRuntime) {
+fn sets_join_and_are_shared_out_and_a_sealed_one_that_grows_conflicts(rt: HostRuntime) {
     each_is_right(
         &rt,
         Growths::Met(0),
-        &[OfFacts::BothJoin, OfFacts::ConflictsLate, OfFacts::AreApart],
+        &[
+            OfFacts::BothJoin,
+            OfFacts::ConflictsLate,
+            OfFacts::AreApart,
+            OfFacts::Shares,
+        ],
     );
 }
 

@@ -335,6 +335,19 @@ fn a_packet_brings_what_is_known(rt: HostRuntime) -> Result<(), Fail> {
     Ok(())
 }
 
+/// Whether all facts of the run are known at once as they are one by one.
+fn is_known_at_once(alloc: Global, input: &str) -> Result<bool, Unread> {
+    let run = facts_of(alloc, input)?;
+    let taken = known_by(alloc, &run, &[Step::Facts(100)])?;
+    Ok(Knowledge::of_facts(alloc, run)?.same(&taken))
+}
+
+#[test]
+fn facts_are_known_at_once(rt: HostRuntime) -> Result<(), Fail> {
+    assert!(rt; is_known_at_once(rt.alloc(), TORN_READ)?);
+    Ok(())
+}
+
 /// Whether it is copied, and knows the list or a beginning of it.
 fn is_copied_and_knows(alloc: Global, known: &Knowledge, order: &str) -> Result<bool, Unread> {
     let is_copied = is_copied(known)?;
