@@ -1,20 +1,19 @@
 //! What a node's first seat does: it offers facts, and takes in what other nodes post.
 
-ghost use Rattle.std.specs.Prelude.{◌≡◌, None};
-ghost use Rattle.aud_event.specs.Facts.{first_fact_fault};
+ghost use Rattle.std.specs.Prelude.{◌≡◌, ◌<◌};
 ghost use Rattle.aud_node.specs.Meanings.{IsAt};
 ghost use Rattle.aud_audit.specs.Seats.{IsSameSeat};
 
-use aud_event::{Fact, OutOfMemory};
+use aud_event::OutOfMemory;
 use aud_facts::Facts;
 use aud_findings::has_all;
 use aud_gossip::receive_all;
-use aud_know::Item;
+use aud_know::{Item, Knowledge};
 use aud_node::{Fleet, OfferFault, Packet, Pass, ReadFault, Running};
 use crossbeam_channel::Receiver;
 use std::alloc::Global;
 use std::marker::Model;
-use std::sync::Wait;
+use std::sync::{Arc, Wait};
 
 /// The first seat of a node, and whether memory was refused to it.
 #[derive(Drop)]
@@ -31,34 +30,8 @@ impl<J: Fleet> Model for Collector<J> {
     ghost view = { λ d. record { pass = d.pass; failed = d.failed } };
 }
 
-/// The log of a fact.
-fn log_of(fact: &Fact) -> u32 {
-    match fact {
-        Fact::Rec(record) => record.log,
-        Fact::End(mark) => mark.log,
-    }
-}
-
-/// Offers a fact that the node's plan does not refuse.
-fn offer_fact<J: Fleet, S: Wait + Drop, R: Wait>(
-    rt: &R,
-    alloc: Global,
-    node: &Running<J, S>,
-    pass: &mut Pass<J>,
-    fact: Fact,
-) -> Result<(), OutOfMemory>
-    requires at { IsAt node.now pass.old }
-    requires fits { first_fact_fault node.now.plan fact ≡ None }
-    ensures { IsSameSeat pass.old pass.new }
-{
-    match node.offer(rt, alloc, pass, Item::Fact(fact)) {
-        Ok(()) => Ok(()),
-        Err((_, OfferFault::OutOfMemory)) => Err(OutOfMemory),
-        Err(_) => unreachable!(),
-    }
-}
-
-/// Offers those of the facts whose log's number, divided by the number of nodes, leaves the node's.
+/// Offers what is known of the node's share of the facts, of so many nodes, at once: one item in the node's log, which shares the
+/// facts where the node is the only one.
 fn offer_share<J: Fleet, S: Wait + Drop, R: Wait>(
     rt: &R,
     alloc: Global,
@@ -69,14 +42,16 @@ fn offer_share<J: Fleet, S: Wait + Drop, R: Wait>(
 ) -> Result<(), OutOfMemory>
     requires at { IsAt node.now pass.old }
     requires plan { facts.now.plan ≡ node.now.plan }
+    requires some { 0 < nodes }
     ensures { IsSameSeat pass.old pass.new }
 {
-    for fact in facts.set().iter() {
-        if (log_of(fact) as usize).checked_rem(nodes) == Some(node.number() as usize) {
-            offer_fact(rt, alloc, node, pass, *fact)?;
-        }
+    let share = facts.share(nodes, node.number() as usize)?;
+    let known = Arc::new(alloc, Knowledge::of_facts(alloc, share)?)?;
+    match node.offer(rt, alloc, pass, Item::Known(known)) {
+        Ok(()) => Ok(()),
+        Err((_, OfferFault::OutOfMemory)) => Err(OutOfMemory),
+        Err(_) => unreachable!(),
     }
-    Ok(())
 }
 
 impl<J: Fleet> Collector<J> {
@@ -91,6 +66,7 @@ impl<J: Fleet> Collector<J> {
     )
         requires at { IsAt node.now self.old.pass }
         requires plan { facts.now.plan ≡ node.now.plan }
+        requires some { 0 < nodes }
         ensures { IsSameSeat self.old.pass self.new.pass }
     {
         if offer_share(rt, alloc, node, &mut self.pass, facts, nodes).is_err() {

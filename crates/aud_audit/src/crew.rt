@@ -13,8 +13,9 @@ use aud_findings::Search;
 use aud_gossip::{Outbox, SinceFault};
 use aud_node::{Fleet, Packet, Pass, ReadFault, Running};
 use aud_pool::Gate;
+use aud_search::{Scene, Shared};
 use aud_split::laws::pool_ends_all;
-use aud_split::{PoolFault, run_pool};
+use aud_split::{PoolFault, run_pool_with};
 use aud_witness::Prefix;
 use crossbeam_channel::Sender;
 use std::alloc::Global;
@@ -60,6 +61,7 @@ fn share_of(
 
 /// Has a worker for each pass search the tasks, and says whether each of the tasks ended.
 fn search_share<
+    H: Scene + Send + Sync,
     J: Fleet + Send + Sync,
     S: Wait + Drop + Send,
     G: Gate<Prefix> + Sync,
@@ -70,9 +72,11 @@ fn search_share<
     node: &Running<J, S>,
     passes: Vec<Pass<J>>,
     search: &Search,
+    shared: Option<&Shared<H>>,
     gate: &G,
     nodes: usize,
 ) -> (Vec<Pass<J>>, bool)
+    requires named { search.now.shape.value ≡ H.shape }
     requires some { 0 < nodes }
     requires may { MayRun node.now passes.items search.now.shape.value }
     ensures later { AreLater passes.items result.0.items }
@@ -85,7 +89,17 @@ fn search_share<
     let Ok(shape) = Arc::try_clone(&search.shape) else {
         return (passes, false);
     };
-    match run_pool(rt, alloc, node, passes, shape, tasks, search.budget, gate) {
+    match run_pool_with(
+        rt,
+        alloc,
+        node,
+        passes,
+        shape,
+        tasks,
+        search.budget,
+        shared,
+        gate,
+    ) {
         Ok(end) => (end.passes, end.faults.is_empty()),
         Err((passes, PoolFault::OutOfMemory)) => (passes, false),
         Err(_) => unreachable!(),
@@ -146,16 +160,23 @@ impl<J: Fleet> Crew<J> {
 }
 
 impl<J: Fleet + Send + Sync> Crew<J> {
-    /// Searches the node's share of the tasks, of so many nodes. Then the crew posts what the node knows.
-    pub(crate) fn search<S: Wait + Drop + Send, G: Gate<Prefix> + Sync, R: Threads + Wait + Sync>(
+    /// Searches the node's share of the tasks, of so many nodes, over what all crews share. Then the crew posts what the node knows.
+    pub(crate) fn search<
+        H: Scene + Send + Sync,
+        S: Wait + Drop + Send,
+        G: Gate<Prefix> + Sync,
+        R: Threads + Wait + Sync,
+    >(
         &mut self,
         rt: &R,
         alloc: Global,
         node: &Running<J, S>,
         search: &Search,
+        shared: Option<&Shared<H>>,
         gate: &G,
         nodes: usize,
     )
+        requires named { search.now.shape.value ≡ H.shape }
         requires some { 0 < nodes }
         requires at { IsCrewAt node.now self.old }
         requires planned { plan_of search.now.shape.value ≡ node.now.plan }
@@ -163,7 +184,7 @@ impl<J: Fleet + Send + Sync> Crew<J> {
         ensures ended { self.new.failed ≡ false → ShareHasEnded search.now nodes node.now.number self.new.passes }
     {
         let passes = replace(&mut self.passes, Vec::new(alloc));
-        let (passes, ended) = search_share(rt, alloc, node, passes, search, gate, nodes);
+        let (passes, ended) = search_share(rt, alloc, node, passes, search, shared, gate, nodes);
         self.passes = passes;
         self.failed = self.failed || !ended;
         self.post_news(rt, alloc, node);

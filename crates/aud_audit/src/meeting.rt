@@ -15,6 +15,7 @@ use aud_facts::Facts;
 use aud_findings::Search;
 use aud_node::{Fleet, Packet, Running};
 use aud_pool::Gate;
+use aud_search::{Scene, Shared};
 use aud_witness::Prefix;
 use crossbeam_channel::{Receiver, Sender};
 use std::alloc::Global;
@@ -136,22 +137,32 @@ fn receive_each<J: Fleet + Send + Sync, S: Wait + Drop + Send, R: Threads + Wait
 
 /// Each node's crew searches the node's share of the tasks, and posts what the node knows then.
 fn search_each<
+    H: Scene + Send + Sync,
     J: Fleet + Send + Sync,
     S: Wait + Drop + Send,
     G: Gate<Prefix> + Sync,
     R: Threads + Wait + Sync,
->(rt: &R, alloc: Global, nodes: &[Running<J, S>], crews: &mut [Crew<J>], search: &Search, gate: &G)
+>(
+    rt: &R,
+    alloc: Global,
+    nodes: &[Running<J, S>],
+    crews: &mut [Crew<J>],
+    search: &Search,
+    shared: Option<&Shared<H>>,
+    gate: &G,
+)
+    requires named { search.now.shape.value ≡ H.shape }
     requires crews { AreCrews nodes.now crews.old }
     requires planned { AreOf (plan_of search.now.shape.value) nodes.now }
     ensures crews { AreCrews nodes.now crews.new }
     ensures ended { CrewsHaveEnded search.now nodes.now crews.new }
 {
     let each = |place: usize, crew: &mut Crew<J>|
-        requires { (place < length nodes.now) × AreOf (plan_of search.now.shape.value) nodes.now
+        requires { (place < length nodes.now) × (search.now.shape.value ≡ H.shape) × AreOf (plan_of search.now.shape.value) nodes.now
             × HoldsAt (λ n. IsCrewAt n crew.now) nodes.now place }
         ensures { HoldsAt (λ n. IsCrewAt n crew.exit.now × (crew.exit.now.failed ≡ false →
             ShareHasEnded search.entry.now (length nodes.entry.now) n.number crew.exit.now.passes)) nodes.entry.now place }
-    { crew.search(rt, alloc, &nodes[place], search, gate, nodes.len()) };
+    { crew.search(rt, alloc, &nodes[place], search, shared, gate, nodes.len()) };
     thread::for_each_mut(rt, crews, NODES_MAX, &each);
 }
 
@@ -231,13 +242,15 @@ impl<J: Fleet + Send + Sync, S: Wait + Drop + Send> Mesh<J, S> {
     }
 
     /// Each node's crew searches the node's share of the tasks, and posts what the node knows then.
-    fn work<G: Gate<Prefix> + Sync, R: Threads + Wait + Sync>(
+    fn work<H: Scene + Send + Sync, G: Gate<Prefix> + Sync, R: Threads + Wait + Sync>(
         &mut self,
         rt: &R,
         alloc: Global,
         search: &Search,
+        shared: Option<&Shared<H>>,
         gate: &G,
     )
+        requires named { search.now.shape.value ≡ H.shape }
         requires crews { AreCrews self.old.nodes.items self.old.crews.items }
         requires planned { AreOf (plan_of search.now.shape.value) self.old.nodes.items }
         ensures crews { AreCrews self.new.nodes.items self.new.crews.items }
@@ -250,6 +263,7 @@ impl<J: Fleet + Send + Sync, S: Wait + Drop + Send> Mesh<J, S> {
             &self.nodes,
             self.crews.as_mut_slice(),
             search,
+            shared,
             gate,
         );
     }
@@ -293,14 +307,17 @@ impl<J: Fleet + Send + Sync, S: Wait + Drop + Send> Mesh<J, S> {
         self.collectors[0].shows(&self.nodes[0], facts)
     }
 
-    /// All crews search the tasks, each its node's share. Then the collectors take in what was found at other nodes.
-    pub(crate) fn search<G: Gate<Prefix> + Sync, R: Threads + Wait + Sync>(
+    /// All crews search the tasks, each its node's share, over what they share. Then the collectors take in what was found at other
+    /// nodes.
+    pub(crate) fn search<H: Scene + Send + Sync, G: Gate<Prefix> + Sync, R: Threads + Wait + Sync>(
         &mut self,
         rt: &R,
         alloc: Global,
         search: &Search,
+        shared: Option<&Shared<H>>,
         gate: &G,
     ) -> Result<(), OutOfMemory>
+        requires named { search.now.shape.value ≡ H.shape }
         requires mesh { IsMeshFor search.now self.old.nodes.items self.old.collectors.items self.old.crews.items }
         requires few { length self.old.nodes.items ≤ 8 }
         requires some { 0 < length self.old.nodes.items }
@@ -309,7 +326,7 @@ impl<J: Fleet + Send + Sync, S: Wait + Drop + Send> Mesh<J, S> {
         ensures ended { OnOk result (SearchHasEnded search.now self.new.crews.items) }
     {
         let inboxes = self.connect(alloc)?;
-        self.work(rt, alloc, search, gate);
+        self.work(rt, alloc, search, shared, gate);
         self.receive(rt, alloc, &inboxes);
         checked(&self.collectors, &self.crews)
     }

@@ -20,11 +20,17 @@ use aud_findings::{Findings, Search, conclude, search_of};
 use aud_node::{Fleet, Opened};
 use aud_pool::Gate;
 use aud_report::{ReadFault, Said, Sink, Source, read_all, write_all, write_line};
+use aud_search::{Scene, Shared};
 use aud_witness::Prefix;
 use std::alloc::Global;
 use std::marker::Brand;
 use std::sync::{Arc, Wait};
 use std::thread::Threads;
+
+/// The budgets of the tasks that are left open where the words give none, when they are searched again and for the last time.
+const AGAIN: u64 = 1 << 20;
+
+const LAST: u64 = 1 << 24;
 
 /// The search of the facts' history, where the first node has all facts, they are sealed and it is well-formed.
 fn search_for(
@@ -50,6 +56,7 @@ fn workers_of(job: &AuditJob) -> usize {
 /// Has the first tasks searched, one for each worker, where there are more, and says whether the first node knows an order that
 /// shows the facts then. Such an order is less than any that begins with another task.
 fn search_first<
+    H: Scene + Send + Sync,
     J: Fleet + Send + Sync,
     S: Wait + Drop + Send,
     G: Gate<Prefix> + Sync,
@@ -60,9 +67,11 @@ fn search_first<
     mesh: &mut Mesh<J, S>,
     facts: &Facts,
     search: &Search,
+    shared: Option<&Shared<H>>,
     job: &AuditJob,
     gate: &G,
 ) -> Result<bool, OutOfMemory>
+    requires named { search.now.shape.value ≡ H.shape }
     requires mesh { IsMesh facts.now.plan mesh.old.nodes.items mesh.old.collectors.items mesh.old.crews.items }
     requires few { length mesh.old.nodes.items ≤ 8 }
     requires some { 0 < length mesh.old.nodes.items }
@@ -73,12 +82,87 @@ fn search_first<
     let Some(first) = search.first(alloc, workers_of(job))? else {
         return Ok(false);
     };
-    mesh.search(rt, alloc, &first, gate)?;
+    mesh.search(rt, alloc, &first, shared, gate)?;
     mesh.first_shows(facts)
 }
 
+/// Has the tasks that were left open searched again, with this budget, unless the first node knows an order that shows the facts.
+fn search_again<
+    H: Scene + Send + Sync,
+    J: Fleet + Send + Sync,
+    S: Wait + Drop + Send,
+    G: Gate<Prefix> + Sync,
+    R: Threads + Wait + Sync,
+>(
+    rt: &R,
+    alloc: Global,
+    mesh: &mut Mesh<J, S>,
+    facts: &Facts,
+    search: &mut Search,
+    budget: u64,
+    shared: Option<&Shared<H>>,
+    gate: &G,
+) -> Result<(), OutOfMemory>
+    requires named { search.old.shape.value ≡ H.shape }
+    requires mesh { IsMesh facts.now.plan mesh.old.nodes.items mesh.old.collectors.items mesh.old.crews.items }
+    requires few { length mesh.old.nodes.items ≤ 8 }
+    requires some { 0 < length mesh.old.nodes.items }
+    requires search { IsSearchOf facts.now search.old.shape.value search.old.tasks.items }
+    ensures search { (search.new.shape ≡ search.old.shape) × (search.new.tasks ≡ search.old.tasks) }
+    ensures nodes { mesh.new.nodes ≡ mesh.old.nodes }
+    ensures mesh { OnOk result (IsMesh facts.now.plan mesh.new.nodes.items mesh.new.collectors.items mesh.new.crews.items) }
+{
+    if mesh.first_shows(facts)? {
+        return Ok(());
+    }
+    search.budget = budget;
+    mesh.search(rt, alloc, search, shared, gate)
+}
+
+/// Has all tasks of the history that the scene names searched, as `search_tasks` says it, over what all workers share.
+fn search_all<
+    H: Scene + Send + Sync,
+    J: Fleet + Send + Sync,
+    S: Wait + Drop + Send,
+    G: Gate<Prefix> + Sync,
+    R: Threads + Wait + Sync,
+>(
+    rt: &R,
+    alloc: Global,
+    mesh: &mut Mesh<J, S>,
+    facts: &Facts,
+    search: Search,
+    job: &AuditJob,
+    gate: &G,
+) -> Result<Option<Search>, OutOfMemory>
+    requires named { search.shape.value ≡ H.shape }
+    requires mesh { IsMesh facts.now.plan mesh.old.nodes.items mesh.old.collectors.items mesh.old.crews.items }
+    requires few { length mesh.old.nodes.items ≤ 8 }
+    requires some { 0 < length mesh.old.nodes.items }
+    requires search { IsSearchWith facts.now job.now.budget search }
+    ensures nodes { mesh.new.nodes ≡ mesh.old.nodes }
+    ensures mesh { OnOk result (IsMesh facts.now.plan mesh.new.nodes.items mesh.new.collectors.items mesh.new.crews.items) }
+    ensures search { IfOk result (λ found. IfSome found (IsSearchWith facts.now job.now.budget)) }
+    ensures ended { IfOk result (λ found. IfSome found (λ s. SearchHasEnded s mesh.new.crews.items)) }
+{
+    let mut search = search;
+    let shared = Shared::<H>::among(alloc, workers_of(job));
+    let shared = shared.as_ref();
+    if search_first(rt, alloc, mesh, facts, &search, shared, job, gate)? {
+        return Ok(None);
+    }
+    mesh.search(rt, alloc, &search, shared, gate)?;
+    if job.budget.is_some() {
+        return Ok(Some(search));
+    }
+    search_again(rt, alloc, mesh, facts, &mut search, AGAIN, shared, gate)?;
+    search_again(rt, alloc, mesh, facts, &mut search, LAST, shared, gate)?;
+    Ok(None)
+}
+
 /// Has all tasks searched, if there are any, unless the first ones lead to an order that shows the facts. What is answered is the
-/// search if all its tasks ended.
+/// search if all its tasks ended with the budget that the words give. Where they give none, tasks that are left open are searched
+/// again with greater budgets, which is cheap where several workers share what they refuted.
 fn search_tasks<
     J: Fleet + Send + Sync,
     S: Wait + Drop + Send,
@@ -102,14 +186,10 @@ fn search_tasks<
     ensures search { IfOk result (λ found. IfSome found (IsSearchWith facts.now job.now.budget)) }
     ensures ended { IfOk result (λ found. IfSome found (λ s. SearchHasEnded s mesh.new.crews.items)) }
 {
-    let Some(search) = search else {
-        return Ok(None);
-    };
-    if search_first(rt, alloc, mesh, facts, &search, job, gate)? {
-        return Ok(None);
+    match search {
+        Some(search) => search_all::<Brand, _, _, _, _>(rt, alloc, mesh, facts, search, job, gate),
+        None => Ok(None),
     }
-    mesh.search(rt, alloc, &search, gate)?;
-    Ok(Some(search))
 }
 
 /// What the nodes of new histories find together, each of which has taken its share of the facts.

@@ -6,6 +6,7 @@ pub mod MemoLemmas
 pub mod Steps
 pub mod Readiness
 pub mod Spotting
+pub mod Sharing
 pub mod Keeping
 pub mod Passing
 pub mod Recording

@@ -1,6 +1,8 @@
 -- What a memo keeps true.
-use Rattle.std.specs.Prelude.{◌≡◌, ℕ, zero, suc, ◌+◌, ◌-◌, ◌<◌, Bool, true, false, ◌||◌, nat_eq, List, [], ◌∷◌, ◌++◌, map, length, take, reverse, Option, Some, None, IfSome, slice_get, refl, ◌⊎◌}
+use Rattle.std.specs.Prelude.{◌≡◌, ℕ, zero, suc, ◌+◌, ◌-◌, ◌<◌, Bool, true, false, ◌||◌, nat_eq, List, [], ◌∷◌, ◌++◌, map, length, take, reverse, Option, Some, None, IfSome, Result, Ok, Err, IfOk, slice_get, refl, ◌⊎◌}
 use Rattle.std.specs.List.{Contains}
+use Rattle.std.specs.Bool.{if◌then◌else◌}
+use Rattle.std.specs.Result.{result_ok}
 use Rattle.std.proofs.Common.{sym, ◌∙◌, ap, subst, inl, inr, arith, get_or, set}
 use Rattle.std.proofs.lemmas.List.{append-nil, reverse-append, length-map, length-append}
 use Rattle.aud_event.proofs.Bools.{or_right, true_or, nat_eq-refl, or_nothing}
@@ -24,9 +26,11 @@ use Rattle.aud_order.proofs.Lists.{take-push}
 use Rattle.aud_order.proofs.Moves.{shown-same, step-states}
 use Rattle.aud_search.specs.declared.choice.Choice.{Choice}
 use Rattle.aud_search.specs.declared.memo.Lead.{Lead}
+use Rattle.aud_search.specs.declared.memo.Seen.{Seen}
+use Rattle.aud_search.specs.Known.{IsKnown, IsKnownOf}
 use Rattle.aud_search.specs.Kept.{IsMoreOf, LeadsTo}
 use Rattle.aud_search.specs.Spots.{EntryOf, AreWith, IsKeptAs}
-use Rattle.aud_search.specs.Memos.{MemoOf, states_reached, Names, NameWay, IsDead, IsLead, IsTrueMemo, IsGrown, IsFurther, IsStep, IsNext, IsAfter}
+use Rattle.aud_search.specs.Memos.{MemoOf, states_reached, Names, NameWay, IsDead, IsLead, IsTrueMemo, AreSeen, IsGrown, IsFurther, IsStep, IsNext, IsAfter}
 use Rattle.aud_search.specs.Recorders.{IsNotedAlike}
 use Rattle.aud_search.proofs.Refuting.{next-shown}
 
@@ -39,6 +43,11 @@ get-front (y ∷ xs) ys (suc k) x at = get-front xs ys k x at
 
 one-at : {X : Type 0} (x y : X) (o : Option X) → o ≡ Some x → o ≡ Some y → x ≡ y
 one-at x y o is same = cc
+
+-- what holds of what a result has
+pub had : {X E : Type 0} (P : X → Type 0) (r : Result X E) (o : Option X) (x : X) → o ≡ result_ok r → o ≡ Some x → IfOk r P → P x
+had P (Ok y) o x is same holds = (let one : y ≡ x = cc in subst P one holds)
+had P (Err e) o x is same holds = absurd (cc)
 
 -- # Numbers
 
@@ -74,7 +83,7 @@ way-back shape all n last below less p way is =
 
 -- # What is true stays true
 
-no-first : {X : Type 0} (k : ℕ) (x : X) → slice_get [] k ≡ Some x → ⊥
+pub no-first : {X : Type 0} (k : ℕ) (x : X) → slice_get [] k ≡ Some x → ⊥
 no-first k x at = absurd (cc)
 
 pub true-none : {N : Type 0} (shape : ShapeOf) (all : List (List ObjState)) (noted : N → List Decision → Type 0) (entries : List EntryOf) (notes : List N) (leads : List Lead) → entries ≡ [] → notes ≡ [] → leads ≡ [] →
@@ -109,6 +118,10 @@ true-noted shape all old new entries notes leads stays sound = record {
   true_leads = sound.true_leads;
 }
 
+-- what others may have stays right
+pub seen-states : {A : Type 0} (old new : List (List ObjState)) (seen : List (Option (Seen A))) → IsMoreOf old new → AreSeen old seen → AreSeen new seen
+seen-states old new seen (more, grown) sound n s at = ap (λ l. slice_get l n) grown ∙ get-front old more n s.states.value.now (sound n s at)
+
 pub grown-states : {V : Type 0} (shape : ShapeOf) (recorder : V) (seen : MemoOf V) (old new : List (List ObjState)) → record { shape = shape; states = old; recorder = recorder } ≡ seen → IsMoreOf old new →
     IsGrown seen (record { shape = shape; states = new; recorder = recorder })
 grown-states shape recorder seen old new is (more, grown) = record {
@@ -137,6 +150,42 @@ last-at (z ∷ xs) x y (suc k) at = elim (last-at xs x y k at) [
   | inl earlier ↦ inl earlier
   | inr last ↦ inr (ap (λ n. suc n) last.0, last.1)
 ]
+
+-- once others may have one more
+seen-with : {A : Type 0} (all : List (List ObjState)) (old : List (Option (Seen A))) (last : Option (Seen A)) (n : ℕ) (states : List ObjState) → n ≡ length old → slice_get all n ≡ Some states →
+    IfSome last (λ s. s.states.value.now ≡ states) → AreSeen all old → AreSeen all (old ++ last ∷ [])
+seen-with all old last n states place named own sound k s at =
+    elim (last-at old last (Some s) k at) [
+      | inl earlier ↦ sound k s earlier
+      | inr end ↦ (
+          let same : s.states.value.now ≡ states = subst (λ (o : Option _). IfSome o (λ x. x.states.value.now ≡ states)) (sym end.1) own in
+          ap (λ m. slice_get all m) (end.0 ∙ sym place) ∙ named ∙ ap (λ l. Some l) (sym same)
+          )
+    ]
+
+-- the same, where it is a question whether there was memory for it
+pub seen-push : {A : Type 0} (all : List (List ObjState)) (old new : List (Option (Seen A))) (last : Option (Seen A)) (n : ℕ) (states : List ObjState) (pushed : Bool) → new ≡ (if pushed then old ++ last ∷ [] else old) → n ≡ length old →
+    slice_get all n ≡ Some states → IfSome last (λ s. s.states.value.now ≡ states) → AreSeen all old → AreSeen all new
+seen-push all old new last n states true is place named own sound = subst (λ l. AreSeen all l) (sym is) (seen-with all old last n states place named own sound)
+seen-push all old new last n states false is place named own sound = subst (λ l. AreSeen all l) (sym is) sound
+
+-- the refuted list that the cursor stands at, as others may know of it
+pub known-here : {A : Type 0} (is_for : ShapeOf → Type 0) (P : List Decision → Type 0) (shape : ShapeOf) (all : List (List ObjState)) (seen : List (Option (Seen A))) (n : ℕ) (s : Seen A) (at : CursorOf) (placed : List Bool) → shape ≡ at.shape → is_for shape →
+    AreSeen all seen → slice_get seen n ≡ Some (Some s) → IsGood (objects_of at.shape) (history_of at.shape) at.path → Refuted (objects_of at.shape) (history_of at.shape) at.path → placed ≡ map (is_named at.path) (transactions (history_of at.shape)) →
+    Names all (Some n) (states_reached at.shape at.path) → P at.path → IsKnownOf is_for P s.states.value.now placed
+known-here is_for P shape all seen n s at placed same own sound there good refuted is names noted = (
+  at.shape,
+  (
+    subst is_for same own,
+    record { path = at.path; good = good; refuted = refuted; marked = is; left = one-at s.states.value.now (states_reached at.shape at.path) (slice_get all n) (sound n s there) names; noted = noted },
+  ),
+)
+
+-- a refuted list that others know of is one of which an entry might be there
+pub known-dead : {A : Type 0} (P : List Decision → Type 0) (shape : ShapeOf) (all : List (List ObjState)) (seen : List (Option (Seen A))) (n : ℕ) (s : Seen A) (placed : List Bool) → AreSeen all seen → slice_get seen n ≡ Some (Some s) →
+    IsKnown shape P s.states.value.now placed → IsDead shape all P (record { placed = placed; states = n })
+known-dead P shape all seen n s placed sound there k =
+    record { path = k.path; good = k.good; refuted = k.refuted; placed = k.marked; states = sound n s there ∙ ap (λ l. Some l) k.left; noted = k.noted }
 
 pub last-there : {X : Type 0} (xs : List X) (x : X) → slice_get (xs ++ x ∷ []) (length xs) ≡ Some x
 last-there [] x = refl

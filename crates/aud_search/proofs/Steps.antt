@@ -50,7 +50,7 @@ ready-good objects h p d next =
     (λ i. not (next.new i) && enabled i)
 
 abbrev pub no_choice : Choice
-no_choice = record { effect = Silent; last = 0; place = 0; decision = no_decision }
+no_choice = record { effect = Silent; is_late = false; last = 0; place = 0; decision = no_decision }
 
 pub choice-at : (cs : List Choice) (k : ℕ) → k < length cs → slice_get cs k ≡ Some (slice_index_or cs k no_choice)
 choice-at [] k inside = absurd (omega arith)

@@ -8,3 +8,4 @@ pub mod Spots
 pub mod Kept
 pub mod Recorders
 pub mod Turns
+pub mod Known

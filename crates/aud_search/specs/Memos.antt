@@ -15,6 +15,7 @@ use Rattle.aud_order.specs.Silent.{silent_fate}
 use Rattle.aud_search.specs.declared.choice.Effect.TheVariants.{Silent}
 use Rattle.aud_search.specs.declared.choice.Choice.{Choice}
 use Rattle.aud_search.specs.declared.memo.Lead.{Lead}
+use Rattle.aud_search.specs.declared.memo.Seen.{Seen}
 use Rattle.aud_search.specs.Spots.{EntryOf, entry_of}
 
 -- how contracts see a memo: the shape of the search, the states that it numbered, and what hears of refuted lists
@@ -63,6 +64,10 @@ pub record IsTrueMemo {N : Type 0} (shape : ShapeOf) (all : List (List ObjState)
   pub even : length notes ≡ length entries
   pub dead : (k : ℕ) (e : EntryOf) → slice_get entries k ≡ Some e → (note : N) × ((slice_get notes k ≡ Some note) × IsDead shape all (noted note) e)
   pub true_leads : (l : Lead) → Contains leads l → IsLead shape all l
+
+-- what others may have under a number are the states of the number
+abbrev pub AreSeen : {A : Type 0} → List (List ObjState) → List (Option (Seen A)) → Type 0
+AreSeen all seen = (n : ℕ) (s : Seen _) → slice_get seen n ≡ Some (Some s) → slice_get all n ≡ Some s.states.value.now
 
 -- no states lost their number
 pub record IsGrown {V : Type 0} (old new : MemoOf V) : Type 0 where

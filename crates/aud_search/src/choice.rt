@@ -24,10 +24,12 @@ pub(crate) enum Effect {
 /// A decision that a completion may make, with the place of its transaction's row.
 ///
 /// Choices are ordered as a search tries them: first those of silent transactions, then those that abort, then by when the
-/// transaction did its last event, as most memories let their transactions take effect about when they end.
+/// transaction did its last event, as most memories let their transactions take effect about when they end. Those of transactions
+/// that did it before the search begins to try come after the others.
 #[derive(Clone, Copy, PartialEq, Eq, PartialOrd, Ord)]
 pub(crate) struct Choice {
     pub effect: Effect,
+    pub is_late: bool,
     pub last: u32,
     pub place: usize,
     pub decision: Decision,
@@ -54,6 +56,7 @@ fn effect_of(silent: Option<Fate>, fate: Fate) -> Effect
 /// Adds the choice of the fate, if a completion may give it to the row's transaction, whose silent fate is known.
 fn add_choice<A: Allocator>(
     choices: &mut Vec<Choice, A>,
+    first: u32,
     place: usize,
     row: &TxRow<A>,
     silent: Option<Fate>,
@@ -67,6 +70,7 @@ fn add_choice<A: Allocator>(
         let decision = Decision { tx: row.tx(), fate };
         choices.push(Choice {
             effect,
+            is_late: row.last() < first,
             last: row.last(),
             place,
             decision,
@@ -79,6 +83,7 @@ fn add_choice<A: Allocator>(
 fn add_row<A: Allocator + Copy>(
     choices: &mut Vec<Choice, A>,
     shape: &Shape<A>,
+    first: u32,
     place: usize,
     row: &TxRow<A>,
 ) -> Result<(), OutOfMemory>
@@ -86,8 +91,8 @@ fn add_row<A: Allocator + Copy>(
     ensures marked { OnOk result (StayMarked (history_of shape.now) choices.old.items choices.new.items) }
 {
     let silent = shape.silent(row.tx());
-    add_choice(choices, place, row, silent, Fate::C)?;
-    add_choice(choices, place, row, silent, Fate::A)?;
+    add_choice(choices, first, place, row, silent, Fate::C)?;
+    add_choice(choices, first, place, row, silent, Fate::A)?;
     Ok(())
 }
 
@@ -95,6 +100,7 @@ fn add_row<A: Allocator + Copy>(
 fn gather<A: Allocator + Copy>(
     alloc: A,
     shape: &Shape<A>,
+    first: u32,
     rows: &[TxRow<A>],
 ) -> Result<Vec<Choice, A>, OutOfMemory>
     ensures all { IfOk result (λ choices. map key_of choices.items ≡ choices_from 0 rows.now) }
@@ -102,20 +108,22 @@ fn gather<A: Allocator + Copy>(
 {
     let mut choices = Vec::new(alloc);
     for (place, row) in rows.iter().enumerate() {
-        add_row(&mut choices, shape, place, row)?;
+        add_row(&mut choices, shape, first, place, row)?;
     }
     Ok(choices)
 }
 
-/// All choices of the history, in the order in which a search tries them.
+/// All choices of the history, in the order of a search that begins with transactions whose last event has this place or a later
+/// one: with 0 it leaves none for later.
 pub(crate) fn choices_of<A: Allocator + Copy>(
     alloc: A,
     shape: &Shape<A>,
+    first: u32,
 ) -> Result<Vec<Choice, A>, OutOfMemory>
     ensures { IfOk result (λ choices. AreChoices (history_of shape.now) choices.items) }
 {
     let _sound = shape.history();
-    let mut choices = gather(alloc, shape, shape.table().rows())?;
+    let mut choices = gather(alloc, shape, first, shape.table().rows())?;
     choices.sort()?;
     Ok(choices)
 }

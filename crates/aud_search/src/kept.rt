@@ -59,6 +59,11 @@ impl<A: Allocator + Copy> Finder<A> {
         self.digests.forget();
     }
 
+    /// The digest of where the search stands.
+    pub(crate) fn digest(&mut self, store: &Store<A>) -> Option<u64> {
+        self.digests.all(store)
+    }
+
     /// The transaction's block ran where the search stands, or was taken back.
     pub(crate) fn touch(&mut self, shape: &Shape<A>, tx: u32) {
         if let Some(block) = block_of(shape, tx) {

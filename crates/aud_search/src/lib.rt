@@ -11,8 +11,10 @@ mod ready;
 mod recorder;
 mod room;
 mod search;
+mod shared;
 mod spots;
 
 pub use outcome::{Decided, Outcome, Searched};
 pub use recorder::Recorder;
 pub use search::{Memory, decide, explore, search_with};
+pub use shared::{Scene, Shared};

@@ -1,16 +1,17 @@
 //! What a search remembers of the lists that it refuted: which transactions were placed, and the states of all objects.
 //! After two lists of which these are the same, the same shows.
 
-ghost use Rattle.std.specs.Prelude.{◌≡◌, [], Some, List, IsTrue, IfSome, IfOk, MatchOption, slice_get};
+ghost use Rattle.std.specs.Prelude.{◌≡◌, ◌<◌, [], Some, List, IsTrue, IfSome, IfOk, MatchOption, length, slice_get};
 ghost use Rattle.aud_witness.specs.declared.decision.Decision.{Decision};
 ghost use Rattle.std.specs.List.{Contains};
 ghost use Rattle.aud_witness.specs.declared.decision.Fate.TheVariants.{C};
 ghost use Rattle.aud_witness.specs.Orders.{Refuted};
+ghost use Rattle.aud_history.specs.Table.{transactions};
 ghost use Rattle.aud_order.specs.Shapes.{history_of};
 ghost use Rattle.aud_search.specs.Kept.{LeadsTo};
-ghost use Rattle.aud_search.specs.Memos.{states_reached, Names, IsLead, IsGrown, IsReported, IsStep, IsNext, IsAfter, LeavesStates, IsRefutedAt, IsRefutedAfter};
+ghost use Rattle.aud_search.specs.Memos.{states_reached, Names, IsLead, IsGrown, IsReported, IsStep, IsNext, IsAfter, LeavesStates, IsDead, IsRefutedAt, IsRefutedAfter};
 ghost use Rattle.aud_search.specs.Recorders.{IsReason, IsNotedAlike, HasNote, IsNotedAfter};
-ghost use Rattle.aud_search.specs.Spots.{AreWith};
+ghost use Rattle.aud_search.specs.Spots.{AreWith, entry, with_place};
 
 use crate::choice::{Choice, Effect};
 use crate::index::{Index, Look, hash_of};
@@ -19,10 +20,13 @@ use crate::recorder::Recorder;
 use crate::room::takes;
 use crate::spots::Spots;
 use aud_event::OutOfMemory;
+use aud_marks::Marks;
+use aud_object::Store;
 use aud_order::{Cursor, Shape};
 use aud_witness::{Decision, Fate};
 use std::alloc::{Allocator, Global};
 use std::marker::Model;
+use std::sync::Arc;
 
 /// The block of the transaction leads from the states of one number to those of another.
 #[derive(Clone, Copy)]
@@ -30,6 +34,13 @@ pub(crate) struct Lead {
     pub from: usize,
     pub tx: u32,
     pub to: usize,
+}
+
+/// States as others may have them, and their digest.
+#[derive(Drop)]
+pub(crate) struct Seen<A: Allocator> {
+    states: Arc<Store<A>, A>,
+    digest: u64,
 }
 
 /// Why a list is refuted.
@@ -49,7 +60,7 @@ pub(crate) enum Reason<N> {
 /// the spots are forgotten and others come; where memory runs out a new one is. Each spot has the note of its list, and what
 /// notes the lists is kept here too.
 #[derive(Drop)]
-pub(crate) struct Memo<'a, N: Copy, R: Recorder<N>, A: Allocator + Copy = Global> {
+pub(crate) struct Memo<'a, N: Copy, R: Recorder<N, A>, A: Allocator + Copy = Global> {
     alloc: A,
     shape: &'a Shape<A>,
     kept: Vec<Kept<A>, A>,
@@ -58,15 +69,16 @@ pub(crate) struct Memo<'a, N: Copy, R: Recorder<N>, A: Allocator + Copy = Global
     leads_by_hash: Index<A>,
     spots: Spots<A>,
     notes: Vec<N, A>,
+    seen: Vec<Option<Seen<A>>, A>,
     recorder: R,
     room: usize,
     spots_room: usize,
 }
 
-impl<'a, N: Copy, R: Recorder<N>, A: Allocator + Copy> Model for Memo<'a, N, R, A> {
+impl<'a, N: Copy, R: Recorder<N, A>, A: Allocator + Copy> Model for Memo<'a, N, R, A> {
     ghost use Rattle.aud_order.specs.Shapes.{history_of};
     ghost use Rattle.aud_search.specs.Kept.{states_of};
-    ghost use Rattle.aud_search.specs.Memos.{MemoOf, entries_of, IsTrueMemo};
+    ghost use Rattle.aud_search.specs.Memos.{MemoOf, entries_of, IsTrueMemo, AreSeen};
 
     ghost Value = { MemoOf R };
 
@@ -74,11 +86,17 @@ impl<'a, N: Copy, R: Recorder<N>, A: Allocator + Copy> Model for Memo<'a, N, R, 
 
     ghost invariant = { λ m. IsTrueMemo m.shape.now (states_of (history_of m.shape.now) m.kept.items)
         (R.noted m.recorder) (entries_of (history_of m.shape.now) m.spots) m.notes.items m.leads.items
-        × R.is_for m.recorder m.shape.now };
+        × R.is_for m.recorder m.shape.now
+        × AreSeen (states_of (history_of m.shape.now) m.kept.items) m.seen.items };
 }
 
 /// How much memory a memo takes, about, in bytes.
 const ROOM: usize = 1 << 30;
+
+/// How many states others may have, and how many numbers each of them keeps: the most.
+const MOST_SEEN: usize = 1 << 16;
+
+const LARGEST_SEEN: usize = 32;
 
 /// How many slots are looked at before something counts as not found.
 const LOOKS: usize = 64;
@@ -117,6 +135,33 @@ fn note_at<N: Copy>(notes: &[N], place: usize) -> Option<N>
     notes.get(place).copied()
 }
 
+/// The states as others may have them, if they are few and there is memory for them.
+fn seen_of<A: Allocator + Copy>(
+    alloc: A,
+    finder: &mut Finder<A>,
+    store: &Store<A>,
+) -> Option<Seen<A>>
+    ensures { IfSome result (λ seen. seen.states.value.now ≡ store.now.now) }
+{
+    if store.size() > LARGEST_SEEN {
+        return None;
+    }
+    let digest = finder.digest(store)?;
+    let copy = store.present().ok()?;
+    let states = Arc::new(alloc, copy).ok()?;
+    Some(Seen { states, digest })
+}
+
+/// The states of the number as others may have them, if they may.
+fn seen_at<A: Allocator>(seen: &[Option<Seen<A>>], number: usize) -> Option<&Seen<A>>
+    ensures { IfSome result (λ found. slice_get seen.now number ≡ Some (Some found.now)) }
+{
+    match seen.get(number) {
+        Some(Some(found)) => Some(found),
+        _ => None,
+    }
+}
+
 /// Whether the choice leaves the states of all objects.
 fn leaves_states(choice: &Choice) -> bool
     ensures { LeavesStates choice.now result }
@@ -140,7 +185,7 @@ fn keep_lead<A: Allocator + Copy>(
     Ok(())
 }
 
-impl<'a, N: Copy, R: Recorder<N>, A: Allocator + Copy> Memo<'a, N, R, A> {
+impl<'a, N: Copy, R: Recorder<N, A>, A: Allocator + Copy> Memo<'a, N, R, A> {
     /// A memo of nothing. It does not allocate.
     pub(crate) fn new(alloc: A, shape: &'a Shape<A>, recorder: R) -> Memo<'a, N, R, A>
         requires { R.is_for recorder shape.now }
@@ -155,6 +200,7 @@ impl<'a, N: Copy, R: Recorder<N>, A: Allocator + Copy> Memo<'a, N, R, A> {
             leads_by_hash: Index::new(alloc),
             spots: Spots::new(alloc),
             notes: Vec::new(alloc),
+            seen: Vec::new(alloc),
             recorder,
             room: ROOM,
             spots_room: 0,
@@ -197,14 +243,58 @@ impl<'a, N: Copy, R: Recorder<N>, A: Allocator + Copy> Memo<'a, N, R, A> {
         ensures grown { IsGrown self.old self.new }
         ensures named { Names self.new.states result (states_reached cursor.now.shape cursor.now.path) }
     {
-        keep_states(
+        let number = keep_states(
             &mut self.kept,
             &mut self.finder,
             self.shape,
             &mut self.room,
             step,
             cursor.store(),
-        )
+        );
+        if let Some(number) = number {
+            self.see(number, cursor.store());
+        }
+        number
+    }
+
+    /// Has the states of the number as others may have them, where the recorder shares what it hears of.
+    fn see(&mut self, number: usize, store: &Store<A>)
+        requires { Names self.old.states (Some number) store.now.now }
+        ensures { self.new ≡ self.old }
+    {
+        if number != self.seen.len() || number >= MOST_SEEN || !self.recorder.is_sharing() {
+            return;
+        }
+        let seen = seen_of(self.alloc, &mut self.finder, store);
+        let _ = self.seen.push(seen);
+    }
+
+    /// The note of a refuted list that others know of, which leaves the states of the number and places the rows that are marked,
+    /// with one further where there is one. It does not allocate.
+    fn find_shared(&self, number: usize, placed: &Marks<A>, further: Option<usize>) -> Option<N>
+        requires rows { length placed.now ≡ length (transactions (history_of self.now.shape)) }
+        requires further { MatchOption further (Unit {0}) (λ k. k < length placed.now) }
+        ensures { IfSome result (λ note. IsDead self.now.shape self.now.states (R.noted self.now.recorder note)
+            (entry (with_place placed.now further) number)) }
+    {
+        let seen = seen_at(&self.seen, number)?;
+        self.recorder
+            .find(seen.digest, &seen.states, placed, further)
+    }
+
+    /// The note of a refuted list that is remembered here or that others know of, which leaves the states of the number and places
+    /// the rows that are marked, with one further where there is one. It does not allocate.
+    fn find_dead(&self, number: usize, placed: &Marks<A>, further: Option<usize>) -> Option<N>
+        requires rows { length placed.now ≡ length (transactions (history_of self.now.shape)) }
+        requires further { MatchOption further (Unit {0}) (λ k. k < length placed.now) }
+        ensures { IfSome result (λ note. IsDead self.now.shape self.now.states (R.noted self.now.recorder note)
+            (entry (with_place placed.now further) number)) }
+    {
+        if let Some(note) = self.find_shared(number, placed, further) {
+            return Some(note);
+        }
+        let place = self.spots.find(number, placed, further)?;
+        note_at(&self.notes, place)
     }
 
     /// The search begins at another list. What is remembered stays.
@@ -267,7 +357,7 @@ impl<'a, N: Copy, R: Recorder<N>, A: Allocator + Copy> Memo<'a, N, R, A> {
         let _sound = self.shape.history();
         let _within = self.shape.plan();
         let _good = cursor.prefix();
-        if self.spots.is_empty() {
+        if self.spots.is_empty() && !self.recorder.is_sharing() {
             return None;
         }
         let Some(before) = from else {
@@ -304,10 +394,7 @@ impl<'a, N: Copy, R: Recorder<N>, A: Allocator + Copy> Memo<'a, N, R, A> {
         let Some(number) = states else {
             return None;
         };
-        let Some(place) = self.spots.find(number, cursor.placed(), None) else {
-            return None;
-        };
-        note_at(&self.notes, place)
+        self.find_dead(number, cursor.placed(), None)
     }
 
     /// The note of a refuted list that is the same as the cursor's with the choice after it, if one is known by where the
@@ -331,10 +418,7 @@ impl<'a, N: Copy, R: Recorder<N>, A: Allocator + Copy> Memo<'a, N, R, A> {
         let Some(after) = self.after(before, choice) else {
             return None;
         };
-        let Some(place) = self.spots.find(after, cursor.placed(), Some(choice.place)) else {
-            return None;
-        };
-        note_at(&self.notes, place)
+        self.find_dead(after, cursor.placed(), Some(choice.place))
     }
 
     /// Remembers the cursor's list, which is refuted, with its note, if memory is there for it.
@@ -350,7 +434,24 @@ impl<'a, N: Copy, R: Recorder<N>, A: Allocator + Copy> Memo<'a, N, R, A> {
             None => self.number(None, cursor),
         };
         if let Some(number) = number {
-            self.keep_refuted(number, note, cursor);
+            if !self.share_refuted(number, note, cursor) {
+                self.keep_refuted(number, note, cursor);
+            }
+        }
+    }
+
+    /// Has others know of the cursor's list, which is refuted, and whose states have the number, if they may.
+    fn share_refuted(&self, states: usize, note: N, cursor: &Cursor<A>) -> bool
+        requires shape { self.now.shape ≡ cursor.now.shape }
+        requires named { Names self.now.states (Some states) (states_reached cursor.now.shape cursor.now.path) }
+        requires refuted { IsRefutedAt cursor.now }
+        requires noted { R.noted self.now.recorder note cursor.now.path }
+    {
+        let _good = cursor.prefix();
+        let placed = cursor.placed();
+        match seen_at(&self.seen, states) {
+            Some(seen) => self.recorder.keep(seen.digest, &seen.states, placed, note),
+            None => false,
         }
     }
 

@@ -1,16 +1,22 @@
 //! What hears of the lists that a search refutes, and why each is.
 
-ghost use Rattle.std.specs.Prelude.{List, IfOk, IsTrue};
+ghost use Rattle.std.specs.Prelude.{◌<◌, List, length, IfOk, IfSome, IsTrue, MatchOption};
 ghost use Rattle.aud_witness.specs.declared.decision.Decision.{Decision};
 ghost use Rattle.aud_order.specs.Shapes.{ShapeOf};
+ghost use Rattle.aud_search.specs.Known.{MarksRows, IsKnownFor, IsKnownOf};
+ghost use Rattle.aud_search.specs.Spots.{with_place};
 ghost use Rattle.aud_search.specs.Recorders.{IsHearable, HasNote, HasKids, HasSilent, IsNotedAlike};
 
 use aud_event::OutOfMemory;
+use aud_marks::Marks;
+use aud_object::Store;
 use aud_witness::Decision;
+use std::alloc::Allocator;
+use std::sync::Arc;
 
 /// What hears of each good list that a search refutes, in the order in which they are refuted. A list that it noted is named by
 /// its note.
-pub trait Recorder<N>: Drop {
+pub trait Recorder<N, A: Allocator>: Drop {
     // It is for searches of the shape.
     ghost is_for: { Self → ShapeOf → Type 0 };
 
@@ -23,6 +29,28 @@ pub trait Recorder<N>: Drop {
     /// Whether it needs to hear of nothing.
     fn is_deaf(&self) -> bool
         ensures { IsTrue result → ((p : List Decision) → HasNote (noted self.now) p) };
+
+    /// Whether it may know of lists that others refuted, and have others know of those that it hears of.
+    fn is_sharing(&self) -> bool;
+
+    /// The note of a refuted list that places the rows that are marked, with one further where there is one, and leaves the states,
+    /// which have the digest, if it knows of one. It does not allocate.
+    fn find(
+        &self,
+        digest: u64,
+        states: &Store<A>,
+        placed: &Marks<A>,
+        further: Option<usize>,
+    ) -> Option<N>
+        requires rows { MarksRows (is_for self.now) placed.now }
+        requires further { MatchOption further (Unit {0}) (λ k. k < length placed.now) }
+        ensures { IfSome result (λ note. IsKnownFor (is_for self.now) (noted self.now note) states.now.now
+            (with_place placed.now further)) };
+
+    /// Others may know of the refuted list of the note, which places the rows that are marked and leaves the states. It answers
+    /// whether `find` comes to know of it, and so need not be remembered elsewhere.
+    fn keep(&self, digest: u64, states: &Arc<Store<A>, A>, placed: &Marks<A>, note: N) -> bool
+        requires { IsKnownOf (is_for self.now) (noted self.now note) states.now.value.now placed.now };
 
     /// Notes the good list: it is not full, and each good list that is one decision longer was noted.
     fn note_kids(&mut self, list: &[Decision]) -> Result<N, OutOfMemory>
@@ -59,7 +87,7 @@ pub(crate) struct Unnoted;
 #[derive(Drop)]
 pub(crate) struct Unrecorded;
 
-impl Recorder<Unnoted> for Unrecorded {
+impl<A: Allocator> Recorder<Unnoted, A> for Unrecorded {
     ghost is_for = { λ r shape. Unit {0} };
 
     ghost noted = { λ r note p. Unit {0} };
@@ -68,6 +96,30 @@ impl Recorder<Unnoted> for Unrecorded {
 
     fn is_deaf(&self) -> bool {
         true
+    }
+
+    fn is_sharing(&self) -> bool {
+        false
+    }
+
+    fn find(
+        &self,
+        _digest: u64,
+        _states: &Store<A>,
+        _placed: &Marks<A>,
+        _further: Option<usize>,
+    ) -> Option<Unnoted> {
+        None
+    }
+
+    fn keep(
+        &self,
+        _digest: u64,
+        _states: &Arc<Store<A>, A>,
+        _placed: &Marks<A>,
+        _note: Unnoted,
+    ) -> bool {
+        false
     }
 
     fn note_kids(&mut self, _list: &[Decision]) -> Result<Unnoted, OutOfMemory> {

@@ -21,6 +21,7 @@ use crate::memo::{Memo, Reason};
 use crate::outcome::{Decided, Ended, Outcome, Searched};
 use crate::ready::Ready;
 use crate::recorder::{Recorder, Unnoted, Unrecorded};
+use crate::shared::{ROWS_MAX, Scene, Shared, Sharing};
 use aud_event::OutOfMemory;
 use aud_order::{Cursor, Pushed, Shape};
 use aud_witness::laws::letter_is_opaque;
@@ -74,7 +75,7 @@ fn try_from<A: Allocator + Copy>(
 
 /// Notes the cursor's list with the decision after it, if that is good: the note is of a list that is the same to what comes
 /// after them. The cursor comes back.
-fn pass<N: Copy, R: Recorder<N>, A: Allocator + Copy>(
+fn pass<N: Copy, R: Recorder<N, A>, A: Allocator + Copy>(
     memo: &mut Memo<N, R, A>,
     cursor: &mut Cursor<A>,
     decision: Decision,
@@ -99,7 +100,7 @@ fn pass<N: Copy, R: Recorder<N>, A: Allocator + Copy>(
 
 /// Passes over choices that are known to be refuted, from a place on, and answers where the others begin. Those that are good
 /// are noted.
-fn pass_known<N: Copy, R: Recorder<N>, A: Allocator + Copy>(
+fn pass_known<N: Copy, R: Recorder<N, A>, A: Allocator + Copy>(
     memo: &mut Memo<N, R, A>,
     cursor: &mut Cursor<A>,
     choices: &[Choice],
@@ -129,7 +130,7 @@ fn pass_known<N: Copy, R: Recorder<N>, A: Allocator + Copy>(
 }
 
 /// Takes the last decision back, and reports it.
-fn take_back<N: Copy, R: Recorder<N>, A: Allocator + Copy>(
+fn take_back<N: Copy, R: Recorder<N, A>, A: Allocator + Copy>(
     cursor: &mut Cursor<A>,
     memo: &mut Memo<N, R, A>,
 ) -> Option<Decision>
@@ -144,7 +145,7 @@ fn take_back<N: Copy, R: Recorder<N>, A: Allocator + Copy>(
 }
 
 /// Takes the last decision back, and its choices may be good again.
-fn go_back<N: Copy, R: Recorder<N>, A: Allocator + Copy>(
+fn go_back<N: Copy, R: Recorder<N, A>, A: Allocator + Copy>(
     cursor: &mut Cursor<A>,
     ready: &mut Ready<A>,
     memo: &mut Memo<N, R, A>,
@@ -217,7 +218,7 @@ impl Turn {
 }
 
 /// Passes over choices that are known to be refuted, and goes on by the first of the others that is good. It answers its place.
-fn seek<N: Copy, R: Recorder<N>, A: Allocator + Copy>(
+fn seek<N: Copy, R: Recorder<N, A>, A: Allocator + Copy>(
     memo: &mut Memo<N, R, A>,
     cursor: &mut Cursor<A>,
     choices: &[Choice],
@@ -246,7 +247,7 @@ enum Arrival {
 }
 
 /// Says what is known of the cursor's list, to which the search just went by the choice, from states with a number.
-fn arrive<N: Copy, R: Recorder<N>, A: Allocator + Copy>(
+fn arrive<N: Copy, R: Recorder<N, A>, A: Allocator + Copy>(
     memo: &mut Memo<N, R, A>,
     cursor: &mut Cursor<A>,
     choice: &Choice,
@@ -268,7 +269,7 @@ fn arrive<N: Copy, R: Recorder<N>, A: Allocator + Copy>(
 
 /// Notes that the cursor's list is refuted, and goes back to the list before it, whose turn is then the last one. Where no list
 /// is left to go back to, it answers the note.
-fn close<N: Copy, R: Recorder<N>, A: Allocator + Copy>(
+fn close<N: Copy, R: Recorder<N, A>, A: Allocator + Copy>(
     memo: &mut Memo<N, R, A>,
     cursor: &mut Cursor<A>,
     ready: &mut Ready<A>,
@@ -307,7 +308,7 @@ fn witness_at<N: Copy, A: Allocator + Copy>(
 }
 
 /// Searches the lists that begin with the cursor's, which was just expanded. The turns are those of the lists before the cursor's.
-fn search_on<N: Copy, R: Recorder<N>, A: Allocator + Copy>(
+fn search_on<N: Copy, R: Recorder<N, A>, A: Allocator + Copy>(
     alloc: A,
     cursor: &mut Cursor<A>,
     choices: &[Choice],
@@ -356,7 +357,7 @@ fn search_on<N: Copy, R: Recorder<N>, A: Allocator + Copy>(
 }
 
 /// Searches the lists that begin with the cursor's, which is expanded first. What is refuted is remembered.
-fn search_from<'a, N: Copy, R: Recorder<N>, A: Allocator + Copy>(
+fn search_from<'a, N: Copy, R: Recorder<N, A>, A: Allocator + Copy>(
     alloc: A,
     shape: &'a Shape<A>,
     cursor: &mut Cursor<'a, A>,
@@ -378,13 +379,15 @@ fn search_from<'a, N: Copy, R: Recorder<N>, A: Allocator + Copy>(
     search_on(alloc, cursor, choices, budget, memo, &mut ready, &mut turns)
 }
 
-/// Searches the lists that begin with the cursor's, with a budget or without, over what is remembered of the shape.
-fn search_under<'a, A: Allocator + Copy>(
+/// Searches the lists that begin with the cursor's, with a budget or without, over what is remembered of the shape. After each list
+/// it tries transactions first whose last event has the place `first` or a later one.
+fn search_under<'a, R: Recorder<Unnoted, A>, A: Allocator + Copy>(
     alloc: A,
     shape: &'a Shape<A>,
+    first: u32,
     cursor: &mut Cursor<'a, A>,
     budget: Option<u64>,
-    memo: &mut Memo<'a, Unnoted, Unrecorded, A>,
+    memo: &mut Memo<'a, Unnoted, R, A>,
 ) -> Result<Outcome<A>, OutOfMemory>
     requires memo { memo.old.shape ≡ shape.now }
     requires shape { cursor.old.shape ≡ shape.now }
@@ -401,18 +404,20 @@ fn search_under<'a, A: Allocator + Copy>(
     };
     let _sound = shape.history();
     let _within = shape.plan();
-    let choices = choices_of(alloc, shape)?;
+    let choices = choices_of(alloc, shape, first)?;
     let ended = search_from(alloc, shape, cursor, &choices, left, memo)?;
     Ok(ended.outcome())
 }
 
-/// Searches the lists that begin with the prefix, with a budget or without, over what is remembered of the shape.
-fn search<'a, A: Allocator + Copy>(
+/// Searches the lists that begin with the prefix, with a budget or without, over what is remembered of the shape, as
+/// `search_under` says it.
+fn search<'a, R: Recorder<Unnoted, A>, A: Allocator + Copy>(
     alloc: A,
     shape: &'a Shape<A>,
+    first: u32,
     prefix: &[Decision],
     budget: Option<u64>,
-    memo: &mut Memo<'a, Unnoted, Unrecorded, A>,
+    memo: &mut Memo<'a, Unnoted, R, A>,
 ) -> Result<Outcome<A>, OutOfMemory>
     requires { memo.old.shape ≡ shape.now }
     ensures reported { IfOk result (Reports (objects_of shape.now) (history_of shape.now) prefix.now budget) }
@@ -421,30 +426,57 @@ fn search<'a, A: Allocator + Copy>(
     let Some(mut cursor) = Cursor::after(alloc, shape, prefix)? else {
         return Ok(Outcome::Refuted);
     };
-    search_under(alloc, shape, &mut cursor, budget, memo)
+    search_under(alloc, shape, first, &mut cursor, budget, memo)
+}
+
+/// What searches of the shape share of what there is: they share nothing where no one word marks all rows.
+fn shared_of<'a, J: Scene, A: Allocator + Copy>(
+    shape: &Shape<A>,
+    shared: Option<&'a Shared<J, A>>,
+) -> Option<&'a Shared<J, A>> {
+    if shape.table().rows().len() <= ROWS_MAX {
+        shared
+    } else {
+        None
+    }
+}
+
+/// Where the last transaction of the list did its last event.
+fn last_of<A: Allocator + Copy>(shape: &Shape<A>, list: &[Decision]) -> u32 {
+    let Some(decision) = list.last() else {
+        return 0;
+    };
+    let table = shape.table();
+    match table.place(decision.tx) {
+        Some(place) => table.rows()[place].last(),
+        None => 0,
+    }
 }
 
 /// Puts a memo of nothing in place of another.
-fn forget_all<'a, A: Allocator + Copy>(
+fn forget_all<'a, J: Scene, A: Allocator + Copy>(
     alloc: A,
     shape: &'a Shape<A>,
-    memo: &mut Memo<'a, Unnoted, Unrecorded, A>,
+    shared: Option<&'a Shared<J, A>>,
+    memo: &mut Memo<'a, Unnoted, Sharing<'a, J, A>, A>,
 )
+    requires { shape.now ≡ J.shape }
     ensures { memo.new.shape ≡ shape.now }
 {
-    *memo = Memo::new(alloc, shape, Unrecorded);
+    *memo = Memo::new(alloc, shape, Sharing { shared });
 }
 
 /// What searches of one history have refuted, for the searches that come after them: a list is not expanded where one of the same
 /// transactions and the same states was refuted before. It takes memory as it comes to know more, some gigabyte at most.
 #[derive(Drop)]
-pub struct Memory<'a, A: Allocator + Copy = Global> {
+pub struct Memory<'a, J: Scene, A: Allocator + Copy = Global> {
     alloc: A,
     shape: &'a Shape<A>,
-    memo: Memo<'a, Unnoted, Unrecorded, A>,
+    shared: Option<&'a Shared<J, A>>,
+    memo: Memo<'a, Unnoted, Sharing<'a, J, A>, A>,
 }
 
-impl<'a, A: Allocator + Copy> Model for Memory<'a, A> {
+impl<'a, J: Scene, A: Allocator + Copy> Model for Memory<'a, J, A> {
     ghost use Rattle.std.specs.Prelude.{◌≡◌};
     ghost use Rattle.aud_order.specs.Shapes.{ShapeOf};
 
@@ -452,18 +484,21 @@ impl<'a, A: Allocator + Copy> Model for Memory<'a, A> {
 
     ghost view = { λ m. m.shape.now };
 
-    ghost invariant = { λ m. m.memo.shape ≡ m.shape.now };
+    ghost invariant = { λ m. (m.memo.shape ≡ m.shape.now) × (m.shape.now ≡ J.shape) };
 }
 
-impl<'a, A: Allocator + Copy> Memory<'a, A> {
+impl<'a, J: Scene, A: Allocator + Copy> Memory<'a, J, A> {
     /// Of nothing. It does not allocate.
-    pub fn new(alloc: A, shape: &'a Shape<A>) -> Memory<'a, A>
+    pub fn new(alloc: A, shape: &'a Shape<A>, shared: Option<&'a Shared<J, A>>) -> Memory<'a, J, A>
+        requires { shape.now ≡ J.shape }
         ensures { result ≡ shape.entry.now }
     {
+        let shared = shared_of(shape, shared);
         Memory {
             alloc,
             shape,
-            memo: Memo::new(alloc, shape, Unrecorded),
+            shared,
+            memo: Memo::new(alloc, shape, Sharing { shared }),
         }
     }
 
@@ -474,17 +509,22 @@ impl<'a, A: Allocator + Copy> Memory<'a, A> {
         ensures shape { self.new ≡ self.old }
     {
         self.memo.move_away();
-        let (alloc, shape) = (self.alloc, self.shape);
+        let first = match self.shared {
+            Some(_) => last_of(self.shape, prefix.decisions()),
+            None => 0,
+        };
+        let (alloc, shape, shared) = (self.alloc, self.shape, self.shared);
         match search(
             alloc,
             shape,
+            first,
             prefix.decisions(),
             Some(budget),
             &mut self.memo,
         ) {
             Ok(outcome) => Ok(outcome),
             Err(error) => {
-                forget_all(alloc, shape, &mut self.memo);
+                forget_all(alloc, shape, shared, &mut self.memo);
                 Err(error)
             }
         }
@@ -502,7 +542,8 @@ pub fn explore<A: Allocator + Copy>(
 ) -> Result<Outcome<A>, OutOfMemory>
     ensures { IfOk result (Reports (objects_of shape.now) (history_of shape.now) prefix.now (Some budget)) }
 {
-    Memory::new(alloc, shape).explore(prefix, budget)
+    let mut memo = Memo::new(alloc, shape, Unrecorded);
+    search(alloc, shape, 0, prefix.decisions(), Some(budget), &mut memo)
 }
 
 /// Whether the history is opaque, with a list that shows it where it is. That is so by lists of decisions, and by the letter of
@@ -520,7 +561,7 @@ pub fn decide<A: Allocator + Copy>(alloc: A, shape: &Shape<A>) -> Result<Decided
 }
 
 /// Searches all lists, of which the empty one is not full. It is expanded first.
-fn search_all<'a, N: Copy, R: Recorder<N>, A: Allocator + Copy>(
+fn search_all<'a, N: Copy, R: Recorder<N, A>, A: Allocator + Copy>(
     alloc: A,
     shape: &'a Shape<A>,
     cursor: &mut Cursor<'a, A>,
@@ -533,7 +574,7 @@ fn search_all<'a, N: Copy, R: Recorder<N>, A: Allocator + Copy>(
 {
     let _sound = shape.history();
     let _within = shape.plan();
-    let choices = choices_of(alloc, shape)?;
+    let choices = choices_of(alloc, shape, 0)?;
     let mut memo = Memo::new(alloc, shape, recorder);
     let ended = search_from(alloc, shape, cursor, &choices, None, &mut memo)?;
     let recorder = memo.into_recorder();
@@ -546,7 +587,7 @@ fn search_all<'a, N: Copy, R: Recorder<N>, A: Allocator + Copy>(
 }
 
 /// Searches all lists, where the cursor's is the empty one.
-fn search_at_root<'a, N: Copy, R: Recorder<N>, A: Allocator + Copy>(
+fn search_at_root<'a, N: Copy, R: Recorder<N, A>, A: Allocator + Copy>(
     alloc: A,
     shape: &'a Shape<A>,
     cursor: &mut Cursor<'a, A>,
@@ -566,7 +607,7 @@ fn search_at_root<'a, N: Copy, R: Recorder<N>, A: Allocator + Copy>(
 
 /// Whether the history is opaque, as `decide` says, over a recorder that hears of each good list that is refuted, with the reason.
 /// It is handed back with its note of the empty list.
-pub fn search_with<N: Copy, R: Recorder<N>, A: Allocator + Copy>(
+pub fn search_with<N: Copy, R: Recorder<N, A>, A: Allocator + Copy>(
     alloc: A,
     shape: &Shape<A>,
     recorder: R,

@@ -1,6 +1,6 @@
 //! Spots as words, all in one memory.
 
-ghost use Rattle.std.specs.Prelude.{◌≡◌, ◌+◌, ◌<◌, ◌≤◌, ◌++◌, [], ◌∷◌, true, nat_eq, IsTrue, MatchOption, length, take, drop, slice_index_or, if◌then◌else◌, ◌⊎◌, Some};
+ghost use Rattle.std.specs.Prelude.{◌≡◌, ◌+◌, ◌<◌, ◌≤◌, ◌++◌, [], ◌∷◌, true, nat_eq, IfSome, IsTrue, MatchOption, length, take, drop, slice_index_or, if◌then◌else◌, ◌⊎◌, Some};
 ghost use Rattle.aud_marks.specs.Marked.{IsBitWritten};
 ghost use Rattle.aud_search.specs.Spots.{IsKeptAs, with_place, WithPlace, IsSpot, IsPlaceOf, entries_over, entry};
 
@@ -73,6 +73,17 @@ fn is_with(words: &[u64], others: &[u64], place: usize) -> bool
     words[at] == with_mark(others[at], place % WIDTH)
         && is_same(&words[..at], &others[..at])
         && is_same(&words[at + 1..], &others[at + 1..])
+}
+
+/// The word with a mark at the place of a row, if it marks that row.
+pub(crate) fn with_further(word: u64, place: usize) -> Option<u64>
+    ensures { IfSome result (λ own. WithPlace (word ∷ []) (own ∷ []) place) }
+{
+    if place / WIDTH == 0 {
+        Some(with_mark(word, place % WIDTH))
+    } else {
+        None
+    }
 }
 
 /// Whether the words are of a spot: the states have the number, and the rows are placed, with one further where there is one.

@@ -10,15 +10,15 @@ use aud_know::{Finding, Item};
 use aud_node::{Fleet, OfferFault, Pass, Running};
 use aud_order::Shape;
 use aud_pool::Work;
-use aud_search::{Memory, Outcome};
+use aud_search::{Memory, Outcome, Scene, Shared};
 use aud_witness::Prefix;
 use std::alloc::Global;
 use std::sync::{Arc, Wait};
 
 /// What the search below the task finds of the shape's history: that the task is refuted, or an order that shows the history;
 /// nothing where the budget is spent before either is found.
-fn find<'a>(
-    memory: &mut Memory<'a>,
+fn find<'a, H: Scene>(
+    memory: &mut Memory<'a, H>,
     shape: &Arc<Shape>,
     task: &Prefix,
     budget: u64,
@@ -43,14 +43,18 @@ fn find<'a>(
 
 /// The search below tasks of one history, for a node of its plan.
 #[derive(Drop)]
-pub(crate) struct Explorer<'a, J: Fleet, S: Wait + Drop> {
+pub(crate) struct Explorer<'a, H: Scene, J: Fleet, S: Wait + Drop> {
     pub alloc: Global,
     pub node: &'a Running<J, S>,
     pub shape: &'a Arc<Shape>,
+    pub shared: Option<&'a Shared<H>>,
     pub budget: u64,
+    // The history is the one that the scene names.
+    pub ghost named: { shape.now.value ≡ H.shape },
 }
 
-impl<'a, J: Fleet, S: Wait + Drop> Work<Prefix, Pass<J>, Memory<'a>> for Explorer<'a, J, S> {
+impl<'a, H: Scene, J: Fleet, S: Wait + Drop> Work<Prefix, Pass<J>, Memory<'a, H>>
+    for Explorer<'a, H, J, S> {
     ghost use Rattle.std.specs.Prelude.{◌≡◌};
     ghost use Rattle.aud_order.specs.Shapes.{plan_of};
     ghost use Rattle.aud_node.specs.Meanings.{IsAt};
@@ -66,8 +70,8 @@ impl<'a, J: Fleet, S: Wait + Drop> Work<Prefix, Pass<J>, Memory<'a>> for Explore
     ghost grows = { λ w old new. HasSearched w.shape.now.value old new };
 
     // A worker remembers what it refuted below its earlier tasks.
-    fn begin(&self) -> Memory<'a> {
-        Memory::new(self.alloc, self.shape)
+    fn begin(&self) -> Memory<'a, H> {
+        Memory::new(self.alloc, self.shape, self.shared)
     }
 
     // A task that the node knows to be refuted is not searched.
@@ -75,7 +79,7 @@ impl<'a, J: Fleet, S: Wait + Drop> Work<Prefix, Pass<J>, Memory<'a>> for Explore
         &self,
         rt: &R,
         pass: &mut Pass<J>,
-        memory: &mut Memory<'a>,
+        memory: &mut Memory<'a, H>,
         task: &Prefix,
     ) -> Result<(), OutOfMemory> {
         let Ok(is_known) = self.node.knows(pass, task) else {

@@ -10,5 +10,5 @@ mod splitting;
 
 pub use aud_pool::Gate;
 pub use fault::PoolFault;
-pub use pool::{PoolEnd, run_pool};
+pub use pool::{PoolEnd, run_pool, run_pool_with};
 pub use splitting::split;

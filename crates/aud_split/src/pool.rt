@@ -3,8 +3,9 @@
 ghost use Rattle.std.specs.Prelude.{◌≡◌, ◌<◌, ◌++◌, ◌⊎◌, ◌↔◌, ℕ, [], true, map, All, IfOk, IfErr, IfNone, IfSome, OnOk, IsTrue, vec_len};
 ghost use Rattle.std.specs.List.Sorted.{IsPermutation};
 ghost use Rattle.aud_node.specs.Faults.{AreAt};
+ghost use Rattle.aud_pool.specs.Workers.{all_drawn, AreWorked, HaveGrown, IsCrew, IsRefusal};
 ghost use Rattle.aud_split.specs.Ends.{faulted, AreFaults};
-ghost use Rattle.aud_split.specs.Pools.{AreSettled, HaveSearched, IsPoolFault, MayRun};
+ghost use Rattle.aud_split.specs.Pools.{AreSettled, HasSearched, HaveSearched, IsPoolFault, IsSettled, MayRun};
 
 use crate::ends::{Lists, make_lists, take_apart};
 use crate::explorer::Explorer;
@@ -12,8 +13,10 @@ use crate::fault::PoolFault;
 use aud_node::{Fleet, Pass, Running};
 use aud_order::Shape;
 use aud_pool::{Gate, Refusal, run};
+use aud_search::{Scene, Shared};
 use aud_witness::Prefix;
 use std::alloc::Global;
+use std::marker::Brand;
 use std::sync::{Arc, Wait};
 use std::thread::Threads;
 
@@ -63,7 +66,115 @@ fn fault_of<J: Fleet, S: Wait + Drop>(
 /// draws again. The gate is called before and after. A worker to which memory is refused ends, and the others go on. It waits
 /// as `Node::offer` does, and until each worker has ended. Of what is refused the passes are handed back as they were.
 ///
+/// The workers take part in what searches of the history that the scene names share, and in nothing where that is not there.
+///
 /// Where a thread cannot be had for each worker, some are worked in turn: `NoThread` is never answered.
+pub fn run_pool_with<
+    H: Scene + Send + Sync,
+    J: Fleet + Send + Sync,
+    S: Wait + Drop + Send,
+    G: Gate<Prefix> + Sync,
+    R: Threads + Wait + Sync,
+>(
+    rt: &R,
+    alloc: Global,
+    node: &Running<J, S>,
+    passes: Vec<Pass<J>>,
+    shape: Arc<Shape>,
+    tasks: Vec<Prefix>,
+    budget: u64,
+    shared: Option<&Shared<H>>,
+    gate: &G,
+) -> Result<PoolEnd<J>, (Vec<Pass<J>>, PoolFault)>
+    requires named { shape.value ≡ H.shape }
+    ensures all { IfOk result (λ e. IsPermutation tasks.items (map (λ d. d.1) e.drawn.items ++ e.left.items)) }
+    ensures left { IfOk result (λ e. (e.left.items ≡ [])
+        ⊎ ((w : ℕ) → w < vec_len e.passes → faulted w e.faults.items ≡ true)) }
+    ensures passes { IfOk result (λ e. HaveSearched shape.value passes.items e.passes.items) }
+    ensures settled { IfOk result (λ e. AreSettled shape.value budget e.passes.items e.faults.items e.drawn.items) }
+    ensures workers { IfOk result (λ e. All (λ d. d.0 < vec_len e.passes) e.drawn.items) }
+    ensures faults { IfOk result (λ e. AreFaults 0 (vec_len e.passes) e.faults.items) }
+    ensures begun { OnOk result (MayRun node.now passes.items shape.value) }
+    ensures fault { IfErr result (λ e. IsPoolFault node.now passes.items shape.value e.1) }
+    ensures back { IfErr result (λ e. e.0 ≡ passes) }
+{
+    if let Some(fault) = fault_of(node, &passes, &shape) {
+        return Err((passes, fault));
+    }
+    let Ok(mut lists) = make_lists(alloc, passes.len(), tasks.len()) else {
+        return Err((passes, PoolFault::OutOfMemory));
+    };
+    let explorer = Explorer {
+        alloc,
+        node,
+        shape: &shape,
+        shared,
+        budget,
+    };
+    match run(rt, alloc, passes, tasks, &explorer, gate) {
+        Ok(end) => {
+            take_apart(end.workers, &mut lists);
+            let Lists {
+                seats,
+                drawn,
+                faults,
+            } = lists;
+            Ok(PoolEnd {
+                passes: seats,
+                drawn,
+                left: end.left,
+                faults,
+            })
+        }
+        Err((passes, Refusal::OutOfMemory)) => Err((passes, PoolFault::OutOfMemory)),
+        Err(_) => unreachable!(),
+    }
+}
+
+/// The same of a history that a scene names. Its workers alone share what they refute.
+fn run_own<
+    H: Scene + Send + Sync,
+    J: Fleet + Send + Sync,
+    S: Wait + Drop + Send,
+    G: Gate<Prefix> + Sync,
+    R: Threads + Wait + Sync,
+>(
+    rt: &R,
+    alloc: Global,
+    node: &Running<J, S>,
+    passes: Vec<Pass<J>>,
+    shape: Arc<Shape>,
+    tasks: Vec<Prefix>,
+    budget: u64,
+    gate: &G,
+) -> Result<PoolEnd<J>, (Vec<Pass<J>>, PoolFault)>
+    requires named { shape.value ≡ H.shape }
+    ensures all { IfOk result (λ e. IsPermutation tasks.items (map (λ d. d.1) e.drawn.items ++ e.left.items)) }
+    ensures left { IfOk result (λ e. (e.left.items ≡ [])
+        ⊎ ((w : ℕ) → w < vec_len e.passes → faulted w e.faults.items ≡ true)) }
+    ensures passes { IfOk result (λ e. HaveSearched shape.value passes.items e.passes.items) }
+    ensures settled { IfOk result (λ e. AreSettled shape.value budget e.passes.items e.faults.items e.drawn.items) }
+    ensures workers { IfOk result (λ e. All (λ d. d.0 < vec_len e.passes) e.drawn.items) }
+    ensures faults { IfOk result (λ e. AreFaults 0 (vec_len e.passes) e.faults.items) }
+    ensures begun { OnOk result (MayRun node.now passes.items shape.value) }
+    ensures fault { IfErr result (λ e. IsPoolFault node.now passes.items shape.value e.1) }
+    ensures back { IfErr result (λ e. e.0 ≡ passes) }
+{
+    let shared = Shared::<H>::among(alloc, passes.len());
+    run_pool_with(
+        rt,
+        alloc,
+        node,
+        passes,
+        shape,
+        tasks,
+        budget,
+        shared.as_ref(),
+        gate,
+    )
+}
+
+/// Has a worker for each pass search below the tasks, as `run_pool_with` does. The workers of this pool alone share what they refute.
 pub fn run_pool<
     J: Fleet + Send + Sync,
     S: Wait + Drop + Send,
@@ -90,34 +201,5 @@ pub fn run_pool<
     ensures fault { IfErr result (λ e. IsPoolFault node.now passes.items shape.value e.1) }
     ensures back { IfErr result (λ e. e.0 ≡ passes) }
 {
-    if let Some(fault) = fault_of(node, &passes, &shape) {
-        return Err((passes, fault));
-    }
-    let Ok(mut lists) = make_lists(alloc, passes.len(), tasks.len()) else {
-        return Err((passes, PoolFault::OutOfMemory));
-    };
-    let explorer = Explorer {
-        alloc,
-        node,
-        shape: &shape,
-        budget,
-    };
-    match run(rt, alloc, passes, tasks, &explorer, gate) {
-        Ok(end) => {
-            take_apart(end.workers, &mut lists);
-            let Lists {
-                seats,
-                drawn,
-                faults,
-            } = lists;
-            Ok(PoolEnd {
-                passes: seats,
-                drawn,
-                left: end.left,
-                faults,
-            })
-        }
-        Err((passes, Refusal::OutOfMemory)) => Err((passes, PoolFault::OutOfMemory)),
-        Err(_) => unreachable!(),
-    }
+    run_own::<Brand, _, _, _, _>(rt, alloc, node, passes, shape, tasks, budget, gate)
 }

@@ -1,12 +1,14 @@
 //! The worked histories under `decide` and `explore`, and a family of small histories beside brute force.
 
+ghost use Rattle.std.specs.Prelude.{◌≡◌};
+
 mod runs;
 mod small;
 
 use crate::fixtures::{is_order, order, shape_from, shape_of};
 use aud_facts::Facts;
 use aud_order::Shape;
-use aud_search::{Decided, Memory, Outcome, decide, explore};
+use aud_search::{Decided, Memory, Outcome, Scene, Shared, decide, explore};
 use aud_witness::Prefix;
 use aud_worked::{
     BOTH_FIND_IT_ABSENT, COUNT_IS_LOST, IDLE_WRITE_STANDS_LATER, ITEM_IS_PASSED_ON,
@@ -16,6 +18,7 @@ use aud_worked::{
 };
 use runs::{counters, readers};
 use std::alloc::{Allocator, Global};
+use std::marker::Brand;
 use std::test::Fail;
 
 /// Whether the history is decided as the text says: it is an order, or `not opaque`.
@@ -176,25 +179,44 @@ fn each_spot_is_expanded_once(rt: HostRuntime) -> Result<(), Fail> {
     Ok(())
 }
 
-/// What is reported of all lists of nine counters, and then, over what was refuted there, of those that begin with one of them.
-fn remembered(alloc: Global, budget: u64) -> Result<(Told, Told), Unread> {
-    let counting = nine_counters(alloc)?;
-    let shape = shape_from(alloc, &counting)?;
-    let mut memory = Memory::new(alloc, &shape);
+/// What is reported of all lists of the shape, over what was refuted there of those that begin with one of them, and again of all
+/// lists by another search, which shares what was refuted.
+fn remembered<J: Scene>(
+    alloc: Global,
+    shape: &Shape,
+    budget: u64,
+) -> Result<(Told, Told, Told), Unread>
+    requires { shape.now ≡ J.shape }
+{
+    let shared = Shared::<J>::new(alloc)?;
+    let mut memory = Memory::new(alloc, shape, Some(&shared));
+    let mut other = Memory::new(alloc, shape, Some(&shared));
     let whole = memory.explore(&order(alloc, "none")?, budget)?;
     let below = memory.explore(&order(alloc, "1c")?, 1)?;
-    Ok((without_order(whole), without_order(below)))
+    let again = other.explore(&order(alloc, "none")?, 1)?;
+    Ok((
+        without_order(whole),
+        without_order(below),
+        without_order(again),
+    ))
+}
+
+/// The same of nine counters.
+fn counters_remembered(alloc: Global, budget: u64) -> Result<(Told, Told, Told), Unread> {
+    let counting = nine_counters(alloc)?;
+    let shape = shape_from(alloc, &counting)?;
+    remembered::<Brand>(alloc, &shape, budget)
 }
 
 #[test]
 fn what_was_refuted_is_not_expanded_again(rt: HostRuntime) -> Result<(), Fail> {
     let cases = [
-        (256u64, (Told::Refuted, Told::Refuted)),
-        (0, (Told::Spent, Told::Spent)),
+        (256u64, (Told::Refuted, Told::Refuted, Told::Refuted)),
+        (0, (Told::Spent, Told::Spent, Told::Spent)),
     ];
     for (budget, wanted) in &cases {
-        let told = remembered(rt.alloc(), *budget)?;
-        assert_eq!(rt; told, *wanted, "with {budget}");
+        let told = counters_remembered(rt.alloc(), *budget)?;
+        assert!(rt; told == *wanted);
     }
     Ok(())
 }

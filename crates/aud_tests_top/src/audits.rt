@@ -249,10 +249,10 @@ fn met<R: Threads + Wait + Sync>(rt: &R, alloc: Global, input: &str) -> Option<(
 
 #[test]
 fn pools_of_two_nodes_work_at_once(rt: HostRuntime) -> Result<(), Fail> {
-    // One task of each node first; and all, where none of these leads to an order.
+    // One task of each node first; and all, where none of these leads to an order, and twice again, where none was left open.
     let cases = [
         (UNSEEN_REQUEST, 100, Some((Ended::Opaque, 2, 0))),
-        (FIVE_COUNTED, 3, Some((Ended::NotOpaque, 8, 0))),
+        (FIVE_COUNTED, 3, Some((Ended::NotOpaque, 20, 0))),
     ];
     for (input, times, wanted) in cases {
         for _ in 0..times {

@@ -1,6 +1,9 @@
 use Rattle.std.proofs.Common.{◌≡◌, ◌<◌, false, length, get_or, sym, subst, arith}
 use denote.Param.Send.{sendable}
+use Rattle.std.proofs.Crossing as heap
 use Rattle.std.proofs.alloc.Global.TheSendSync as global
+use Rattle.std.proofs.option.Option.TheSendSync as option
+use Rattle.aud_search.proofs.Crosses.{shared_sync}
 use Rattle.aud_node.proofs.Captures.{captures}
 use Rattle.aud_node.proofs.Crosses.{node_sync}
 use Rattle.aud_audit.specs.Seats.{CrewOf, IsCrewAt}
@@ -13,13 +16,13 @@ pub for_each_mut-requires-send-T : goal.for_each_mut-requires-send-T
 for_each_mut-requires-send-T g c κs within = search (crew_send, sendable)
 
 pub for_each_mut-requires-sync-F : goal.for_each_mut-requires-sync-F
-for_each_mut-requires-sync-F g c κs within = search (captures, node_sync, search_sync, global.the_sync, sendable) depth 60 fits 20000
+for_each_mut-requires-sync-F g c κs within = search (captures, node_sync, search_sync, shared_sync, option.the_sync, global.the_send, global.the_sync, heap.frees, sendable) depth 60 fits 20000
 
 pub for_each_mut-requires-clause-accepts : goal.for_each_mut-requires-clause-accepts
 for_each_mut-requires-clause-accepts g c κs outlive = λ i p lt is.
     let count = c.requires.crews.count in
     let inside : i < length c.args.nodes.now = omega (arith, lt, count) in
-    ((inside, c.requires.planned, λ n. subst (λ (d : CrewOf). IsCrewAt (get_or c.args.nodes.now i n) d) (sym is) (c.requires.crews.each i n p.now inside)), (search sendable, search sendable, search sendable, search sendable, search sendable))
+    ((inside, c.requires.named, c.requires.planned, λ n. subst (λ (d : CrewOf). IsCrewAt (get_or c.args.nodes.now i n) d) (sym is) (c.requires.crews.each i n p.now inside)), (search sendable, search sendable, search sendable, search sendable, search sendable, search sendable, search sendable))
 
 pub returns-clause-crews : goal.returns-clause-crews
 returns-clause-crews g c =

@@ -24,7 +24,7 @@ pub returns-clause-reported : goal.returns-clause-reported
 returns-clause-reported g c =
     let at = c.args.cursor.now in
     let own : at ≡ cursor_at c.args.shape.now at.path = λ i. cursor_at (c.requires.shape i) at.path in
-    whole-reported _ g.row.A.Denot (λ note p. Unit {0}) c.args.shape.now at at.path c.args.budget c.in-Some.left c.in_ok-ended.ended c.outcome.result own (rw c.in-Some.is at c.spend.ensures) c.in_ok-ended.ensures.reported c.outcome.ensures
+    whole-reported _ g.row.A.Denot (g.R.Recorder.noted c.search_from.new.memo.recorder) c.args.shape.now at at.path c.args.budget c.in-Some.left c.in_ok-ended.ended c.outcome.result own (rw c.in-Some.is at c.spend.ensures) c.in_ok-ended.ensures.reported c.outcome.ensures
 
 pub search_from-requires-clause-fine : goal.search_from-requires-clause-fine
 search_from-requires-clause-fine g c = subst (λ (s : ShapeOf). IsWellFormed (history_of s)) (sym c.requires.shape) c.history-sound.ensures.sound

@@ -19,6 +19,7 @@ invariant_of-self-in-Ok g c =
           (dead-here _ _ _ placed c.args.states at same c.prefix-good.ensures.good c.requires.refuted c.placed-placed.ensures
           (subst (λ (m : MemoOf _). Names m.states (Some c.args.states) (states_reached at.shape at.path)) (sym c.self.view_is) c.requires.named) noted) c.self.invariant.0,
       c.self.invariant.1,
+      c.self.invariant.2,
     )
 
 pub invariant_of-self-else-keep : goal.invariant_of-self-else-keep
@@ -30,4 +31,5 @@ invariant_of-self-else-keep g c =
     let same = ap (λ (m : MemoOf _). m.shape) c.self.view_is ∙ c.requires.shape in (
       true-unkept _ _ _ _ _ _ _ _ (subst (λ n. IsKeptAs (map (entry_of n) i.spots) (map (entry_of n) c.keep.new.self) entry false) (rows-placed i.shape.now placed at same c.placed-placed.ensures) (rw c.if-keep.false at c.keep.ensures)) c.reserve.ensures.items c.self.invariant.0,
       c.self.invariant.1,
+      c.self.invariant.2,
     )

@@ -11,7 +11,7 @@ use Rattle.aud_search.proofs.memo.Memo.note.Goals as goal
 pub invariant_of-self : goal.invariant_of-self
 invariant_of-self g c =
     let grows = c.note_kids.ensures.grows in
-    (true-noted _ _ _ _ _ _ _ (λ note p was. g.met.R.Recorder.noted_stays _ _ note p grows was) c.self.invariant.0, g.met.R.Recorder.still_for _ _ _ grows c.self.invariant.1)
+    (true-noted _ _ _ _ _ _ _ (λ note p was. g.met.R.Recorder.noted_stays _ _ note p grows was) c.self.invariant.0, g.met.R.Recorder.still_for _ _ _ grows c.self.invariant.1, c.self.invariant.2)
 
 pub note_silent-requires : goal.note_silent-requires
 note_silent-requires g c =
@@ -31,7 +31,7 @@ note_silent-requires g c =
 pub invariant_of-self-in-Silent : goal.invariant_of-self-in-Silent
 invariant_of-self-in-Silent g c =
     let grows = c.note_silent.ensures.grows in
-    (true-noted _ _ _ _ _ _ _ (λ note p was. g.met.R.Recorder.noted_stays _ _ note p grows was) c.self.invariant.0, g.met.R.Recorder.still_for _ _ _ grows c.self.invariant.1)
+    (true-noted _ _ _ _ _ _ _ (λ note p was. g.met.R.Recorder.noted_stays _ _ note p grows was) c.self.invariant.0, g.met.R.Recorder.still_for _ _ _ grows c.self.invariant.1, c.self.invariant.2)
 
 pub note_same-requires : goal.note_same-requires
 note_same-requires g c =
@@ -51,4 +51,4 @@ note_same-requires g c =
 pub invariant_of-self-in-Same : goal.invariant_of-self-in-Same
 invariant_of-self-in-Same g c =
     let grows = c.note_same.ensures.grows in
-    (true-noted _ _ _ _ _ _ _ (λ note p was. g.met.R.Recorder.noted_stays _ _ note p grows was) c.self.invariant.0, g.met.R.Recorder.still_for _ _ _ grows c.self.invariant.1)
+    (true-noted _ _ _ _ _ _ _ (λ note p was. g.met.R.Recorder.noted_stays _ _ note p grows was) c.self.invariant.0, g.met.R.Recorder.still_for _ _ _ grows c.self.invariant.1, c.self.invariant.2)

@@ -8,4 +8,5 @@ invariant_of-self g c = (
   true-lead _ _ _ _ _ c.self.inside.leads.items c.keep_lead.new.leads.items c.args.lead c.keep_lead.ensures
       (subst (λ (m : MemoOf _). IsLead m.shape m.states c.args.lead) (sym c.self.view_is) c.requires) c.self.invariant.0,
   c.self.invariant.1,
+  c.self.invariant.2,
 )

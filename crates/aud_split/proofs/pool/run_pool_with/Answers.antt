@@ -15,7 +15,7 @@ use Rattle.aud_split.specs.Ends.{failures, faulted, drawn_by, AreFaults}
 use Rattle.aud_split.specs.Pools.{IsSettled, HasSearched, HaveSearched, MayRun}
 use Rattle.aud_split.proofs.Crosses.{explorer_sync}
 use Rattle.aud_split.proofs.Numbers.{all_tasks, numbers_below, all_faulted, answered_of, grown_of, grown_length, faults_of}
-use Rattle.aud_split.proofs.pool.run_pool.Goals as goal
+use Rattle.aud_split.proofs.pool.run_pool_with.Goals as goal
 
 pub run-requires-clause-may_work : goal.run-requires-clause-may_work
 run-requires-clause-may_work g c κs outlive =
