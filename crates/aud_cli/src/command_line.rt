@@ -8,8 +8,9 @@ ghost use Rattle.aud_cli.specs.CommandLine.{audit_app, bare_app, check_app, deci
 use clap::{Arg, ArgAction, Command};
 use std::alloc::{AllocError, Global};
 
-/// The version, and the kit whose checker proved this program. `rt version` prints what stands after `with`.
-const VERSION: &str = "0.1.0, proved with rattle-kit-13f logic dac8208d650f15bf";
+/// The version, and the logic whose checker proved this program. It is the last word of what `rt version` prints: kits that differ
+/// in other things share it.
+const VERSION: &str = "0.1.0, proved with Rattle logic dac8208d650f15bf";
 
 const ABOUT: &str =
     "Says whether a run of a transactional memory was opaque, from its stamped records";
