@@ -3,6 +3,7 @@ pub mod StateTable
 pub mod FirstFault
 pub mod ByPlaces
 pub mod Tables
+pub mod Numbers
 pub mod RowLaws
 pub mod Insertions
 pub mod Removals

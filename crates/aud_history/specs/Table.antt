@@ -1,6 +1,6 @@
 -- The transactions of a history, in the order of their first events, each with what it did.
-use Rattle.std.specs.Prelude.{ℕ, suc, not, if◌then◌else◌, nat_eq, List, [], ◌∷◌, map, filter, Some, None}
-use Rattle.std.specs.List.{list_any}
+use Rattle.std.specs.Prelude.{◌≡◌, ℕ, suc, not, if◌then◌else◌, nat_eq, List, [], ◌∷◌, map, filter, Option, Some, None, slice_index_or}
+use Rattle.std.specs.List.{list_any, position}
 use Rattle.aud_event.specs.declared.fact.Event.{Event}
 use Rattle.aud_event.specs.declared.fact.Event.TheVariants.{Inv, Ret, TryC, TryA, Commit, Abort}
 use Rattle.aud_object.specs.Blocks.{BlockOf, invoked, answered}
@@ -79,3 +79,7 @@ fresh_row t stamp = record { tx = t; block = record { executions = []; trailing 
 abbrev pub rows_with : List RowOf → ℕ → ℕ → Event → List RowOf
 rows_with [] t stamp e = with_event (fresh_row t stamp) stamp e ∷ []
 rows_with (r ∷ rs) t stamp e = if nat_eq r.tx t then with_event r stamp e ∷ rs else r ∷ rows_with rs t stamp e
+
+-- at each number stands the place that it has among these, or none, and past the end as well
+abbrev pub ArePlacesOf : List ℕ → List (Option ℕ) → Type 0
+ArePlacesOf numbers places = (t : ℕ) → slice_index_or places t None ≡ position (nat_eq t) numbers

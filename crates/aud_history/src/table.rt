@@ -1,12 +1,13 @@
 //! The transactions of a history in the order of their first events, each with what it did.
 
-ghost use Rattle.std.specs.Prelude.{◌≡◌, ◌<◌, IfOk, OnOk, OnErr, nat_eq, map};
+ghost use Rattle.std.specs.Prelude.{◌≡◌, ◌<◌, ℕ, None, IfOk, OnOk, OnErr, length, nat_eq, map, slice_index_or};
 ghost use Rattle.std.specs.List.{position};
 ghost use Rattle.aud_history.specs.WellFormed.{IsWellFormed};
 ghost use Rattle.aud_history.specs.Table.{table_of, with_event, fresh_row, rows_with};
 
 use crate::history::History;
 use crate::status::Status;
+use aud_event::limits::TRANSACTIONS;
 use aud_event::{Event, OutOfMemory};
 use aud_object::{Block, Invocation};
 use indexmap::IndexSet;
@@ -103,22 +104,23 @@ impl<A: Allocator> TxRow<A> {
 /// A set of numbers in the order in which they came.
 type Numbers<A> = IndexSet<u32, BuildHasherDefault<FoldHasher>, A>;
 
-/// The rows of all transactions of a history, by their first events. A transaction's row is found by its number in O(1).
+/// The rows of all transactions of a history, by their first events. Beside them stands at each number the place of its
+/// transaction's row, so that a step of a search, which asks for it, costs no hash.
 #[derive(Drop)]
 pub struct TxTable<A: Allocator + Copy = Global> {
-    numbers: Numbers<A>,
+    places: Vec<Option<usize>, A>,
     rows: Vec<TxRow<A>, A>,
 }
 
 impl<A: Allocator + Copy> Model for TxTable<A> {
-    ghost use Rattle.std.specs.Prelude.{◌≡◌, List, map};
-    ghost use Rattle.aud_history.specs.Table.{RowOf};
+    ghost use Rattle.std.specs.Prelude.{List, map};
+    ghost use Rattle.aud_history.specs.Table.{RowOf, ArePlacesOf};
 
     ghost Value = { List RowOf };
 
     ghost view = { λ t. t.rows.items };
 
-    ghost invariant = { λ t. t.numbers.keys ≡ map (λ r. r.tx) t.rows.items };
+    ghost invariant = { λ t. ArePlacesOf (map (λ r. r.tx) t.rows.items) t.places.items };
 }
 
 /// Adds an event to its transaction's row, or to a row of its own after the others.
@@ -146,6 +148,22 @@ fn add_event<A: Allocator + Copy>(
     }
 }
 
+/// At each number that a transaction may have its place in the set.
+fn places_of<A: Allocator + Copy>(
+    alloc: A,
+    numbers: &Numbers<A>,
+) -> Result<Vec<Option<usize>, A>, OutOfMemory>
+    ensures count { IfOk result (λ places. length places.items ≡ TRANSACTIONS) }
+    ensures places { IfOk result (λ places. (t : ℕ) → t < TRANSACTIONS →
+        slice_index_or places.items t None ≡ position (nat_eq t) numbers.now.keys) }
+{
+    let mut places = Vec::with_capacity(alloc, TRANSACTIONS as usize)?;
+    for number in 0..TRANSACTIONS {
+        places.push(numbers.get_index_of(&number))?;
+    }
+    Ok(places)
+}
+
 impl<A: Allocator + Copy> TxTable<A> {
     /// The table of a well-formed history, in one pass over its events.
     pub fn of(alloc: A, history: &History<A>) -> Result<TxTable<A>, OutOfMemory>
@@ -157,7 +175,8 @@ impl<A: Allocator + Copy> TxTable<A> {
         for (stamp, (tx, event)) in history.events().iter().enumerate() {
             add_event(alloc, &mut numbers, &mut rows, stamp as u32, *tx, *event)?;
         }
-        Ok(TxTable { numbers, rows })
+        let places = places_of(alloc, &numbers)?;
+        Ok(TxTable { places, rows })
     }
 
     /// The rows, by the first events of their transactions.
@@ -171,6 +190,9 @@ impl<A: Allocator + Copy> TxTable<A> {
     pub fn place(&self, tx: u32) -> Option<usize>
         ensures { result ≡ position (nat_eq tx) (map (λ r. r.tx) self.now) }
     {
-        self.numbers.get_index_of(&tx)
+        match self.places.get(tx as usize) {
+            Some(place) => *place,
+            None => None,
+        }
     }
 }

@@ -1,7 +1,7 @@
 -- The rows that are placed from the first one on.
-use Rattle.std.specs.Prelude.{◌≡◌, ℕ, zero, suc, ◌+◌, ◌<◌, Bool, true, false, nat_eq, nat_lt, min, List, [], ◌∷◌, map, Option, Some, None, Result, Ok, Err, slice_get, slice_set, refl}
+use Rattle.std.specs.Prelude.{◌≡◌, ℕ, ◌+◌, ◌<◌, Bool, true, false, nat_eq, nat_lt, List, map, Option, Some, None, Result, Ok, Err, slice_get, slice_set, refl}
 use Rattle.std.specs.List.{position}
-use Rattle.std.proofs.Common.{sym, ◌∙◌, ap, subst, inl, inr, arith, get_or, set}
+use Rattle.std.proofs.Common.{sym, ap, subst, inl, inr, arith, get_or, set}
 use Rattle.std.proofs.lemmas.Bool.Decides.{nat_tests}
 use Rattle.aud_event.proofs.Bools.{split}
 use Rattle.aud_history.specs.Table.{RowOf}
@@ -45,27 +45,11 @@ step-places rows s t d = go (position (nat_eq d.tx) (map (λ (r : RowOf). r.tx) 
     go None found is = absurd (cc)
     go (Some k) found is = (k, (found, at k (slice_get rows k) is))
 
-set-others : (placed : List Bool) (k j : ℕ) → j < k → get_or (set placed k true) j false ≡ get_or placed j false
-set-others [] k j below = refl
-set-others (b ∷ bs) zero j below = absurd (omega arith)
-set-others (b ∷ bs) (suc k) zero below = refl
-set-others (b ∷ bs) (suc k) (suc j) below = set-others bs k j (omega arith)
-
 -- what was placed before a step is placed after it
 pub placed-after : (rows : List RowOf) (s t : Spot) (d : Decision) (count : ℕ) → stepped rows s d ≡ Ok t → ArePlaced s.placed count → ArePlaced t.placed count
 placed-after rows s t d count step are = λ j below.
     let (k, (_, is)) = step-places rows s t d step in
     subst (λ l. get_or l j false ≡ true) (sym is) (set_true-keeps s.placed k j (are j below))
-
--- what was placed after a step and stands before its row was placed before it
-pub placed-before : (rows : List RowOf) (s t : Spot) (d : Decision) (count k : ℕ) → stepped rows s d ≡ Ok t → position (nat_eq d.tx) (map (λ (r : RowOf). r.tx) rows) ≡ Some k → ArePlaced t.placed count → ArePlaced s.placed (min count k)
-placed-before rows s t d count k step found are = λ j below.
-    let (i, (at, is)) = step-places rows s t d step in
-    let same : i ≡ k = cc in
-    let low : j < k = omega arith in
-    let under : j < count = omega arith in
-    let after : get_or (set s.placed k true) j false ≡ true = subst (λ n. get_or (set s.placed n true) j false ≡ true) same (subst (λ l. get_or l j false ≡ true) is (are j under)) in
-    sym (set-others s.placed k j low) ∙ after
 
 -- one more row is placed
 pub placed-more : (placed : List Bool) (count : ℕ) → ArePlaced placed count → get_or placed count false ≡ true → ArePlaced placed (count + 1)

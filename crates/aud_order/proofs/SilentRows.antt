@@ -16,9 +16,10 @@ use Rattle.aud_history.specs.Table.{RowOf, transactions, block_of, row_of, table
 use Rattle.aud_history.proofs.StateTable.{Passes-from_IsTransaction, matched_passes}
 use Rattle.aud_history.proofs.Tables.{any-transactions}
 use Rattle.aud_history.proofs.RowLaws.{nothing_else}
+use Rattle.aud_history.proofs.Numbers.{tx-rows}
 use Rattle.aud_witness.specs.declared.decision.Fate.TheVariants.{C}
 use Rattle.aud_witness.specs.Orders.{is_allowed}
-use Rattle.aud_witness.proofs.Bridge.{tx-rows, row-at, status-allowed}
+use Rattle.aud_witness.proofs.Bridge.{row-at, status-allowed}
 use Rattle.aud_order.specs.Silent.{leaves_objects, silent_by, silent_fate, silent_row}
 use Rattle.aud_witness.proofs.BridgeSteps.{asked-from_allowed, absent-from_position, any-at}
 use Rattle.aud_order.proofs.Standing.{got}

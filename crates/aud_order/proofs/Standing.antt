@@ -1,8 +1,7 @@
 -- Where a cursor stands, by the definition.
-use Rattle.std.specs.Prelude.{◌≡◌, ◌↔◌, ℕ, zero, suc, ◌+◌, ◌-◌, ◌<◌, Bool, true, false, not, nat_eq, min, List, [], ◌∷◌, ◌++◌, map, length, Option, Some, None, Ok, Err, slice_get, slice_index_or, refl}
+use Rattle.std.specs.Prelude.{◌≡◌, ◌↔◌, ℕ, zero, suc, ◌<◌, Bool, true, false, nat_eq, List, [], ◌∷◌, map, length, Some, None, Ok, Err, slice_get, slice_index_or, refl}
 use Rattle.std.specs.List.{position}
-use Rattle.std.specs.Option.{unwrap_or}
-use Rattle.std.proofs.Common.{sym, ◌∙◌, ap, subst, arith, get_or, take}
+use Rattle.std.proofs.Common.{sym, ◌∙◌, ap, subst, get_or}
 use Rattle.std.proofs.Math.ListN.{length-map}
 use Rattle.std.proofs.lemmas.List.Quantifiers.{position-Some}
 use Rattle.aud_event.specs.Meanings.{Declared, PlanOf}
@@ -12,24 +11,22 @@ use Rattle.aud_history.specs.WellFormed.{IsWellFormed}
 use Rattle.aud_history.specs.FirstFault.{IsWithinLimits}
 use Rattle.aud_history.specs.Table.{RowOf, transactions, first_stamp, row_of, table_of}
 use Rattle.aud_history.proofs.Tables.{any-transactions}
+use Rattle.aud_history.proofs.Numbers.{tx-rows}
 use Rattle.aud_witness.specs.declared.decision.Decision.{Decision}
 use Rattle.aud_witness.specs.declared.fault.OrderFault.{OrderFault}
 use Rattle.aud_witness.specs.declared.fault.OrderFault.TheVariants.{UnknownTx, Twice, FateNotAllowed, RealTime, Illegal, Missing}
 use Rattle.aud_witness.specs.Orders.{is_named, IsGood, IsGoodNext}
 use Rattle.aud_witness.specs.OrderFaults.{is_enabled, place_fault}
-use Rattle.aud_witness.specs.Agendas.{AgendaOf}
 use Rattle.aud_witness.specs.Spots.{Spot, first_spot, stepped, are_earlier_placed}
-use Rattle.aud_witness.specs.Placings.{PlacingOf, Advances, GoesBack}
+use Rattle.aud_witness.specs.Placings.{PlacingOf, Advances}
 use Rattle.aud_witness.proofs.Good.{IsGood-empty, IsGood-push, place_of}
 use Rattle.aud_witness.proofs.Faults.{IsGoodNext-from_no_fault, no_fault-from_IsGoodNext}
-use Rattle.aud_witness.proofs.Bridge.{tx-rows, row-at, named-at, enabled-by_rows}
+use Rattle.aud_witness.proofs.Bridge.{row-at, named-at, enabled-by_rows}
 use Rattle.aud_witness.proofs.BridgeSteps.{Stands, Stands-root, Reported, stepped-reported, fit-from_plan, absent-from_position}
 use Rattle.aud_order.specs.Shapes.{ShapeOf, plan_of, objects_of, history_of}
 use Rattle.aud_order.specs.declared.pushed.Pushed.{Pushed}
 use Rattle.aud_order.specs.declared.pushed.Pushed.TheVariants as reported
-use Rattle.aud_order.specs.Cursors.{Leads, ArePlaced, IsAt, pushed_by_fault}
-use Rattle.aud_order.proofs.Opens.{placed-before}
-use Rattle.aud_order.proofs.Lists.{length-push, push-parts, take-push}
+use Rattle.aud_order.specs.Cursors.{Leads, IsAt, pushed_by_fault}
 use Rattle.aud_order.proofs.KidLemmas.{in-transactions}
 
 -- what is reported of one more decision
@@ -130,33 +127,6 @@ enabled-by shape p k i first b r at inside is begins test =
     let row : r ≡ row_of h (get_or (transactions h) i 0) = is ∙ got (table_of h) i r (row_of h (get_or (transactions h) i 0)) (row-there h i inside) in
     test ∙ ap (are_earlier_placed p.agenda.rows p.spot.placed) (begins ∙ ap (λ (x : RowOf). x.first) row) ∙ enabled-there shape p k i at inside
 
--- # One decision back
-
-pub back-at : (shape : ShapeOf) (p new : PlacingOf) (count : ℕ) (d : Decision) (q : List Decision) (o : Option ℕ) → IsAt shape p count → GoesBack p new → p.path ≡ q ++ d ∷ [] →
-    o ≡ position (nat_eq d.tx) (map (λ (r : RowOf). r.tx) (table_of (history_of shape))) → IsAt shape new (min count (unwrap_or o 0))
-back-at shape p new count d q o at back is place =
-    let leads : Leads (table_of (history_of shape)) (first_spot (table_of (history_of shape)) (objects_of shape)) p.path p.spot (new.spot ∷ new.past) =
-    subst (λ l. Leads (table_of (history_of shape)) (first_spot (table_of (history_of shape)) (objects_of shape)) p.path p.spot l) back.past at.leads in
-    let (r, (e, (grown, step, rest))) = leads in
-    let parts = push-parts r q e d (sym grown ∙ is) in
-    let front : new.path ≡ r = back.path ∙ ap (λ l. take (length l - 1) l) grown ∙ take-push r e in
-    record {
-      fine = at.fine;
-      fits = at.fits;
-      rows = ap (λ (a : AgendaOf). a.rows) back.agenda ∙ at.rows;
-      leads = subst (λ l. Leads (table_of (history_of shape)) (first_spot (table_of (history_of shape)) (objects_of shape)) l new.spot new.past) (sym front) rest;
-      opens = by_place o refl parts.1 step;
-    }
-  where
-    by_place : (x : Option ℕ) → o ≡ x → {e : Decision} → e ≡ d → stepped (table_of (history_of shape)) new.spot e ≡ Ok p.spot → ArePlaced new.spot.placed (min count (unwrap_or o 0))
-    by_place None none same step = λ j below.
-        let nothing : unwrap_or o 0 ≡ 0 = ap (λ y. unwrap_or y 0) none in
-        absurd (omega arith)
-    by_place (Some i) some {e} same step =
-        let low : ArePlaced new.spot.placed (min count i) =
-        placed-before (table_of (history_of shape)) new.spot p.spot d count i (subst (λ (x : Decision). stepped (table_of (history_of shape)) new.spot x ≡ Ok p.spot) same step) (sym place ∙ some) at.opens in
-        subst (λ n. ArePlaced new.spot.placed (min count n)) (sym (ap (λ y. unwrap_or y 0) some)) low
-
 -- # What is reported
 
 pub good-reported : (objects : List Declared) (h : History) (p : List Decision) (d : Decision) → place_fault objects h p d ≡ None → (reported.Good ≡ reported.Good) ↔ IsGoodNext objects h p d
@@ -176,25 +146,3 @@ bad-reported objects h p d fault pushed is some = (
   (λ good. absurd (reported-bad fault (sym is ∙ good))),
   (λ next. let none : place_fault objects h p d ≡ None = no_fault-from_IsGoodNext objects h p d next in absurd (cc)),
 )
-
--- # The last decision
-
-pub last-split : (path : List Decision) (d : Decision) → slice_get path (length path - 1) ≡ Some d → (q : List Decision) × (path ≡ q ++ d ∷ [])
-last-split [] d at = absurd (cc)
-last-split (x ∷ []) d at = let same : x ≡ d = cc in ([], ap (λ (y : Decision). y ∷ []) same)
-last-split (x ∷ y ∷ path) d at =
-    let down : length (x ∷ y ∷ path) - 1 ≡ suc (length (y ∷ path) - 1) = omega arith in
-    let rest : slice_get (y ∷ path) (length (y ∷ path) - 1) ≡ Some d = sym (ap (slice_get (x ∷ y ∷ path)) down) ∙ at in
-    let (q, is) = last-split (y ∷ path) d rest in
-    (x ∷ q, ap (λ l. x ∷ l) is)
-
-pub pop-at : (shape : ShapeOf) (p new : PlacingOf) (count : ℕ) (d : Decision) (o : Option ℕ) (b : Bool) → IsAt shape p count →
-    (b ≡ false → (p.path ≡ []) × (new ≡ p)) → (b ≡ true → GoesBack p new) → slice_get p.path (length p.path - 1) ≡ Some d →
-    o ≡ position (nat_eq d.tx) (map (λ (r : RowOf). r.tx) (table_of (history_of shape))) → IsAt shape new (min count (unwrap_or o 0))
-pop-at shape p new count d o true at root back last place =
-    let (q, is) = last-split p.path d last in back-at shape p new count d q o at (back refl) is place
-pop-at shape p new count d o false at root back last place =
-    let (q, is) = last-split p.path d last in
-    let long : length p.path ≡ length q + 1 = ap length is ∙ length-push q d in
-    let short : length p.path ≡ 0 = ap length (root refl).0 in
-    absurd (omega arith)

@@ -149,12 +149,10 @@ impl<'a, A: Allocator + Copy> Cursor<'a, A> {
         ensures root { result ≡ false → (self.old.path ≡ []) × (self.new ≡ self.old) }
         ensures back { result ≡ true → (self.old.path ≢ []) × (self.new ≡ cursor_back self.old) }
     {
-        let Some(last) = self.placing.path().last().copied() else {
+        let Some(row) = self.placing.take_back() else {
             return false;
         };
-        let place = self.shape.table().place(last.tx).unwrap_or(0);
-        let _ = self.placing.take_back();
-        self.first_open = self.first_open.min(place);
+        self.first_open = self.first_open.min(row);
         true
     }
 

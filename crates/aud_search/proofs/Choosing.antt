@@ -12,11 +12,12 @@ use Rattle.aud_history.specs.Histories.{History}
 use Rattle.aud_history.specs.WellFormed.{IsWellFormed}
 use Rattle.aud_history.specs.Table.{RowOf, transactions, row_of, table_of}
 use Rattle.aud_history.proofs.Tables.{any-transactions, are_different, different-transactions}
+use Rattle.aud_history.proofs.Numbers.{tx-rows}
 use Rattle.aud_witness.specs.declared.decision.Fate.{Fate}
 use Rattle.aud_witness.specs.declared.decision.Fate.TheVariants.{C, A}
 use Rattle.aud_witness.specs.declared.decision.Decision.{Decision}
 use Rattle.aud_witness.specs.Spots.{status_allows}
-use Rattle.aud_witness.proofs.Bridge.{tx-rows, row-at, status-allowed}
+use Rattle.aud_witness.proofs.Bridge.{row-at, status-allowed}
 use Rattle.aud_search.specs.declared.choice.Choice.{Choice}
 use Rattle.aud_order.specs.Silent.{silent_fate}
 use Rattle.aud_search.specs.declared.choice.Effect.TheVariants.{Silent}

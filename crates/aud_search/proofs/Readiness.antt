@@ -10,12 +10,13 @@ use Rattle.aud_event.proofs.Bools.{and_true, true_and, or_true, or_right, true_o
 use Rattle.aud_history.specs.Histories.{History, is_before}
 use Rattle.aud_history.specs.Table.{RowOf, transactions, row_of, table_of}
 use Rattle.aud_history.proofs.Tables.{are_different, different-transactions}
+use Rattle.aud_history.proofs.Numbers.{tx-rows}
 use Rattle.aud_witness.specs.declared.decision.Fate.{Fate}
 use Rattle.aud_witness.specs.declared.decision.Fate.TheVariants.{C, A}
 use Rattle.aud_witness.specs.declared.decision.Decision.{Decision}
 use Rattle.aud_witness.specs.Orders.{is_named}
 use Rattle.aud_witness.specs.OrderFaults.{is_enabled}
-use Rattle.aud_witness.proofs.Bridge.{tx-rows, named-at}
+use Rattle.aud_witness.proofs.Bridge.{named-at}
 use Rattle.aud_witness.proofs.Beginnings.{is_named-append}
 use Rattle.aud_order.specs.Shapes.{ShapeOf, objects_of, history_of}
 use Rattle.aud_order.specs.Cursors.{CursorOf, IsGoodAt}

@@ -107,9 +107,9 @@ const TOLD: [(Decision, Result<(), OrderFault>); 5] = [
 fn places_and_takes_back<A: Allocator + Copy>(
     placing: &mut Placing<'_, A>,
 ) -> Result<bool, OutOfMemory> {
-    let is_at_root = !placing.take_back();
+    let is_at_root = placing.take_back().is_none();
     let is_told = place_all(placing, &TOLD)?;
-    let is_back = placing.take_back() && placing.path().len() == 0;
+    let is_back = placing.take_back() == Some(0) && placing.path().len() == 0;
     let is_placed = place_all(placing, &[(C2, Ok(())), (A1, Ok(()))])?;
     let is_all = [is_at_root, is_told, is_back, is_placed] == [true; 4];
     let is_kept = placing.has_row(0) && placing.store().len() == 1;
@@ -118,14 +118,14 @@ fn places_and_takes_back<A: Allocator + Copy>(
 
 /// Places `1a 2c`, then takes both back.
 fn places_both<A: Allocator + Copy>(placing: &mut Placing<'_, A>) -> Result<bool, OutOfMemory> {
-    let is_at_root = !placing.take_back();
+    let is_at_root = placing.take_back().is_none();
     let are_placed = place_all(placing, &[(A1, Ok(())), (C2, Ok(()))])?;
     let taken = [
         placing.take_back(),
         placing.take_back(),
         placing.take_back(),
     ];
-    Ok(is_at_root && are_placed && taken == [true, true, false])
+    Ok(is_at_root && are_placed && taken == [Some(1), Some(0), None])
 }
 
 /// Places decisions from a fresh root on, and takes them back.

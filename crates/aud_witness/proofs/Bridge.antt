@@ -3,7 +3,6 @@ use Rattle.std.specs.Prelude.{◌≡◌, ℕ, suc, zero, ◌<◌, Bool, true, fa
 use Rattle.std.specs.List.{list_any, list_all}
 use Rattle.std.proofs.Common.{sym, ◌∙◌, ap, subst, cond, inl, inr, arith, get_or}
 use Rattle.aud_event.specs.declared.fact.Event.{Event}
-use Rattle.aud_event.specs.declared.fact.Event.TheVariants.{Commit, Abort}
 use Rattle.aud_event.proofs.Bools.{or_right, true_or, split, nat_eq-is, nat_eq-refl}
 use Rattle.aud_history.specs.declared.status.Status.{Status}
 use Rattle.aud_history.specs.declared.status.Status.TheVariants.{Committed, Aborted, CommitPending, Live}
@@ -21,10 +20,6 @@ use Rattle.aud_witness.specs.OrderFaults.{is_enabled}
 use Rattle.aud_witness.specs.Spots.{is_ended, status_allows, are_earlier_placed}
 
 -- # Rows of the table
-
-pub tx-rows : (h : History) (ts : List ℕ) → map (λ r. r.tx) (map (row_of h) ts) ≡ ts
-tx-rows h [] = refl
-tx-rows h (t ∷ ts) = ap (λ l. t ∷ l) (tx-rows h ts)
 
 pub row-at : (h : History) (ts : List ℕ) (k : ℕ) (d : ℕ) → k < length ts → slice_get (map (row_of h) ts) k ≡ Some (row_of h (get_or ts k d))
 row-at h [] k d inside = absurd (omega arith)

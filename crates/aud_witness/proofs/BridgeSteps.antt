@@ -1,12 +1,10 @@
 -- One decision placed by the rows of the table is one decision placed by the definition.
-use Rattle.std.specs.Prelude.{◌≡◌, ℕ, suc, zero, ◌+◌, ◌<◌, Bool, true, false, not, ◌||◌, if◌then◌else◌, nat_eq, nat_lt, List, [], ◌∷◌, ◌++◌, map, length, replicate, Option, Some, None, Result, Ok, Err, MatchOption, slice_get, slice_set, slice_index_or, All, refl}
+use Rattle.std.specs.Prelude.{◌≡◌, ℕ, suc, zero, ◌<◌, Bool, true, false, not, ◌||◌, if◌then◌else◌, nat_eq, nat_lt, List, [], ◌∷◌, ◌++◌, map, length, replicate, Option, Some, None, Result, Ok, Err, MatchOption, slice_get, slice_set, slice_index_or, All, refl}
 use Rattle.std.specs.List.{list_any, position, position_or_len}
 use Rattle.std.proofs.Common.{sym, ◌∙◌, ap, subst, cond, inl, inr, arith, get_or, set, append_assoc}
 use Rattle.std.proofs.Math.ListN.{length-map}
-use Rattle.std.proofs.lemmas.Bool.Decides.{nat_tests}
 use Rattle.std.proofs.lemmas.List.{append-nil}
 use Rattle.std.proofs.lemmas.List.Quantifiers.{position-Some}
-use Rattle.aud_event.specs.declared.object.Op.{Op}
 use Rattle.aud_event.specs.declared.object.OpName.{OpName}
 use Rattle.aud_event.specs.declared.fact.Event.{Event}
 use Rattle.aud_event.specs.declared.fact.Event.TheVariants.{Inv, Ret, TryC, TryA, Commit, Abort}
@@ -14,13 +12,14 @@ use Rattle.aud_event.specs.Meanings.{Declared, PlanOf}
 use Rattle.aud_event.specs.Objects.{name_of}
 use Rattle.aud_event.specs.Facts.{first_event_fault, first_use_fault}
 use Rattle.aud_event.proofs.Bools.{or_true, and_true, or_right, true_or, not_true, split, is_false, nat_eq-is, nat_eq-refl, nat_eq-sym}
-use Rattle.aud_object.specs.Objects.{ObjState, opening_of, on_object, IsInSeq, IsLegal}
+use Rattle.aud_object.specs.Objects.{ObjState, opening_of, on_object, IsInSeq}
 use Rattle.aud_object.specs.Executions.{AreExecutions, no_execution, execution, states_after, states_after_from, state_after, IsLegalFrom}
 use Rattle.aud_object.specs.Blocks.{BlockOf, events_of_block, AreThere}
 use Rattle.aud_object.specs.Replayed.{replayed}
 use Rattle.aud_object.specs.Laws.{AreExecutionsOnEach}
 use Rattle.aud_object.proofs.Replays.{on_object-append}
 use Rattle.aud_object.proofs.Legality.{opening_is_legality, blocks_replay_in_turn}
+use Rattle.aud_history.proofs.Numbers.{lt-any, tx-rows}
 use Rattle.aud_history.specs.declared.state.TxState.TheVariants.{Idle}
 use Rattle.aud_history.specs.Histories.{History, events_of, is_in, is_commit, is_try_commit, is_committed, is_live, is_commit_pending}
 use Rattle.aud_history.specs.WellFormed.{IsWellFormed}
@@ -42,7 +41,7 @@ use Rattle.aud_witness.specs.Spots.{Spot, first_spot, status_allows, are_earlier
 use Rattle.aud_witness.proofs.Tested.{IsLegal-from_test, test-from_IsLegal}
 use Rattle.aud_witness.proofs.Beginnings.{is_named-append}
 use Rattle.aud_witness.proofs.Endings.{on_object-block}
-use Rattle.aud_witness.proofs.Bridge.{tx-rows, row-at, named-at, status-allowed, enabled-by_rows}
+use Rattle.aud_witness.proofs.Bridge.{row-at, named-at, status-allowed, enabled-by_rows}
 
 -- # Legality
 
@@ -213,14 +212,6 @@ Stands-root objects h = record {
   whole = λ ob. no_execution;
   legal = λ ob s at. tt;
 }
-
-pub lt-any : (q : ℕ → Bool) (ts : List ℕ) → nat_lt (position_or_len q ts) (length ts) ≡ list_any q ts
-lt-any q [] = grind (arith, nat_tests)
-lt-any q (t ∷ ts) =
-    elim (q t) as (λ k. nat_lt (cond (not k) (1 + position_or_len q ts) 0) (suc (length ts)) ≡ (k || list_any q ts)) [
-      | true ↦ grind (arith, nat_tests)
-      | false ↦ (let down : nat_lt (1 + position_or_len q ts) (suc (length ts)) ≡ nat_lt (position_or_len q ts) (length ts) = grind (arith, nat_tests) in down) ∙ lt-any q ts
-    ]
 
 pub absent-from_position : (q : ℕ → Bool) (ts : List ℕ) → position q ts ≡ None → list_any q ts ≡ false
 absent-from_position q ts none = sym (lt-any q ts) ∙ by_test (nat_lt (position_or_len q ts) (length ts)) none

@@ -1,8 +1,8 @@
 -- Decisions placed in turn by the rows of the table: what can be placed is good, and an order is judged exactly.
-use Rattle.std.specs.Prelude.{◌≡◌, ◌↔◌, ℕ, ◌+◌, ◌<◌, ◌≤◌, Bool, true, false, not, nat_eq, List, [], ◌∷◌, ◌++◌, map, filter, length, take, drop, Option, Some, None, is_some, Result, Ok, Err, MatchResult, IsOk, refl}
+use Rattle.std.specs.Prelude.{◌≡◌, ◌↔◌, ℕ, ◌+◌, ◌<◌, ◌≤◌, Bool, true, false, not, nat_eq, List, [], ◌∷◌, ◌++◌, map, filter, length, drop, Option, Some, None, is_some, Result, Ok, Err, MatchResult, IsOk, refl}
 use Rattle.std.specs.List.{list_any, list_all}
 use Rattle.std.proofs.Common.{sym, ◌∙◌, ap, subst, cond, inl, inr, get_or, append_assoc}
-use Rattle.std.proofs.lemmas.List.{take_more, take_all, drop_more, drop_all, append-nil}
+use Rattle.std.proofs.lemmas.List.{drop_more, drop_all, append-nil}
 use Rattle.aud_event.specs.Meanings.{Declared, PlanOf}
 use Rattle.aud_event.proofs.Bools.{and_true, true_and, or_true, or_right, true_or, nat_eq-is, nat_eq-refl}
 use Rattle.aud_history.specs.Histories.{History, events_of}
@@ -13,7 +13,7 @@ use Rattle.aud_history.proofs.Tables.{any-transactions}
 use Rattle.aud_witness.specs.declared.decision.Decision.{Decision}
 use Rattle.aud_witness.specs.declared.fault.OrderFault.{OrderFault}
 use Rattle.aud_witness.specs.declared.fault.OrderFault.TheVariants.{Missing}
-use Rattle.aud_witness.specs.Orders.{is_named, Shows, IsFull, IsGood}
+use Rattle.aud_witness.specs.Orders.{is_named, Shows, IsGood}
 use Rattle.aud_witness.specs.OrderFaults.{place_fault, least_tx, fault_after, first_order_fault, ReportsOrderFault}
 use Rattle.aud_witness.specs.Spots.{Spot, first_spot, stepped, unplaced}
 use Rattle.aud_witness.specs.Agendas.{AgendaOf}

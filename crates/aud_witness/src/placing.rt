@@ -1,6 +1,6 @@
 //! Transactions placed one after another: a cursor over lists of decisions.
 
-ghost use Rattle.std.specs.Prelude.{◌≡◌, ◌<◌, ◌≤◌, ◌++◌, [], ◌∷◌, None, Some, Ok, Err, length, true, false, vec_len, vec_capacity, ℕ, IfOk, OnErr, MatchResult, MatchOption, slice_index_or, nat_lt, if◌then◌else◌};
+ghost use Rattle.std.specs.Prelude.{◌≡◌, ◌<◌, ◌≤◌, ◌++◌, [], ◌∷◌, None, Some, Ok, Err, length, true, false, vec_len, vec_capacity, ℕ, IfOk, IfSome, OnErr, MatchResult, MatchOption, slice_index_or, slice_set, nat_lt, if◌then◌else◌};
 ghost use Rattle.aud_witness.specs.OrderFaults.{least_tx};
 ghost use Rattle.aud_witness.specs.Spots.{unplaced, stepped, block_stepped, early_fault, are_earlier_placed};
 ghost use Rattle.aud_witness.specs.Placings.{is_kept_fate, Advances, GoesBack, first_placing, Tries};
@@ -257,20 +257,19 @@ impl<'a, A: Allocator + Copy> Placing<'a, A> {
         }
     }
 
-    /// Takes the last decision back, if there is one. It does not allocate.
-    pub fn take_back(&mut self) -> bool
-        ensures root { result ≡ false → (self.old.path ≡ []) × (self.new ≡ self.old) }
-        ensures back { result ≡ true → GoesBack self.old self.new }
+    /// Takes the last decision back, if there is one, and answers its row. It does not allocate.
+    pub fn take_back(&mut self) -> Option<usize>
+        ensures root { result ≡ None → (self.old.path ≡ []) × (self.new ≡ self.old) }
+        ensures back { IfSome result (λ row. GoesBack self.old self.new) }
+        ensures row { IfSome result (λ row. self.new.spot.placed ≡ slice_set self.old.spot.placed row false) }
     {
-        let Some(step) = self.steps.pop() else {
-            return false;
-        };
+        let step = self.steps.pop()?;
         self.path.pop();
         self.placed.clear(step.row);
         self.earliest = step.earliest;
         if step.is_kept {
             self.store.undo();
         }
-        true
+        Some(step.row)
     }
 }

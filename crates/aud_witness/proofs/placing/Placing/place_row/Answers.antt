@@ -1,4 +1,4 @@
-use Rattle.std.specs.Prelude.{◌≡◌, ◌<◌, ◌≤◌, ◌+◌, Some, true, false, not, ◌∷◌, ◌++◌, [], length, reverse, slice_index_or, slice_set}
+use Rattle.std.specs.Prelude.{◌≡◌, ◌<◌, ◌≤◌, ◌+◌, Some, true, false, ◌∷◌, ◌++◌, [], length, reverse, slice_index_or, slice_set}
 use Rattle.std.proofs.Common.{sym, ◌∙◌, ap, subst, length-set, length-append}
 use Rattle.aud_object.specs.Replayed.{replayed}
 use Rattle.aud_witness.specs.Agendas.{IsEarliest}
