@@ -14,6 +14,8 @@ use Rattle.aud_witness.specs.Orders.{is_named, kept, IsGood}
 use Rattle.aud_order.specs.Shapes.{ShapeOf, objects_of, history_of}
 use Rattle.aud_order.specs.Cursors.{CursorOf}
 use Rattle.aud_accept.specs.Acceptance.{LeadAlike}
+use Rattle.aud_accept.specs.Landings.{IsLandingOf}
+use Rattle.aud_accept.specs.declared.landing.Landing.{Landing}
 use Rattle.aud_order.proofs.Moves.{map-named}
 use Rattle.aud_order.proofs.Lengths.{named-good}
 
@@ -40,6 +42,14 @@ named-same objects h p q good other same t =
           | inl named ↦ let clash : is_in h t ≡ true = named-good objects h l t fine named in absurd (cc)
           | inr fails ↦ fails
         ]
+
+-- two lists that lead where the landing says lead alike
+pub land-alike : (shape : ShapeOf) (p q : List Decision) (l : Landing) → IsGood (objects_of shape) (history_of shape) p → IsGood (objects_of shape) (history_of shape) q →
+    IsLandingOf shape p l → IsLandingOf shape q l → LeadAlike (objects_of shape) (history_of shape) p q
+land-alike shape p q l good other here there = record {
+  placed = named-same (objects_of shape) (history_of shape) p q good other (here.placed ∙ sym there.placed);
+  states = sym here.states ∙ there.states;
+}
 
 -- # With two cursors
 

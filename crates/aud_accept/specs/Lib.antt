@@ -1,5 +1,6 @@
 pub mod Acceptance
 pub mod Beginnings
+pub mod Landings
 pub mod Laws
 pub mod Moves
 pub mod OfShapes

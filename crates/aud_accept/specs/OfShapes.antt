@@ -1,10 +1,11 @@
 -- The words of acceptance over the objects and the history of one shape.
-use Rattle.std.specs.Prelude.{List, ◌++◌, ◌∷◌, []}
+use Rattle.std.specs.Prelude.{◌≡◌, List, ◌++◌, ◌∷◌, []}
 use Rattle.std.specs.List.{Contains}
 use Rattle.aud_witness.specs.declared.decision.Decision.{Decision}
 use Rattle.aud_witness.specs.Orders.{IsGood}
 use Rattle.aud_order.specs.Shapes.{ShapeOf, objects_of, history_of}
 use Rattle.aud_accept.specs.declared.cert.CertLine.{CertLine}
+use Rattle.aud_accept.specs.declared.cert.CertLine.TheVariants.{Kids, Silent, Same}
 use Rattle.aud_accept.specs.Acceptance.{HasKids, HasSilent, HasSame, IsAcceptedLine}
 use Rattle.aud_accept.specs.Moves.{StaysBefore}
 
@@ -30,3 +31,9 @@ IsAcceptedFor s earlier line = IsAcceptedLine (objects_of s) (history_of s) earl
 
 abbrev pub StaysBeforeFor : ShapeOf → List Decision → List Decision → Type 0
 StaysBeforeFor s ds path = StaysBefore (objects_of s) (history_of s) ds path
+
+-- of a line whose kids refute its prefix, the path is that prefix
+abbrev pub StaysAtKids : {X : Type 0} → CertLine X → List Decision → Type 0
+StaysAtKids (Kids p) path = path ≡ p
+StaysAtKids (Silent _ _) path = Unit {0}
+StaysAtKids (Same _ _) path = Unit {0}

@@ -1,18 +1,21 @@
 //! Whether a certificate is accepted.
 
-ghost use Rattle.std.specs.Prelude.{◌≡◌, ◌↔◌, ◌++◌, ◌∷◌, [], map, Some, IfOk, OnOk, IsTrue};
+ghost use Rattle.std.specs.Prelude.{◌≡◌, ◌↔◌, ◌++◌, ◌∷◌, [], map, Some, IfOk, IfSome, OnOk, IsTrue};
 ghost use Rattle.aud_witness.specs.declared.decision.Decision.{Decision};
 ghost use Rattle.aud_order.specs.Silent.{silent_fate};
 ghost use Rattle.aud_order.specs.Shapes.{objects_of, history_of};
 ghost use Rattle.aud_accept.specs.Acceptance.{prefix_in, LeadAlike, EndsEmpty, IsAccepted};
-ghost use Rattle.aud_accept.specs.OfShapes.{AreGoodFor, HasKidsFor, HasLines, HasSameFor, HasSilentFor, IsAcceptedFor};
+ghost use Rattle.aud_accept.specs.OfShapes.{AreGoodFor, HasKidsFor, HasLines, HasSameFor, HasSilentFor, IsAcceptedFor, StaysAtKids};
+ghost use Rattle.aud_accept.specs.Landings.{IsLandingOf};
 
 use crate::cert::{Cert, CertLine};
 use crate::earlier::{Earlier, is_among};
+use crate::landing::Landing;
 use crate::moving::go_to;
 use aud_event::OutOfMemory;
 use aud_order::{Cursor, Shape};
 use aud_witness::{Decision, Fate};
+use bumpalo::Bump;
 use std::alloc::Allocator;
 
 /// Whether the prefix followed by each of the kids is the prefix of an earlier line.
@@ -21,7 +24,7 @@ fn has_all<'c, A: Allocator + Copy>(
     prefix: &'c [Decision],
     kids: &[Decision],
 ) -> bool
-    ensures { IsTrue result ↔ HasLines earlier.now prefix.entry.now kids.now }
+    ensures { IsTrue result ↔ HasLines earlier.now.prefixes prefix.entry.now kids.now }
 {
     let noted = earlier.after(prefix);
     for kid in kids {
@@ -40,8 +43,8 @@ fn has_kids<'c, A: Allocator + Copy>(
     prefix: &'c [Decision],
 ) -> Result<bool, OutOfMemory>
     requires { cursor.old.path ≡ prefix.now }
-    ensures accepted { IfOk result (λ has. IsTrue has ↔ HasKidsFor cursor.old.shape earlier.now prefix.now) }
-    ensures shape { OnOk result (cursor.new.shape ≡ cursor.old.shape) }
+    ensures accepted { IfOk result (λ has. IsTrue has ↔ HasKidsFor cursor.old.shape earlier.now.prefixes prefix.now) }
+    ensures stays { OnOk result (cursor.new ≡ cursor.old) }
 {
     if cursor.full() {
         return Ok(false);
@@ -86,7 +89,7 @@ fn has_silent<'c, A: Allocator + Copy>(
 ) -> Result<bool, OutOfMemory>
     requires path { cursor.old.path ≡ prefix.now }
     requires shape { cursor.old.shape ≡ shape.now }
-    ensures accepted { IfOk result (λ has. IsTrue has ↔ HasSilentFor shape.now earlier.now prefix.now decision) }
+    ensures accepted { IfOk result (λ has. IsTrue has ↔ HasSilentFor shape.now earlier.now.prefixes prefix.now decision) }
     ensures shape { OnOk result (cursor.new.shape ≡ cursor.old.shape) }
 {
     if !is_silent(shape, decision) {
@@ -111,7 +114,25 @@ pub fn lead_alike<A: Allocator + Copy>(cursor: &Cursor<A>, other: &Cursor<A>) ->
     cursor.store().same(other.store())
 }
 
-/// Whether the prefix is that of an earlier line, and leads to where the cursor stands.
+/// Whether it is kept of the earlier prefix that it leads to where the cursor stands.
+fn is_kept_of<'c, A: Allocator + Copy>(
+    cursor: &Cursor<A>,
+    earlier: &Earlier<'c, A>,
+    prefix: &'c [Decision],
+) -> bool
+    requires shape { earlier.now.shape ≡ cursor.now.shape }
+    requires good { AreGoodFor cursor.now.shape earlier.now.prefixes }
+    ensures { IsTrue result → HasSameFor cursor.now.shape earlier.now.prefixes cursor.now.path prefix.now }
+{
+    let _good = cursor.prefix();
+    match earlier.landing(prefix) {
+        Some(landing) => landing.is_of(cursor),
+        None => false,
+    }
+}
+
+/// Whether the prefix is that of an earlier line, and leads to where the cursor stands. Where it is not kept where it leads, the
+/// other cursor goes there.
 fn has_same<'c, A: Allocator + Copy>(
     cursor: &Cursor<A>,
     other: &mut Cursor<A>,
@@ -119,10 +140,14 @@ fn has_same<'c, A: Allocator + Copy>(
     prefix: &'c [Decision],
 ) -> Result<bool, OutOfMemory>
     requires shape { other.old.shape ≡ cursor.now.shape }
-    requires good { AreGoodFor cursor.now.shape earlier.now }
-    ensures accepted { IfOk result (λ has. IsTrue has ↔ HasSameFor cursor.now.shape earlier.now cursor.now.path prefix.now) }
+    requires earlier { earlier.now.shape ≡ cursor.now.shape }
+    requires good { AreGoodFor cursor.now.shape earlier.now.prefixes }
+    ensures accepted { IfOk result (λ has. IsTrue has ↔ HasSameFor cursor.now.shape earlier.now.prefixes cursor.now.path prefix.now) }
     ensures shape { OnOk result (other.new.shape ≡ other.old.shape) }
 {
+    if is_kept_of(cursor, earlier, prefix) {
+        return Ok(true);
+    }
     if !earlier.has(prefix) {
         return Ok(false);
     }
@@ -144,9 +169,11 @@ fn accepts<'c, A: Allocator + Copy>(
 ) -> Result<bool, OutOfMemory>
     requires cursor { cursor.old.shape ≡ shape.now }
     requires other { other.old.shape ≡ shape.now }
-    requires good { AreGoodFor shape.now earlier.now }
-    ensures accepted { IfOk result (λ good. IsTrue good ↔ IsAcceptedFor shape.now earlier.now line.now) }
+    requires earlier { earlier.now.shape ≡ shape.now }
+    requires good { AreGoodFor shape.now earlier.now.prefixes }
+    ensures accepted { IfOk result (λ good. IsTrue good ↔ IsAcceptedFor shape.now earlier.now.prefixes line.now) }
     ensures cursor { OnOk result (cursor.new.shape ≡ shape.now) }
+    ensures there { IfOk result (λ good. IsTrue good → StaysAtKids line.now cursor.new.path) }
     ensures other { OnOk result (other.new.shape ≡ shape.now) }
 {
     if !go_to(cursor, line.prefix().decisions())? {
@@ -158,6 +185,17 @@ fn accepts<'c, A: Allocator + Copy>(
             has_silent(shape, cursor, earlier, prefix.decisions(), *decision)
         }
         CertLine::Same(_, prefix) => has_same(cursor, other, earlier, prefix.decisions()),
+    }
+}
+
+/// Where the prefix of the line leads, if that is to be kept: of a line whose kids refute it, where the cursor stands at it.
+fn landing_of<A: Allocator + Copy>(cursor: &Cursor<A>, line: &CertLine<A>) -> Option<Landing>
+    requires { StaysAtKids line.now cursor.now.path }
+    ensures { IfSome result (IsLandingOf cursor.now.shape (prefix_in line.now)) }
+{
+    match line {
+        CertLine::Kids(_) => Landing::of(cursor),
+        CertLine::Silent(_, _) | CertLine::Same(_, _) => None,
     }
 }
 
@@ -188,12 +226,14 @@ pub fn check_cert<A: Allocator + Copy>(
     }
     let mut cursor = Cursor::root(alloc, shape)?;
     let mut other = Cursor::root(alloc, shape)?;
-    let mut earlier = Earlier::none(alloc);
+    let lists = Bump::new(alloc);
+    let mut earlier = Earlier::none(alloc, shape, &lists);
     for line in &cert.lines {
         if !accepts(alloc, shape, &mut cursor, &mut other, &earlier, line)? {
             return Ok(false);
         }
-        earlier.add(line.prefix().decisions())?;
+        let landing = landing_of(&cursor, line);
+        earlier.add(line.prefix().decisions(), landing)?;
     }
     Ok(true)
 }

@@ -4,6 +4,7 @@
 mod cert;
 mod checking;
 mod earlier;
+mod landing;
 pub mod laws;
 mod moving;
 mod place;

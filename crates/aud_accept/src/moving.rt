@@ -10,8 +10,9 @@ use aud_order::Cursor;
 use aud_witness::Decision;
 use std::alloc::Allocator;
 
-fn is_same(a: Decision, b: Decision) -> bool
-    ensures { IsTrue result → a ≡ b }
+/// Whether the decisions are the same.
+pub(crate) fn is_same(a: Decision, b: Decision) -> bool
+    ensures { IsTrue result ↔ (a ≡ b) }
 {
     a == b
 }

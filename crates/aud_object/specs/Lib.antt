@@ -10,3 +10,4 @@ pub mod Logs
 pub mod Shown
 pub mod Kinds
 pub mod Digests
+pub mod Numbers

@@ -5,6 +5,7 @@ ghost use Rattle.aud_object.specs.Objects.{opening_of};
 ghost use Rattle.aud_object.specs.States.{meaning};
 ghost use Rattle.aud_object.specs.Shown.{shown};
 ghost use Rattle.aud_object.specs.Logs.{back_at, LeadsBack};
+ghost use Rattle.aud_object.specs.Numbers.{number_of};
 ghost use Rattle.aud_object.specs.Digests.{digest_of};
 ghost use Rattle.aud_object.specs.Replayed.{same_answer, after_at, answer_at, answers, replayed, Replays, Runs};
 
@@ -12,6 +13,7 @@ use crate::block::Block;
 use crate::change::Change;
 use crate::execution::Execution;
 use crate::log::Entry;
+use crate::number::{Number, number_in};
 use crate::shown::{Shown, show_all};
 use crate::state::{State, open};
 use aud_event::{Answer, Dup, ObjDecl, Op, OutOfMemory, Plan};
@@ -150,6 +152,14 @@ impl<A: Allocator + Drop> Store<A> {
             Some(state) => Some(state.digest()),
             None => None,
         }
+    }
+
+    /// The object's state now, if there is such an object and it is a register or a counter. It does not allocate.
+    pub fn number(&self, object: usize) -> Option<Number>
+        ensures { result ≡ number_of (slice_get self.now.now object) }
+    {
+        let state = self.states.get(object)?;
+        number_in(state)
     }
 
     /// How many numbers the states keep, or more, and one for each object: what a copy costs.

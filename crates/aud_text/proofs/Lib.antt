@@ -1,3 +1,4 @@
+pub mod FirstFeed
 pub mod FirstLine
 pub mod Keys
 pub mod JsonText

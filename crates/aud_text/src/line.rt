@@ -4,6 +4,8 @@ ghost use Rattle.std.specs.Prelude.{◌≡◌, ℕ, ◌≤◌, ◌<◌, ◌+◌,
 ghost use Rattle.std.specs.List.{position_from};
 ghost use Rattle.aud_text.specs.Lines.{lines_of, line_len, Splits, filled_left, filled_at};
 
+use memchr::memchr;
+
 /// A line without its line feed, and what stands after it.
 #[derive(Clone, Copy, Debug)]
 pub struct LineAt<'a> {
@@ -45,7 +47,7 @@ pub fn first_line(text: &[u8]) -> Option<LineAt<'_>>
 fn feed_at(text: &[u8]) -> Option<usize>
     ensures { result ≡ position_from (λ x. x == 10) 0 text.now }
 {
-    text.iter().position(|b| *b == b'\n')
+    memchr(b'\n', text)
 }
 
 fn line_end(text: &[u8]) -> usize

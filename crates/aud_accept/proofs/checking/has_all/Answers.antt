@@ -11,7 +11,7 @@ returns-then-not-is_among g c =
     let n = c.loop-kid.kid-index in
     let kid = get_or ks n no_decision in
     let noted = c.after-noted.ensures kid in
-    all-not c.args.earlier.now p ks n (p ++ kid ∷ []) c.is_among.result c.loop-kid-test.true refl
+    all-not c.args.earlier.now.prefixes p ks n (p ++ kid ∷ []) c.is_among.result c.loop-kid-test.true refl
     ((λ holds. noted.0 (c.is_among.ensures.0 holds)), λ there. c.is_among.ensures.1 (noted.1 there)) c.if-not-is_among.true
 
 pub loop-kid-preserved : goal.loop-kid-preserved
@@ -21,5 +21,5 @@ loop-kid-preserved g c =
     let n = c.loop-kid.kid-index in
     let kid = get_or ks n no_decision in
     let noted = c.after-noted.ensures kid in
-    all-more c.args.earlier.now p ks n (p ++ kid ∷ []) c.is_among.result c.loop-kid-test.true refl
+    all-more c.args.earlier.now.prefixes p ks n (p ++ kid ∷ []) c.is_among.result c.loop-kid-test.true refl
     ((λ holds. noted.0 (c.is_among.ensures.0 holds)), λ there. c.is_among.ensures.1 (noted.1 there)) c.if-not-is_among.false c.loop-kid.invariant

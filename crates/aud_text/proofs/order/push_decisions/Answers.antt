@@ -1,4 +1,3 @@
-use Rattle.std.proofs.Common.{◌∙◌, sym}
 use Rattle.aud_text.proofs.OrderText.{order_pushed}
 use Rattle.aud_text.proofs.order.push_decisions.Goals as goal
 
