@@ -1,5 +1,6 @@
 mod Beginnings
 pub mod Alike
+pub mod Elsewhere
 pub mod Ends
 pub mod Keys
 pub mod Kids

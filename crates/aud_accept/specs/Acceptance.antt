@@ -17,6 +17,12 @@ prefix_in (Kids p) = p
 prefix_in (Silent p d) = p
 prefix_in (Same p q) = p
 
+-- the same line, with its lists in memory of another kind
+abbrev pub elsewhere : {X Y : Type 0} → CertLine X → CertLine Y
+elsewhere (Kids p) = Kids p
+elsewhere (Silent p d) = Silent p d
+elsewhere (Same p q) = Same p q
+
 -- p isn't full, and every kid of it is the prefix of an earlier line
 pub record HasKids (objects : List Declared) (h : History) (earlier : List (List Decision)) (p : List Decision) : Type 0 where
   pub unfull : IsFull h p → ⊥

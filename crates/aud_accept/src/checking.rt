@@ -159,13 +159,13 @@ fn has_same<'c, A: Allocator + Copy>(
 
 /// Whether the line is accepted after those whose prefixes are the earlier ones. The cursors may stand anywhere; each goes on
 /// from what its prefix and the next have in common.
-fn accepts<'c, A: Allocator + Copy>(
+fn accepts<'c, A: Allocator + Copy, B: Allocator>(
     alloc: A,
     shape: &Shape<A>,
     cursor: &mut Cursor<A>,
     other: &mut Cursor<A>,
     earlier: &Earlier<'c, A>,
-    line: &'c CertLine<A>,
+    line: &'c CertLine<B>,
 ) -> Result<bool, OutOfMemory>
     requires cursor { cursor.old.shape ≡ shape.now }
     requires other { other.old.shape ≡ shape.now }
@@ -189,7 +189,10 @@ fn accepts<'c, A: Allocator + Copy>(
 }
 
 /// Where the prefix of the line leads, if that is to be kept: of a line whose kids refute it, where the cursor stands at it.
-fn landing_of<A: Allocator + Copy>(cursor: &Cursor<A>, line: &CertLine<A>) -> Option<Landing>
+fn landing_of<A: Allocator + Copy, B: Allocator>(
+    cursor: &Cursor<A>,
+    line: &CertLine<B>,
+) -> Option<Landing>
     requires { StaysAtKids line.now cursor.now.path }
     ensures { IfSome result (IsLandingOf cursor.now.shape (prefix_in line.now)) }
 {
@@ -214,10 +217,10 @@ fn is_last_empty<A: Allocator>(lines: &[CertLine<A>]) -> bool
 ///
 /// A line costs the blocks of what its prefix has not in common with the line's before it, and a look-up for each prefix that it
 /// rests on. The memory is in proportion to the certificate.
-pub fn check_cert<A: Allocator + Copy>(
+pub fn check_cert<A: Allocator + Copy, B: Allocator>(
     alloc: A,
     shape: &Shape<A>,
-    cert: &Cert<A>,
+    cert: &Cert<B>,
 ) -> Result<bool, OutOfMemory>
     ensures { IfOk result (λ good. IsTrue good ↔ IsAccepted (objects_of shape.now) (history_of shape.now) cert.now.lines.items) }
 {

@@ -1,5 +1,12 @@
 -- The lines of a certificate's text, as far as they were read.
-use Rattle.std.proofs.Common.{◌≡◌, ℕ, suc, List, [], ◌∷◌, ◌++◌, Result, Ok, Err, append_assoc, append-nil, refl, ap, ◌∙◌, sym}
+use Rattle.std.proofs.Common.{◌≡◌, ℕ, suc, List, [], ◌∷◌, ◌++◌, Result, Ok, Err, append_assoc, append-nil, map, refl, ap, ◌∙◌, sym}
+use Rattle.std.proofs.lemmas.List.{map-append}
+use Rattle.std.specs.declared.alloc.Global.{Global}
+use Rattle.std.specs.Prelude.{MatchResult}
+use Rattle.aud_accept.specs.declared.cert.Cert.{Cert}
+use Rattle.aud_accept.specs.declared.cert.CertLine.{CertLine}
+use Rattle.aud_accept.specs.declared.cert.CertLine.TheVariants.{Kids, Silent, Same}
+use Rattle.aud_accept.specs.Acceptance.{elsewhere}
 use Rattle.aud_text.specs.declared.fault.TextFault.{TextFault}
 use Rattle.aud_text.specs.declared.fault.TextFault.TheVariants as fault
 use Rattle.aud_text.specs.Lines.{Filled}
@@ -36,3 +43,25 @@ ended after k ls fs e s = rw (e, s) (ap Ok (append-nil ls))
 
 pub one-too_many : (after k : ℕ) (ls : List Line) (fs more : List Filled) (l : Filled) → k ≡ 0 → fs ≡ l ∷ more → onto ls (lines_read after k fs) ≡ Err (at_line l.number fault.KeyUnknown)
 one-too_many after k ls fs more l e s = rw (e, s) refl
+
+-- # Lines in memory of another kind
+
+-- one line more, as it reads
+pub one-pushed : {X : Type 0} (ls new : List (CertLine X)) (l : CertLine X) → new ≡ ls ++ l ∷ [] → map (elsewhere {Y = Global}) new ≡ map elsewhere ls ++ elsewhere l ∷ []
+one-pushed ls new l is = ap (map elsewhere) is ∙ map-append elsewhere ls (l ∷ [])
+
+-- a line that stays where it is
+same-line : (l : Line) → elsewhere {Y = Global} l ≡ l
+same-line (Kids p) = refl
+same-line (Silent p d) = refl
+same-line (Same p q) = refl
+
+pub same-lines : (ls : List Line) → map (elsewhere {Y = Global}) ls ≡ ls
+same-lines [] = refl
+same-lines (l ∷ ls) = λ i. same-line l i ∷ same-lines ls i
+
+-- a certificate that is read into memory of the program's own allocator
+pub stays-own : (P : CertTextFault → Type 0) (r : Result (Cert Global) CertTextFault) (read : Result (List Line) CertTextFault) →
+    MatchResult r (λ cert. read ≡ Ok (map elsewhere cert.lines.items)) P → MatchResult r (λ cert. read ≡ Ok cert.lines.items) P
+stays-own P (Ok cert) read is = is ∙ ap Ok (same-lines cert.lines.items)
+stays-own P (Err e) read other = other

@@ -18,5 +18,5 @@ pub use fault::CertTextFault;
 pub use finding::finding_of;
 pub use line::CERT_LINE_MAX;
 pub use making::make_cert;
-pub use read::read_cert;
+pub use read::{read_cert, read_cert_into};
 pub use write::write_cert;

@@ -2,6 +2,7 @@
 
 ghost use Rattle.std.specs.Prelude.{◌≡◌, ◌⊎◌, Ok, Err, codes, IfOk, MatchResult};
 ghost use Rattle.serde_json.specs.View.{view, members_view};
+ghost use Rattle.aud_accept.specs.Acceptance.{elsewhere};
 ghost use Rattle.aud_cert.specs.LineText.{order_at, is_long, is_out_of_range, is_one, all_texts, only_of, list_of, fault_with, line_of, line_judged, line_read};
 
 use crate::reason::{Reason, allowed_keys, reason_in, required_keys};
@@ -13,7 +14,7 @@ use aud_text::{
 };
 use aud_witness::{Decision, Prefix};
 use serde_json::{Map, Value};
-use std::alloc::Global;
+use std::alloc::{Allocator, Global};
 
 /// The most bytes that a line of a certificate may have, its line feed aside.
 pub const CERT_LINE_MAX: usize = 65_536;
@@ -186,22 +187,52 @@ fn judge_line(alloc: Global, value: &Value) -> Result<CertLine, TextFault>
     }
 }
 
-/// The line that a text says, or the least fault that it deserves. The list is room that each call writes over.
-pub(crate) fn read_line(
+/// The line with its lists in other memory.
+fn moved<A: Allocator + Copy>(alloc: A, line: &CertLine) -> Result<CertLine<A>, OutOfMemory>
+    ensures { IfOk result (λ moved. elsewhere moved ≡ line.now) }
+{
+    match line {
+        CertLine::Kids(prefix) => {
+            let prefix = Prefix::copy_of(alloc, prefix.decisions())?;
+            Ok(CertLine::Kids(prefix))
+        }
+        CertLine::Silent(prefix, decision) => {
+            let prefix = Prefix::copy_of(alloc, prefix.decisions())?;
+            Ok(CertLine::Silent(prefix, *decision))
+        }
+        CertLine::Same(prefix, other) => {
+            let prefix = Prefix::copy_of(alloc, prefix.decisions())?;
+            let other = Prefix::copy_of(alloc, other.decisions())?;
+            Ok(CertLine::Same(prefix, other))
+        }
+    }
+}
+
+/// The line that a text says, or the least fault that it deserves. Its lists are in the memory of `lists`; the list is room that
+/// each call writes over.
+pub(crate) fn read_line<A: Allocator + Copy>(
     alloc: Global,
+    lists: A,
     line: &[u8],
     list: &mut Vec<Decision>,
-) -> Result<CertLine, TextFault>
-    ensures { MatchResult result (λ l. line_read line.now ≡ Ok l)
+) -> Result<CertLine<A>, TextFault>
+    ensures { MatchResult result (λ l. line_read line.now ≡ Ok (elsewhere l))
         (λ e. (e ≡ TextFault.OutOfMemory) ⊎ (line_read line.now ≡ Err e)) }
 {
     // Most lines are spelled as they are written here, and need no JSON value.
-    if let Some(read) = line_spelled(alloc, line, list) {
+    if let Some(read) = line_spelled(lists, line, list) {
         return Ok(read);
     }
     let value = match json_in(alloc, line, CERT_LINE_MAX) {
         Ok(value) => value,
         Err(fault) => return Err(fault),
     };
-    judge_line(alloc, &value)
+    let read = match judge_line(alloc, &value) {
+        Ok(read) => read,
+        Err(fault) => return Err(fault),
+    };
+    match moved(lists, &read) {
+        Ok(moved) => Ok(moved),
+        Err(_) => Err(TextFault::OutOfMemory),
+    }
 }

@@ -8,7 +8,7 @@ ghost use Rattle.aud_cert.specs.Written.{IsShort};
 use aud_event::limits::TRANSACTIONS;
 use aud_text::{ORDER_MAX, after};
 use aud_witness::{Decision, Fate, Prefix};
-use std::alloc::Global;
+use std::alloc::Allocator;
 
 fn digit_at(text: &[u8]) -> Option<(u32, &[u8])>
     ensures spelled { IfSome result (λ r. text.now ≡ (48 + r.0) ∷ r.1.now) }
@@ -94,11 +94,11 @@ fn list_at<'l>(text: &'l [u8], list: &mut Vec<Decision>) -> Option<&'l [u8]>
 
 /// The decisions that the text begins with, in memory of their own and no more than they need, and what stands after them.
 /// The list is room that each call writes over.
-pub(crate) fn order_at<'l>(
-    alloc: Global,
+pub(crate) fn order_at<'l, A: Allocator>(
+    alloc: A,
     text: &'l [u8],
     list: &mut Vec<Decision>,
-) -> Option<(Prefix, &'l [u8])>
+) -> Option<(Prefix<A>, &'l [u8])>
     ensures spelled { IfSome result (λ r. text.now ≡ order_text r.0 ++ r.1.now) }
     ensures short { IfSome result (λ r. IsShort r.0) }
 {

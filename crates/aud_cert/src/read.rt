@@ -3,6 +3,7 @@
 ghost use Rattle.std.specs.Prelude.{◌≡◌, ◌+◌, ◌≤◌, ◌⊎◌, Ok, Err, length, map, MatchResult};
 ghost use Rattle.serde_json.specs.View.{view};
 ghost use Rattle.serde_json.specs.Find.{as_object};
+ghost use Rattle.aud_accept.specs.Acceptance.{elsewhere};
 ghost use Rattle.aud_text.specs.Lines.{lines_of};
 ghost use Rattle.aud_cert.specs.CertText.{header_keys, count_at, header_members, header_read, at_line, lines_left, cert_read};
 
@@ -13,7 +14,7 @@ use aud_text::{
     TextFault, count_lines, has_only_allowed, has_required, json_in, next_filled, whole_of,
 };
 use serde_json::Value;
-use std::alloc::Global;
+use std::alloc::{Allocator, Global};
 
 static HEADER_KEYS: [&str; 1] = ["cert"];
 
@@ -74,29 +75,46 @@ fn ends_early(text: &[u8]) -> CertTextFault
     }
 }
 
+/// The least bytes that a line of a certificate takes with its line feed, as `{"by":"kids","p":"none"}` does.
+const LINE_MIN: usize = 25;
+
+/// How many lines there are at most, where the header says so many and so many bytes are left: room for them is asked for at once.
+fn most_lines(count: u64, left: usize) -> usize {
+    match usize::try_from(count) {
+        Ok(count) => count.min(left / LINE_MIN + 1),
+        Err(_) => left / LINE_MIN + 1,
+    }
+}
+
 /// The certificate's lines, so many of what is left of the text. No line that is not empty comes after them.
-fn read_lines(
+fn read_lines<A: Allocator + Copy>(
     alloc: Global,
+    lists: A,
     text: &[u8],
     left: &[u8],
     number: usize,
     count: u64,
-) -> Result<Vec<CertLine>, CertTextFault>
+) -> Result<Vec<CertLine<A>, A>, CertTextFault>
     requires within { length left.now ≤ length text.now }
     requires room { number + length left.now ≤ length text.now + 1 }
-    ensures { MatchResult result (λ lines. lines_left text.now left.now number count ≡ Ok lines.items)
+    ensures { MatchResult result (λ lines. lines_left text.now left.now number count ≡ Ok (map elsewhere lines.items))
         (λ e. (e.fault ≡ TextFault.OutOfMemory) ⊎ (lines_left text.now left.now number count ≡ Err e)) }
 {
-    let mut lines = Vec::new(alloc);
     let mut list = Vec::new(alloc);
     let mut rest = left;
     let mut line = number;
+    let Ok(mut lines) = Vec::with_capacity(lists, most_lines(count, left.len())) else {
+        return Err(CertTextFault {
+            line,
+            fault: TextFault::OutOfMemory,
+        });
+    };
     for i in 0..count {
         let Some(next) = next_filled(rest, line) else {
             return Err(ends_early(text));
         };
         line = next.number;
-        let read = match read_line(alloc, next.line, &mut list) {
+        let read = match read_line(alloc, lists, next.line, &mut list) {
             Ok(read) => read,
             Err(fault) => return Err(CertTextFault { line, fault }),
         };
@@ -118,12 +136,24 @@ fn read_lines(
     }
 }
 
-/// The certificate that a text says, or the first fault of the text.
+/// The certificate that a text says, or the first fault of the text, in memory of the program's own allocator.
 ///
 /// A header line says how many lines follow. Empty lines are skipped and counted; a line has at most 65,536 bytes. A text that
 /// ends too early is refused at the line after its last, and a line after those that the header counts as one with an unknown key.
 pub fn read_cert(alloc: Global, text: &[u8]) -> Result<Cert, CertTextFault>
     ensures { MatchResult result (λ cert. cert_read text.now ≡ Ok cert.lines.items)
+        (λ e. (e.fault ≡ TextFault.OutOfMemory) ⊎ (cert_read text.now ≡ Err e)) }
+{
+    read_cert_into(alloc, alloc, text)
+}
+
+/// The same, with the lines and their lists in the memory of `lists`: for an arena, where all of them go at once.
+pub fn read_cert_into<A: Allocator + Copy>(
+    alloc: Global,
+    lists: A,
+    text: &[u8],
+) -> Result<Cert<A>, CertTextFault>
+    ensures { MatchResult result (λ cert. cert_read text.now ≡ Ok (map elsewhere cert.lines.items))
         (λ e. (e.fault ≡ TextFault.OutOfMemory) ⊎ (cert_read text.now ≡ Err e)) }
 {
     let Some(first) = next_filled(text, 1) else {
@@ -134,7 +164,7 @@ pub fn read_cert(alloc: Global, text: &[u8]) -> Result<Cert, CertTextFault>
         Ok(count) => count,
         Err(fault) => return Err(CertTextFault { line, fault }),
     };
-    match read_lines(alloc, text, first.rest, line + 1, count) {
+    match read_lines(alloc, lists, text, first.rest, line + 1, count) {
         Ok(lines) => Ok(Cert { lines }),
         Err(fault) => Err(fault),
     }

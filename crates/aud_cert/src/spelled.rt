@@ -1,6 +1,7 @@
 //! Reading a line that is spelled as `write_cert` spells it, with no JSON value in between.
 
 ghost use Rattle.std.specs.Prelude.{◌≡◌, Ok, IfSome};
+ghost use Rattle.aud_accept.specs.Acceptance.{elsewhere};
 ghost use Rattle.aud_cert.specs.LineText.{line_read};
 ghost use Rattle.aud_cert.specs.Written.{line_text, prefix_text, HasShort, IsShort};
 
@@ -9,10 +10,14 @@ use crate::order::order_at;
 use aud_accept::CertLine;
 use aud_text::after;
 use aud_witness::{Decision, Prefix};
-use std::alloc::Global;
+use std::alloc::Allocator;
 
 /// The prefix, which ends each line.
-fn prefix_at(alloc: Global, line: &[u8], list: &mut Vec<Decision>) -> Option<Prefix>
+fn prefix_at<A: Allocator + Copy>(
+    alloc: A,
+    line: &[u8],
+    list: &mut Vec<Decision>,
+) -> Option<Prefix<A>>
     ensures spelled { IfSome result (λ p. line.now ≡ prefix_text p) }
     ensures short { IfSome result IsShort }
 {
@@ -25,7 +30,11 @@ fn prefix_at(alloc: Global, line: &[u8], list: &mut Vec<Decision>) -> Option<Pre
     }
 }
 
-fn kids_at(alloc: Global, line: &[u8], list: &mut Vec<Decision>) -> Option<CertLine>
+fn kids_at<A: Allocator + Copy>(
+    alloc: A,
+    line: &[u8],
+    list: &mut Vec<Decision>,
+) -> Option<CertLine<A>>
     ensures spelled { IfSome result (λ l. line.now ≡ line_text l) }
     ensures short { IfSome result HasShort }
 {
@@ -34,7 +43,11 @@ fn kids_at(alloc: Global, line: &[u8], list: &mut Vec<Decision>) -> Option<CertL
     Some(CertLine::Kids(prefix))
 }
 
-fn silent_at(alloc: Global, line: &[u8], list: &mut Vec<Decision>) -> Option<CertLine>
+fn silent_at<A: Allocator + Copy>(
+    alloc: A,
+    line: &[u8],
+    list: &mut Vec<Decision>,
+) -> Option<CertLine<A>>
     ensures spelled { IfSome result (λ l. line.now ≡ line_text l) }
     ensures short { IfSome result HasShort }
 {
@@ -45,7 +58,11 @@ fn silent_at(alloc: Global, line: &[u8], list: &mut Vec<Decision>) -> Option<Cer
     Some(CertLine::Silent(prefix, decision))
 }
 
-fn same_at(alloc: Global, line: &[u8], list: &mut Vec<Decision>) -> Option<CertLine>
+fn same_at<A: Allocator + Copy>(
+    alloc: A,
+    line: &[u8],
+    list: &mut Vec<Decision>,
+) -> Option<CertLine<A>>
     ensures spelled { IfSome result (λ l. line.now ≡ line_text l) }
     ensures short { IfSome result HasShort }
 {
@@ -56,7 +73,11 @@ fn same_at(alloc: Global, line: &[u8], list: &mut Vec<Decision>) -> Option<CertL
     Some(CertLine::Same(prefix, other))
 }
 
-fn line_at(alloc: Global, line: &[u8], list: &mut Vec<Decision>) -> Option<CertLine>
+fn line_at<A: Allocator + Copy>(
+    alloc: A,
+    line: &[u8],
+    list: &mut Vec<Decision>,
+) -> Option<CertLine<A>>
     ensures spelled { IfSome result (λ l. line.now ≡ line_text l) }
     ensures short { IfSome result HasShort }
 {
@@ -70,8 +91,12 @@ fn line_at(alloc: Global, line: &[u8], list: &mut Vec<Decision>) -> Option<CertL
 }
 
 /// The line that a text says, if the text is the one that is written for it. The list is room that each call writes over.
-pub(crate) fn line_spelled(alloc: Global, line: &[u8], list: &mut Vec<Decision>) -> Option<CertLine>
-    ensures { IfSome result (λ l. line_read line.now ≡ Ok l) }
+pub(crate) fn line_spelled<A: Allocator + Copy>(
+    alloc: A,
+    line: &[u8],
+    list: &mut Vec<Decision>,
+) -> Option<CertLine<A>>
+    ensures { IfSome result (λ l. line_read line.now ≡ Ok (elsewhere l)) }
 {
     if line.len() > CERT_LINE_MAX {
         return None;

@@ -12,7 +12,7 @@ use Rattle.aud_event.specs.declared.fact.Fact.{Fact}
 use Rattle.aud_event.proofs.Bools.{and_true}
 use Rattle.aud_text.specs.declared.fault.TextFault.{TextFault}
 use Rattle.aud_text.specs.Json.{Key, json_read, has, has_all, has_only, is_one_of, word_at}
-use Rattle.aud_text.specs.FactText.{fact_read, judged_json, judged_members, judged_as, fact_or_word, fact_of, shape_of, shape_of_ev, shape_of_event, takes_argument, required, allowed, types_fit}
+use Rattle.aud_text.specs.FactText.{fact_read, judged_json, judged_members, judged_as, shape_of, shape_of_ev, shape_of_event, takes_argument, required, allowed}
 use Rattle.aud_cli.specs.Certificates.{has_cert, begins_certificate}
 
 module _ (x : Key) (ks : List Key) (other : is_one_of ks x ≡ false) where

@@ -1,5 +1,5 @@
 -- What may be said of an input.
-use Rattle.std.specs.Prelude.{◌≡◌, ◌≢◌, ℕ, ◌+◌, List, [], Option, Some, None, Bool, true, false, Result, Ok, Err, length, string_bytes}
+use Rattle.std.specs.Prelude.{◌≡◌, ◌≢◌, ℕ, ◌+◌, List, [], Option, Some, None, Bool, true, false, Result, Ok, Err, length, map, string_bytes}
 use Rattle.aud_event.specs.declared.fact.Fact.{Fact}
 use Rattle.aud_event.specs.Meanings.{PlanOf}
 use Rattle.aud_history.specs.Histories.{History}
@@ -16,7 +16,7 @@ use Rattle.aud_text.specs.Orders.{order_read}
 use Rattle.aud_text.specs.Lines.{lines_of}
 use Rattle.aud_text.specs.declared.fault.TextFault.{TextFault}
 use Rattle.aud_text.specs.declared.fault.TextFault.TheVariants as text_fault
-use Rattle.aud_accept.specs.Acceptance.{IsAccepted}
+use Rattle.aud_accept.specs.Acceptance.{IsAccepted, elsewhere}
 use Rattle.aud_cert.specs.LineText.{Line as CertLineOf}
 use Rattle.aud_cert.specs.CertText.{cert_read}
 use Rattle.aud_cert.specs.declared.fault.CertTextFault.{CertTextFault}
@@ -69,7 +69,7 @@ VerifySays lines plan h _ = ⊥
 abbrev pub QuestionSays : Question → Answers
 QuestionSays (question.Shows order) = CheckSays order
 QuestionSays (question.Any budget cert) = DecideSays budget cert
-QuestionSays (question.Accepts cert) = VerifySays cert.lines.items
+QuestionSays (question.Accepts cert) = VerifySays (map elsewhere cert.now.lines.items)
 
 -- of a set of facts: the status, if they are not sealed, ill-formedness, if their history is not well-formed, else the
 -- answer

@@ -1,7 +1,8 @@
 //! What is asked of a well-formed history, and its answer.
 
-ghost use Rattle.std.specs.Prelude.{IfOk, None, Some};
+ghost use Rattle.std.specs.Prelude.{IfOk, None, Some, map};
 ghost use Rattle.aud_history.specs.WellFormed.{IsWellFormed};
+ghost use Rattle.aud_accept.specs.Acceptance.{elsewhere};
 ghost use Rattle.aud_cli.specs.Line.{CheckSays, DecideSays, NoneSays, VerifySays, QuestionSays};
 ghost use Rattle.aud_witness.specs.Orders.{Opaque};
 
@@ -14,18 +15,19 @@ use aud_order::Shape;
 use aud_report::Said;
 use aud_search::{Decided, Outcome, decide, explore};
 use aud_witness::{Prefix, shows};
-use std::alloc::Global;
+use bumpalo::Bump;
+use std::alloc::{Allocator, Global};
 use std::sync::Arc;
 
 /// What is asked of a history.
 #[derive(Drop)]
-pub enum Question {
+pub enum Question<'q, 'l> {
     /// Whether this order shows it.
     Shows(Prefix),
     /// Whether any order does, perhaps with a budget, and with a certificate where none does or without.
     Any(Option<u64>, bool),
     /// Whether the certificate that none does is accepted.
-    Accepts(Cert),
+    Accepts(&'q Cert<&'l Bump>),
 }
 
 fn answer_check(alloc: Global, order: Prefix, history: &History) -> Result<Said, OutOfMemory>
@@ -76,8 +78,12 @@ fn answer_decide(alloc: Global, with_certificate: bool, shape: &Shape) -> Result
     }
 }
 
-fn answer_verify(alloc: Global, cert: &Cert, shape: &Shape) -> Result<Said, OutOfMemory>
-    ensures { IfOk result (VerifySays cert.now.lines.items shape.now.sealed.facts.plan shape.now.sealed.history) }
+fn answer_verify<A: Allocator>(
+    alloc: Global,
+    cert: &Cert<A>,
+    shape: &Shape,
+) -> Result<Said, OutOfMemory>
+    ensures { IfOk result (VerifySays (map elsewhere cert.now.lines.items) shape.now.sealed.facts.plan shape.now.sealed.history) }
 {
     let _within = shape.plan();
     let _sound = shape.history();
@@ -88,11 +94,11 @@ fn answer_verify(alloc: Global, cert: &Cert, shape: &Shape) -> Result<Said, OutO
     }
 }
 
-impl Question {
+impl<'q, 'l> Question<'q, 'l> {
     /// The answer for a sealed set whose history is well-formed.
     pub fn answer(self, alloc: Global, sealed: Arc<Sealed>) -> Result<Said, OutOfMemory>
         requires { IsWellFormed sealed.value.history }
-        ensures { IfOk result (QuestionSays self sealed.value.facts.plan sealed.value.history) }
+        ensures { IfOk result (QuestionSays self.entry sealed.value.facts.plan sealed.value.history) }
     {
         match self {
             Question::Shows(order) => answer_check(alloc, order, sealed.history()),
@@ -106,7 +112,7 @@ impl Question {
             }
             Question::Accepts(cert) => {
                 let shape = Shape::of(alloc, sealed)?;
-                answer_verify(alloc, &cert, &shape)
+                answer_verify(alloc, cert, &shape)
             }
         }
     }

@@ -11,19 +11,24 @@ use crate::ended::{Cause, Ended, end_of};
 use crate::input::{Input, InputFault, read_input};
 use crate::job::Job;
 use crate::question::Question;
-use aud_cert::{CertTextFault, read_cert};
+use aud_cert::{CertTextFault, read_cert_into};
 use aud_event::OutOfMemory;
 use aud_facts::Facts;
 use aud_know::well_formed_history;
 use aud_report::{ReadFault, Said, Sink, Source, read_all, write_all, write_line};
 use aud_text::{TextFault, count_lines, read_order};
+use bumpalo::Bump;
 use std::alloc::Global;
 use std::sync::Arc;
 
 /// What is said of a set of facts where this is asked of their history: their status if they are not sealed, and its first fault
 /// if it is not well-formed.
-pub fn judge_facts(alloc: Global, question: Question, facts: &Facts) -> Result<Said, OutOfMemory>
-    ensures { IfOk result (SetSays (QuestionSays question) facts.now.plan facts.now.facts) }
+pub fn judge_facts(
+    alloc: Global,
+    question: Question<'_, '_>,
+    facts: &Facts,
+) -> Result<Said, OutOfMemory>
+    ensures { IfOk result (SetSays (QuestionSays question.entry) facts.now.plan facts.now.facts) }
 {
     match well_formed_history(facts)? {
         Ok(sealed) => question.answer(alloc, sealed),
@@ -31,8 +36,8 @@ pub fn judge_facts(alloc: Global, question: Question, facts: &Facts) -> Result<S
     }
 }
 
-fn judge_input(alloc: Global, question: Question, input: Input) -> Result<Said, OutOfMemory>
-    ensures { IfOk result (FactsSay (QuestionSays question) input) }
+fn judge_input(alloc: Global, question: Question<'_, '_>, input: Input) -> Result<Said, OutOfMemory>
+    ensures { IfOk result (FactsSay (QuestionSays question.entry) input) }
 {
     let (plan, list) = input.into_parts();
     let plan = Arc::new(alloc, plan)?;
@@ -40,8 +45,8 @@ fn judge_input(alloc: Global, question: Question, input: Input) -> Result<Said, 
     judge_facts(alloc, question, &facts)
 }
 
-fn judge(alloc: Global, question: Question, text: &[u8]) -> Result<Said, OutOfMemory>
-    ensures { IfOk result (InputSays (QuestionSays question) (input_read text.now)) }
+fn judge(alloc: Global, question: Question<'_, '_>, text: &[u8]) -> Result<Said, OutOfMemory>
+    ensures { IfOk result (InputSays (QuestionSays question.entry) (input_read text.now)) }
 {
     match read_input(alloc, text) {
         Ok(input) => judge_input(alloc, question, input),
@@ -62,7 +67,8 @@ fn refuse_line(lines: usize, refused: CertTextFault) -> Result<Said, OutOfMemory
     }
 }
 
-/// What is said of the facts of an input, by its certificate, which begins after so many lines.
+/// What is said of the facts of an input, by its certificate, which begins after so many lines. The certificate is read into an
+/// arena: it has as many lists as lines, or twice as many.
 fn verify_by(
     alloc: Global,
     input: Input,
@@ -72,8 +78,9 @@ fn verify_by(
     requires { lines + length certificate.now + 1 < 2 ^ 64 }
     ensures { IfOk result (CertifiedSays lines (Ok input) (cert_read certificate.now)) }
 {
-    match read_cert(alloc, certificate) {
-        Ok(cert) => judge_input(alloc, Question::Accepts(cert), input),
+    let lists = Bump::new(alloc);
+    match read_cert_into(alloc, &lists, certificate) {
+        Ok(cert) => judge_input(alloc, Question::Accepts(&cert), input),
         Err(refused) => refuse_line(lines, refused),
     }
 }
