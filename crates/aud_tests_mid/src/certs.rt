@@ -33,8 +33,66 @@ const COUNTED: &str = r#"{"cert":5}
 {"by":"kids","p":"none"}
 "#;
 
+/// As the bad count, of a set: transactions 1 and 2 add a value each, and 3 finds one that nobody added.
+const BAD_SET: &str = r#"{"format":1,"logs":1,"objects":1}
+{"kind":"set","name":"s"}
+{"arg":1,"at":0,"ev":"inv","log":0,"ob":"s","op":"add","stamp":0,"tx":1}
+{"arg":2,"at":1,"ev":"inv","log":0,"ob":"s","op":"add","stamp":1,"tx":2}
+{"arg":3,"at":2,"ev":"inv","log":0,"ob":"s","op":"contains","stamp":2,"tx":3}
+{"ans":true,"at":3,"ev":"ret","log":0,"ob":"s","op":"contains","stamp":3,"tx":3}
+{"at":4,"ev":"tryc","log":0,"stamp":4,"tx":3}
+{"at":5,"ev":"commit","log":0,"stamp":5,"tx":3}
+{"ans":true,"at":6,"ev":"ret","log":0,"ob":"s","op":"add","stamp":6,"tx":1}
+{"at":7,"ev":"tryc","log":0,"stamp":7,"tx":1}
+{"at":8,"ev":"commit","log":0,"stamp":8,"tx":1}
+{"ans":true,"at":9,"ev":"ret","log":0,"ob":"s","op":"add","stamp":9,"tx":2}
+{"at":10,"ev":"tryc","log":0,"stamp":10,"tx":2}
+{"at":11,"ev":"commit","log":0,"stamp":11,"tx":2}
+{"end":12,"log":0}
+"#;
+
+/// As the bad count, of two registers beside three that nobody writes: transactions 1 and 2 write one each.
+const BAD_READ_OF_FIVE: &str = r#"{"format":1,"logs":1,"objects":5}
+{"kind":"register","name":"v","open":0}
+{"kind":"register","name":"w","open":0}
+{"kind":"register","name":"x","open":0}
+{"kind":"register","name":"y","open":0}
+{"kind":"register","name":"z","open":0}
+{"arg":1,"at":0,"ev":"inv","log":0,"ob":"x","op":"write","stamp":0,"tx":1}
+{"arg":2,"at":1,"ev":"inv","log":0,"ob":"z","op":"write","stamp":1,"tx":2}
+{"at":2,"ev":"inv","log":0,"ob":"z","op":"read","stamp":2,"tx":3}
+{"ans":3,"at":3,"ev":"ret","log":0,"ob":"z","op":"read","stamp":3,"tx":3}
+{"at":4,"ev":"tryc","log":0,"stamp":4,"tx":3}
+{"at":5,"ev":"commit","log":0,"stamp":5,"tx":3}
+{"ans":"done","at":6,"ev":"ret","log":0,"ob":"x","op":"write","stamp":6,"tx":1}
+{"at":7,"ev":"tryc","log":0,"stamp":7,"tx":1}
+{"at":8,"ev":"commit","log":0,"stamp":8,"tx":1}
+{"ans":"done","at":9,"ev":"ret","log":0,"ob":"z","op":"write","stamp":9,"tx":2}
+{"at":10,"ev":"tryc","log":0,"stamp":10,"tx":2}
+{"at":11,"ev":"commit","log":0,"stamp":11,"tx":2}
+{"end":12,"log":0}
+"#;
+
+/// As the bad count, of one register, which both write: the last write stays.
+const BAD_READ: &str = r#"{"format":1,"logs":1,"objects":1}
+{"kind":"register","name":"x","open":0}
+{"arg":1,"at":0,"ev":"inv","log":0,"ob":"x","op":"write","stamp":0,"tx":1}
+{"arg":2,"at":1,"ev":"inv","log":0,"ob":"x","op":"write","stamp":1,"tx":2}
+{"at":2,"ev":"inv","log":0,"ob":"x","op":"read","stamp":2,"tx":3}
+{"ans":3,"at":3,"ev":"ret","log":0,"ob":"x","op":"read","stamp":3,"tx":3}
+{"at":4,"ev":"tryc","log":0,"stamp":4,"tx":3}
+{"at":5,"ev":"commit","log":0,"stamp":5,"tx":3}
+{"ans":"done","at":6,"ev":"ret","log":0,"ob":"x","op":"write","stamp":6,"tx":1}
+{"at":7,"ev":"tryc","log":0,"stamp":7,"tx":1}
+{"at":8,"ev":"commit","log":0,"stamp":8,"tx":1}
+{"ans":"done","at":9,"ev":"ret","log":0,"ob":"x","op":"write","stamp":9,"tx":2}
+{"at":10,"ev":"tryc","log":0,"stamp":10,"tx":2}
+{"at":11,"ev":"commit","log":0,"stamp":11,"tx":2}
+{"end":12,"log":0}
+"#;
+
 /// A history, lines, and whether they are accepted of it.
-const JUDGED: [(&str, &str, bool); 17] = [
+const JUDGED: [(&str, &str, bool); 22] = [
     (TORN_READ_THEN_ABORT, TORN, true),
     (
         TORN_READ_THEN_ABORT,
@@ -96,6 +154,19 @@ const JUDGED: [(&str, &str, bool); 17] = [
         "{\"cert\":3}\n{\"by\":\"kids\",\"p\":\"1c 2c\"}\n{\"by\":\"kids\",\"p\":\"1c\"}\n{\"by\":\"silent\",\"d\":\"1c\",\"p\":\"none\"}",
         false,
     ),
+    (BAD_SET, COUNTED, true),
+    (
+        BAD_SET,
+        "{\"cert\":5}\n{\"by\":\"kids\",\"p\":\"1c 2c\"}\n{\"by\":\"kids\",\"p\":\"1c\"}\n{\"as\":\"1c\",\"by\":\"same\",\"p\":\"2c 1c\"}\n{\"by\":\"kids\",\"p\":\"2c\"}\n{\"by\":\"kids\",\"p\":\"none\"}",
+        false,
+    ),
+    (BAD_READ_OF_FIVE, COUNTED, true),
+    (
+        BAD_READ_OF_FIVE,
+        "{\"cert\":5}\n{\"by\":\"kids\",\"p\":\"1c 2c\"}\n{\"by\":\"kids\",\"p\":\"1c\"}\n{\"as\":\"1c\",\"by\":\"same\",\"p\":\"2c 1c\"}\n{\"by\":\"kids\",\"p\":\"2c\"}\n{\"by\":\"kids\",\"p\":\"none\"}",
+        false,
+    ),
+    (BAD_READ, COUNTED, false),
 ];
 
 fn cert_in(alloc: Global, text: &str) -> Result<Cert, Fail> {
