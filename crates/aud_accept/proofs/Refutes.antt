@@ -1,5 +1,5 @@
 -- What is accepted is refuted.
-use Rattle.std.specs.Prelude.{List, [], ◌∷◌, ◌++◌, map}
+use Rattle.std.specs.Prelude.{◌↔◌, List, [], ◌∷◌, ◌++◌, map, Bool, Result, Ok, Err, IfOk, IsTrue}
 use Rattle.std.specs.List.{Contains}
 use Rattle.std.proofs.Common.{sym, subst, inl, inr, arith, append_assoc}
 use Rattle.std.proofs.lemmas.List.{append-nil}
@@ -14,7 +14,7 @@ use Rattle.aud_order.proofs.Moves.{refuted-by_silent, spots-decide}
 use Rattle.aud_accept.proofs.Kids.{refuted-by_kids}
 use Rattle.aud_accept.specs.declared.cert.CertLine.{CertLine}
 use Rattle.aud_accept.specs.declared.cert.CertLine.TheVariants.{Kids, Silent, Same}
-use Rattle.aud_accept.specs.Acceptance.{prefix_in, Rests, AreAccepted}
+use Rattle.aud_accept.specs.Acceptance.{prefix_in, Rests, AreAccepted, IsAccepted}
 use Rattle.aud_accept.specs.Laws.{AcceptedIsRefuted}
 
 module _ (plan : PlanOf) (h : History) (fine : IsWellFormed h) (within : IsWithinLimits plan h) where
@@ -53,3 +53,9 @@ accepted-refuted plan h lines fine within accepted =
     let (before, ends) = accepted.last in
     lines-refuted plan h fine within lines [] (λ p there. absurd (none-there p there)) (λ p there. absurd (none-there p there)) accepted.each []
     (subst (λ (ps : List (List Decision)). Contains ps []) (sym ends) (Contains-push before []))
+
+-- what says exactly whether the lines are accepted says true of refuted ones alone
+pub refuted-if_ok : {X E : Type 0} (plan : PlanOf) (h : History) (lines : List (CertLine X)) (r : Result Bool E) → IsWellFormed h → IsWithinLimits plan h →
+    IfOk r (λ good. IsTrue good ↔ IsAccepted plan.objects h lines) → IfOk r (λ good. IsTrue good → Refuted plan.objects h [])
+refuted-if_ok plan h lines (Ok good) fine within exact = λ yes. accepted-refuted plan h lines fine within (exact.0 yes)
+refuted-if_ok plan h lines (Err e) fine within exact = exact

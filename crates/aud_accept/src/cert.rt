@@ -11,7 +11,8 @@ use std::alloc::{Allocator, Global};
 pub enum CertLine<A: Allocator = Global> {
     /// Each kid of the prefix is refuted by an earlier line.
     Kids(Prefix<A>),
-    /// The decision is of a silent transaction and good after the prefix, and an earlier line refutes where it leads.
+    /// The decision is of a silent transaction, with its silent fate, and good after the prefix, and an earlier line refutes where it
+    /// leads.
     Silent(Prefix<A>, Decision),
     /// An earlier line refutes the second prefix, which places the same transactions and leaves the same states.
     Same(Prefix<A>, Prefix<A>),

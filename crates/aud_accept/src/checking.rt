@@ -2,6 +2,7 @@
 
 ghost use Rattle.std.specs.Prelude.{◌≡◌, ◌↔◌, ◌++◌, ◌∷◌, [], map, Some, IfOk, IfSome, OnOk, IsTrue};
 ghost use Rattle.aud_witness.specs.declared.decision.Decision.{Decision};
+ghost use Rattle.aud_witness.specs.Orders.{Refuted};
 ghost use Rattle.aud_order.specs.Silent.{silent_fate};
 ghost use Rattle.aud_order.specs.Shapes.{objects_of, history_of};
 ghost use Rattle.aud_accept.specs.Acceptance.{prefix_in, LeadAlike, EndsEmpty, IsAccepted};
@@ -14,7 +15,7 @@ use crate::landing::Landing;
 use crate::moving::go_to;
 use aud_event::OutOfMemory;
 use aud_order::{Cursor, Shape};
-use aud_witness::{Decision, Fate};
+use aud_witness::Decision;
 use bumpalo::Bump;
 use std::alloc::Allocator;
 
@@ -53,28 +54,13 @@ fn has_kids<'c, A: Allocator + Copy>(
     Ok(has_all(earlier, prefix, &kids))
 }
 
-fn is_same_fate(a: Fate, b: Fate) -> bool
-    ensures { IsTrue result ↔ (a ≡ b) }
-{
-    match a {
-        Fate::C => match b {
-            Fate::C => true,
-            Fate::A => false,
-        },
-        Fate::A => match b {
-            Fate::C => false,
-            Fate::A => true,
-        },
-    }
-}
-
 /// Whether the decision is of a silent transaction, with its silent fate.
-pub fn is_silent<A: Allocator + Copy>(shape: &Shape<A>, decision: Decision) -> bool
+fn is_silent<A: Allocator + Copy>(shape: &Shape<A>, decision: Decision) -> bool
     ensures { IsTrue result ↔ (silent_fate (history_of shape.now) decision.tx ≡ Some decision.fate) }
 {
     match shape.silent(decision.tx) {
         None => false,
-        Some(fate) => is_same_fate(fate, decision.fate),
+        Some(fate) => fate == decision.fate,
     }
 }
 
@@ -102,7 +88,7 @@ fn has_silent<'c, A: Allocator + Copy>(
 }
 
 /// Whether the prefixes of the two cursors place the same transactions and leave the same states.
-pub fn lead_alike<A: Allocator + Copy>(cursor: &Cursor<A>, other: &Cursor<A>) -> bool
+fn lead_alike<A: Allocator + Copy>(cursor: &Cursor<A>, other: &Cursor<A>) -> bool
     requires { other.now.shape ≡ cursor.now.shape }
     ensures { IsTrue result ↔ LeadAlike (objects_of cursor.now.shape) (history_of cursor.now.shape) cursor.now.path other.now.path }
 {
@@ -212,12 +198,8 @@ fn is_last_empty<A: Allocator>(lines: &[CertLine<A>]) -> bool
     }
 }
 
-/// Whether the certificate is accepted: it has lines, each is accepted after those before it, and the last refutes the empty
-/// prefix. Nothing in it is trusted.
-///
-/// A line costs the blocks of what its prefix has not in common with the line's before it, and a look-up for each prefix that it
-/// rests on. The memory is in proportion to the certificate.
-pub fn check_cert<A: Allocator + Copy, B: Allocator>(
+/// Whether the certificate has lines, each is accepted after those before it, and the last refutes the empty prefix.
+fn is_accepted<A: Allocator + Copy, B: Allocator>(
     alloc: A,
     shape: &Shape<A>,
     cert: &Cert<B>,
@@ -239,4 +221,22 @@ pub fn check_cert<A: Allocator + Copy, B: Allocator>(
         earlier.add(line.prefix().decisions(), landing)?;
     }
     Ok(true)
+}
+
+/// Whether the certificate is accepted: it has lines, each is accepted after those before it, and the last refutes the empty
+/// prefix. Nothing in it is trusted, and where it is accepted no order shows the history.
+///
+/// A line costs the blocks of what its prefix has not in common with the line's before it, and a look-up for each prefix that it
+/// rests on. The memory is in proportion to the certificate.
+pub fn check_cert<A: Allocator + Copy, B: Allocator>(
+    alloc: A,
+    shape: &Shape<A>,
+    cert: &Cert<B>,
+) -> Result<bool, OutOfMemory>
+    ensures accepted { IfOk result (λ good. IsTrue good ↔ IsAccepted (objects_of shape.now) (history_of shape.now) cert.now.lines.items) }
+    ensures refuted { IfOk result (λ good. IsTrue good → Refuted (objects_of shape.now) (history_of shape.now) []) }
+{
+    let _within = shape.plan();
+    let _sound = shape.history();
+    is_accepted(alloc, shape, cert)
 }

@@ -10,5 +10,4 @@ mod moving;
 mod place;
 
 pub use cert::{Cert, CertLine};
-pub use checking::{check_cert, is_silent, lead_alike};
-pub use moving::go_to;
+pub use checking::check_cert;

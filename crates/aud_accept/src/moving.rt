@@ -45,7 +45,7 @@ fn go_back<A: Allocator + Copy>(cursor: &mut Cursor<A>, depth: usize)
 
 /// Takes the cursor to a list, and says whether the list is good. Where it is not, the cursor stays before the first decision of
 /// it that is not good there.
-pub fn go_to<A: Allocator + Copy>(
+pub(crate) fn go_to<A: Allocator + Copy>(
     cursor: &mut Cursor<A>,
     decisions: &[Decision],
 ) -> Result<bool, OutOfMemory>

@@ -3,3 +3,4 @@ pub mod LineText
 pub mod CertText
 pub mod Written
 pub mod Certified
+pub mod Laws

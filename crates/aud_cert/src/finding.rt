@@ -22,7 +22,5 @@ pub fn finding_of<A: Allocator + Copy>(
     if !check_cert(alloc, &shape, cert)? {
         return Ok(None);
     }
-    let _within = shape.plan();
-    let _sound = shape.history();
     Ok(Some(Finding::refuted(shape, Prefix::empty(alloc))))
 }

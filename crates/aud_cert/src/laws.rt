@@ -3,8 +3,15 @@
 ghost use Rattle.std.specs.Prelude.{List};
 ghost use Rattle.aud_cert.specs.LineText.{Line};
 ghost use Rattle.aud_cert.specs.Written.{cert_text, ReadsBack};
+ghost use Rattle.aud_cert.specs.Laws.{AcceptedReadsBack};
 
 /// What is written of lines within the limits reads as them.
 pub fn certificates_read_back()
     ensures { (lines : List Line) → ReadsBack lines (cert_text lines) }
+{}
+
+/// Each line of an accepted certificate of a history within the limits is within the limits itself, so that what is written of the
+/// certificate reads as it.
+pub fn accepted_reads_back()
+    ensures { AcceptedReadsBack }
 {}

@@ -75,8 +75,8 @@ fn ends_early(text: &[u8]) -> CertTextFault
     }
 }
 
-/// The least bytes that a line of a certificate takes with its line feed, as `{"by":"kids","p":"none"}` does.
-const LINE_MIN: usize = 25;
+/// The least bytes that a line of a certificate takes with its line feed, as `{"by":"kids","p":"0c"}` does.
+const LINE_MIN: usize = 23;
 
 /// How many lines there are at most, where the header says so many and so many bytes are left: room for them is asked for at once.
 fn most_lines(count: u64, left: usize) -> usize {

@@ -128,7 +128,8 @@ fn text_of<A: Allocator + Copy, B: Allocator>(
 /// The text of the certificate: a header, its lines, and a line feed after each.
 ///
 /// It reads as the certificate where each line is within the limits: ids below 1,024, order texts of at most 32,768 bytes, and at
-/// most 65,536 bytes a line.
+/// most 65,536 bytes a line. Each line of an accepted certificate is (`laws::accepted_reads_back`). The header counts fewer than 2^63
+/// lines.
 pub fn write_cert<A: Allocator + Copy>(alloc: A, cert: &Cert) -> Result<Vec<u8, A>, OutOfMemory>
     ensures spelled { IfOk result (λ text. text.items ≡ cert_text cert.now.lines.items) }
     ensures reads_back { IfOk result (λ text. ReadsBack cert.now.lines.items text.items) }

@@ -16,14 +16,14 @@ const ABOUT: &str =
     "Says whether a run of a transactional memory was opaque, from its stamped records";
 
 const AFTER: &str =
-    r#"Standard input is the plan of the run, then its records, a JSON value a line, and for verify a certificate
-after them. One line of output says what was found (decide --cert adds a certificate), and so does the exit
+    r#"Standard input is the plan of the run, then its records and an end mark for each log, a JSON value a line,
+and for verify a certificate after them. One line of output says what was found (decide --cert adds a certificate), and so does the exit
 status:
   0  opaque
   1  not opaque
   2  unfinished
   3  the input, the history, the order or the certificate is refused; the line says why
-  4  out of memory, or input or output failed, or no thread was to be had; standard error says which
+  4  out of memory, or input or output failed, or a node had no place for a reader; standard error says which
   64 these words are not understood, or a text as this one was asked for
 
 Example: transaction 1 writes 1 to x and commits, and after it transaction 2 reads x. The file run.jsonl:
@@ -64,7 +64,7 @@ const DECIDE_ABOUT: &str = "Says whether any order of the transactions shows the
 const DECIDE_AFTER: &str =
     r#"Where the run is opaque the line has an order that shows it. With a budget the search gives up after
 so many expanded beginnings of orders, and says 'unfinished'; a number up to 1,000,000,000,000. With --cert
-the lines of a certificate follow 'not opaque', for 'opaq verify'.
+the lines of a certificate follow 'not opaque', for 'opaq verify'; it is made without a budget.
 
 Example: opaq decide < run.jsonl, with the file of opaq --help
 

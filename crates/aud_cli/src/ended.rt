@@ -14,7 +14,7 @@ pub enum Cause {
     Input,
     /// The sink failed.
     Output,
-    /// A thread was not to be had.
+    /// A node had no place for a reader. (Where a thread is not to be had, its work is done in turn.)
     Thread,
 }
 
@@ -27,7 +27,7 @@ pub enum Ended {
     NotOpaque,
     /// The search ended before it knew.
     Unfinished,
-    /// The input, the history or the order is refused.
+    /// The input, the history, the order or the certificate is refused.
     Refused,
     Failed(Cause),
 }

@@ -85,8 +85,6 @@ fn answer_verify<A: Allocator>(
 ) -> Result<Said, OutOfMemory>
     ensures { IfOk result (VerifySays (map elsewhere cert.now.lines.items) shape.now.sealed.facts.plan shape.now.sealed.history) }
 {
-    let _within = shape.plan();
-    let _sound = shape.history();
     if check_cert(alloc, shape, cert)? {
         Ok(Said::Verdict(Verdict::NotOpaque))
     } else {

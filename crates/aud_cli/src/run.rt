@@ -123,8 +123,10 @@ fn said_of(alloc: Global, job: &Job, text: &[u8]) -> Result<Said, OutOfMemory>
     }
 }
 
-/// The line that the job says of a text, with its line feed, and how the job ends that says it. It takes memory by the size of
-/// the text.
+/// The line that the job says of a text, with its line feed, and after it the certificate, if that is asked for; and how the job ends
+/// that says it.
+///
+/// It takes memory by the size of the text; a search takes up to about 1 GiB more, and a certificate as much as it is long.
 pub fn line_said(alloc: Global, job: &Job, text: &[u8]) -> Result<(Vec<u8>, Ended), OutOfMemory>
     ensures { IfOk result (λ answer. IsLine job.now text.now answer.0.items answer.1) }
 {
@@ -133,10 +135,10 @@ pub fn line_said(alloc: Global, job: &Job, text: &[u8]) -> Result<(Vec<u8>, Ende
     Ok((line, end_of(&said)))
 }
 
-/// Reads all that the source has left, and writes the one line that the job says of it.
+/// Reads all that the source has left, and writes the line that the job says of it, and after it the certificate, if that is asked
+/// for.
 ///
-/// Where it fails a beginning of that line went out, and what was read stays read. It takes memory by the size of the
-/// input.
+/// Where it fails a beginning of that went out, and what was read stays read. It takes memory as `line_said` does.
 pub fn run_lines<R: Source, W: Sink>(
     alloc: Global,
     job: &Job,

@@ -1,7 +1,7 @@
 use Rattle.std.specs.Prelude.{◌≡◌}
 use Rattle.aud_order.specs.Shapes.{objects_of, history_of}
 use Rattle.aud_accept.proofs.Lines.{Passed}
-use Rattle.aud_accept.proofs.checking.check_cert.Given as goal
+use Rattle.aud_accept.proofs.checking.is_accepted.Given as goal
 
 abbrev pub invariant-loop-line : goal.invariant-loop-line
 invariant-loop-line g l = record {
