@@ -110,6 +110,6 @@ def spelled(value):
 
 
 def ask(program, words, text):
-    """What opaq answers: its exit status, and its line."""
-    answer = subprocess.run([program, *words], input=text.encode(), stdout=subprocess.PIPE, stderr=subprocess.PIPE)
+    """What opaq answers of a text in bytes: its exit status, and its line."""
+    answer = subprocess.run([program, *words], input=text, stdout=subprocess.PIPE, stderr=subprocess.PIPE)
     return answer.returncode, (answer.stdout or answer.stderr).decode().rstrip("\n")

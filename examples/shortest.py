@@ -7,18 +7,24 @@ order explains any more: that record's transaction got an answer, or an end, tha
 
 A run that is opaque may have a beginning that is not, where a transaction read what another one had written and not yet asked to
 commit. So each beginning is tried, the shorter first. Only those are tried that end with an answer, a commit or an abort, since no
-other event takes an order away. With --quick the run is halved instead: that finds a beginning that is not opaque and is opaque
-without its last record, in few steps, and perhaps not the shortest one; it asks of a run that is not opaque itself.
+other event takes an order away. A run that is not opaque itself is halved first: that finds, in few steps, a beginning that is not opaque
+and is opaque without its last record, perhaps not the shortest one, and only shorter ones are tried then. With --quick none are.
 
-It prints what it found, and ends with status 1 where some beginning is not opaque, 0 where none is, and 3 where opaq refuses
-the run.
+It prints what it found, and ends with status 1 where some beginning is not opaque, 0 where none is, 3 where opaq refuses the run, 4 where
+something failed, and 64 where these words are not understood.
 """
 
 import sys
 
 import recorded
 
-OPAQUE, NOT_OPAQUE = 0, 1
+OPAQUE, NOT_OPAQUE, REFUSED, FAILED, USAGE = 0, 1, 3, 4, 64
+
+
+def fail(status, said):
+    """Ends the script."""
+    print(f"shortest.py: {said}", file=sys.stderr)
+    sys.exit(status)
 
 
 def ends_of_interest(run):
@@ -27,9 +33,9 @@ def ends_of_interest(run):
 
 
 def is_not_opaque(program, run, count):
-    status, line = recorded.ask(program, ["decide"], run.beginning(count).text())
+    status, line = recorded.ask(program, ["decide"], run.beginning(count).text().encode())
     if status not in (OPAQUE, NOT_OPAQUE):
-        sys.exit(f"the first {count} records: {line}")
+        fail(FAILED, f"the first {count} records: {line}")
     return status == NOT_OPAQUE
 
 
@@ -61,28 +67,30 @@ def main(words):
     quick = "--quick" in words
     words = [word for word in words if word != "--quick"]
     if len(words) not in (2, 3):
-        sys.exit("usage: shortest.py [--quick] OPAQ RUN [OUT]")
+        fail(USAGE, "the words are [--quick] OPAQ RUN [OUT]")
     program, name = words[:2]
     try:
-        with open(name, encoding="utf-8") as file:
+        with open(name, "rb") as file:
             text = file.read()
         status, line = recorded.ask(program, ["decide"], text)
     except OSError as error:
-        sys.exit(f"shortest.py: {error.filename}: {error.strerror}")
-    if status not in (OPAQUE, NOT_OPAQUE):
+        fail(FAILED, f"{error.filename}: {error.strerror}")
+    if status == REFUSED:
         print(line)
-        return 3
-    run = recorded.read(text)
+        return REFUSED
+    if status not in (OPAQUE, NOT_OPAQUE):
+        fail(FAILED, line)
+    run = recorded.read(text.decode())
     count = shortest(program, run, status == OPAQUE, quick)
     if count is None:
         print(f"{line}; no shorter beginning that is not opaque was found" if quick else "opaque, and each beginning is")
-        return 0
+        return OPAQUE
     last = run.records[count - 1]
     print(f"not opaque: the first {count} of {len(run.records)} records, up to stamp {last['stamp']}, where {recorded.said(last)}")
     if len(words) == 3:
         with open(words[2], "w", encoding="utf-8") as file:
             file.write(run.beginning(count).text())
-    return 1
+    return NOT_OPAQUE
 
 
 if __name__ == "__main__":
