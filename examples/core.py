@@ -1,0 +1,400 @@
+#!/usr/bin/env python3
+"""Finds the core of a recorded run that is not opaque, a smallest run that still is not: core.py [--budget N] OPAQ RUN [OUT].
+
+OPAQ is the built program and RUN a file that it reads. Parts of the run are left out, many at once, then halves of them and so on down to
+single ones, and opaq decides what is left. A part stays out only where the rest is not opaque. No part can be left out any more at the end.
+
+Every order that shows a run opaque shows what is left of it, too: docs/STORY.md says why, part by part. So where the core is not opaque, the
+run is not, for the reason that the core has.
+
+The core is printed as a table in the order of its stamps. Transactions and objects keep their names; stamps, places and logs are numbered anew,
+and the table has the old numbers beside the new ones. The core goes to the file OUT, as a run that opaq reads.
+
+A question that takes opaq more than N expanded beginnings of orders (20,000) is given up, and the part stays.
+
+The exit status is 1 where a core was found, 0 where the run is opaque, 2 where opaq gives up on the whole run, 3 where it refuses the run, 4
+where something failed, and 64 where these words are not understood.
+"""
+
+import bisect
+import sys
+
+import recorded
+
+OPAQUE, NOT_OPAQUE, UNFINISHED, REFUSED, FAILED, USAGE = 0, 1, 2, 3, 4, 64
+OBSERVING = ("read", "get", "contains")
+COUNTING = {"inc": 1, "dec": -1}
+OPENING_MOST = 1 << 62
+TRIED_FIRST = ("counter", "queue", "set", "register")
+
+
+class Body:
+    """A transaction: its first stamp in the run, its answered operations, and the records of its end."""
+
+    def __init__(self, number, start, calls, ends):
+        self.number = number
+        self.start = start
+        self.calls = calls
+        self.ends = ends
+
+    @property
+    def end(self):
+        """What it came to: 'commit', 'abort', 'tryc' where it has asked to commit and has no answer, or 'live'."""
+        return self.ends[-1]["ev"] if self.ends else "live"
+
+    @property
+    def may_commit(self):
+        return self.end in ("commit", "tryc")
+
+    @property
+    def finish(self):
+        """The stamp of its commit or abort, or None."""
+        return self.ends[-1]["stamp"] if self.end in ("commit", "abort") else None
+
+    @property
+    def is_silent(self):
+        """Whether no other transaction can see it."""
+        return not self.may_commit or all(call["op"] in OBSERVING for call, _ in self.calls)
+
+    def kept(self, keeps):
+        """The transaction with those of its operations, and the same end."""
+        return Body(self.number, self.start, [it for it in self.calls if keeps(it)], self.ends)
+
+    def records(self):
+        return [record for call in self.calls for record in call] + self.ends
+
+
+class Part:
+    """What is left of a run: objects, and transactions that have operations."""
+
+    def __init__(self, objects, bodies):
+        self.bodies = [body for body in bodies if body.calls]
+        used = {call["ob"] for body in self.bodies for call, _ in body.calls}
+        self.objects = [it for it in objects if it["name"] in used]
+
+    def kept(self, keeps):
+        """The part with those operations."""
+        return Part(self.objects, [body.kept(keeps) for body in self.bodies])
+
+    def calls(self):
+        return [(body, call, answer) for body in self.bodies for call, answer in body.calls]
+
+    def placed(self):
+        """The records, each with the stamp at whose place it stands. The first record that is left of a transaction stands at the
+        transaction's first stamp, where some other one ended in between: so no transaction comes to begin after the end of another one."""
+        finishes = sorted(body.finish for body in self.bodies if body.finish is not None)
+        found = []
+        for body in self.bodies:
+            records = body.records()
+            own = records[0]["stamp"]
+            has_between = bisect.bisect(finishes, body.start) < bisect.bisect(finishes, own)
+            found.append((body.start if has_between else own, records[0]))
+            found += [(record["stamp"], record) for record in records[1:]]
+        return sorted(found, key=lambda it: it[0])
+
+    def text(self):
+        """The part as a run that opaq reads."""
+        logs, lines = {}, []
+        for stamp, (_, record) in enumerate(self.placed()):
+            log, places = logs.setdefault(record["log"], (len(logs), []))
+            lines.append(spelled(record, len(places), log, stamp))
+            places.append(stamp)
+        marks = [recorded.line(end=len(places), log=log) for log, places in logs.values()] or [recorded.line(end=0, log=0)]
+        header = recorded.line(format=1, logs=max(1, len(logs)), objects=len(self.objects))
+        return "\n".join([header, *(recorded.line(**it) for it in self.objects), *lines, *marks]) + "\n"
+
+
+def spelled(record, place, log, stamp):
+    """A record with numbers anew. Its other words are spelled once."""
+    if "words" not in record:
+        rest = {key: record[key] for key in ("ob", "op") if key in record}
+        first = {key: record[key] for key in ("ans", "arg") if key in record}
+        opening, between = (recorded.line(**it)[1:-1] + "," if it else "" for it in (first, rest))
+        record["words"] = (f'{{{opening}"at":', f',"ev":"{record["ev"]}","log":', f',{between}"stamp":', f',"tx":{record["tx"]}}}')
+    at, event, more, tail = record["words"]
+    return f"{at}{place}{event}{log}{more}{stamp}{tail}"
+
+
+def part_of(run):
+    """The whole run, without operations that have no answer: those ask for nothing and change nothing."""
+    bodies = []
+    for it in run.transactions().values():
+        calls = [(call, answer) for call, answer in it.calls() if answer]
+        ends = [record for record in it.records if record["ev"] in ("tryc", "trya", "commit", "abort")]
+        if len(ends) == 1 and ends[0]["ev"] == "abort":
+            ends = [{key: it.records[-2][key] for key in ("log", "stamp", "tx")} | {"ev": "trya"}, *ends]
+        bodies.append(Body(it.number, it.first, calls, ends))
+    return Part(run.objects, bodies)
+
+
+def is_counting(call):
+    return call["op"] in COUNTING
+
+
+def beginning(part, stamp):
+    """What was answered up to that stamp, and of what was answered later the changes that such an answer may rest on: writes of a value that was
+    read, all changes of a set or queue that are of a value that was met there, all counting where the count was asked for."""
+    early = [(call, answer) for _, call, answer in part.calls() if answer["stamp"] <= stamp]
+    met = {thing_of(call, answer) for call, answer in early if call["op"] != "write" and not is_counting(call)}
+    return part.kept(lambda it: it[1]["stamp"] <= stamp or not changes_nothing(*it) and thing_of(*it) in met)
+
+
+def without_transactions(part, numbers):
+    return Part(part.objects, [body for body in part.bodies if body.number not in numbers])
+
+
+def without_objects(part, names):
+    return part.kept(lambda it: it[0]["ob"] not in names)
+
+
+def thing_of(call, answer):
+    """What an operation is about: a value of a register, a set or a queue, or a counter."""
+    if "arg" in call:
+        return call["ob"], call["arg"]
+    return call["ob"], None if is_counting(call) or call["op"] == "get" else answer["ans"]
+
+
+def without_things(part, things):
+    """Leaves out values of objects: all that wrote, read, put in, took out or asked for one of them."""
+    return part.kept(lambda it: thing_of(*it) not in things)
+
+
+def without_ends(part, numbers):
+    """Has these transactions not end. No other one sees them, so it is the same whether they commit."""
+    return Part(part.objects, [Body(it.number, it.start, it.calls, []) if it.number in numbers else it for it in part.bodies])
+
+
+def without_calls(part, stamps):
+    return part.kept(lambda it: it[0]["stamp"] not in stamps)
+
+
+def changes_nothing(call, answer):
+    """Whether the operation leaves its object as it is, by what it is or by its answer."""
+    return call["op"] in OBSERVING or answer["ans"] is False or answer["ans"] == "empty"
+
+
+def is_written_over(body, place):
+    """Whether the transaction itself writes the register again, and does not read it between."""
+    name = body.calls[place][0]["ob"]
+    return next((call["op"] == "write" for call, _ in body.calls[place + 1 :] if call["ob"] == name), False)
+
+
+def spare_calls(part):
+    """The invocations' stamps of the operations that may be left out, each whatever becomes of the others."""
+    read = {(call["ob"], answer["ans"]) for _, call, answer in part.calls() if call["op"] == "read"}
+    found = []
+    for body in part.bodies:
+        last = {call["ob"]: call for call, _ in body.calls}
+        for place, (call, answer) in enumerate(body.calls):
+            is_unseen = call["op"] == "write" and ((call["ob"], call["arg"]) not in read or is_written_over(body, place))
+            is_last = not body.may_commit and last[call["ob"]] is call
+            if changes_nothing(call, answer) or is_unseen or is_last:
+                found.append(call["stamp"])
+    return found
+
+
+def counted(part):
+    """Has each counter open at what transactions before all that get it left, and leaves their counting out."""
+    objects, gone = [], set()
+    for it in part.objects:
+        if it["kind"] == "counter":
+            stamps, more = counted_before(part, it["name"])
+            if abs(it["open"] + more) <= OPENING_MOST:
+                it = it | {"open": it["open"] + more}
+                gone |= stamps
+        objects.append(it)
+    return without_calls(Part(objects, part.bodies), gone)
+
+
+def counted_before(part, name):
+    """The counting on a counter that comes before every `get`, whatever the order: by its stamps, and what it comes to."""
+    bodies = [(body, [call for call, _ in body.calls if call["ob"] == name]) for body in part.bodies]
+    bodies = [(body, calls) for body, calls in bodies if calls]
+    first = min((body.start for body, calls in bodies if any(it["op"] == "get" for it in calls)), default=None)
+    if first is None:
+        return set(), 0
+    calls = [it for body, calls in bodies if body.end == "commit" and body.finish < first for it in calls]
+    if len(bodies) == 1:
+        own = bodies[0][1]
+        calls = own[: next(at for at, it in enumerate(own) if it["op"] == "get")]
+    return {it["stamp"] for it in calls}, sum(COUNTING[it["op"]] for it in calls)
+
+
+def pauses(part, thing):
+    """The first stamps of transactions on a thing, before which all that began earlier on it had ended, the first one aside."""
+    bodies = sorted((body for body in part.bodies if any(thing_of(*it) == thing for it in body.calls)), key=lambda body: body.start)
+    for at in range(1, len(bodies)):
+        if all(body.finish is not None and body.finish < bodies[at].start for body in bodies[:at]):
+            yield bodies[at].start
+
+
+def without_late(part, thing, start):
+    """Leaves out what transactions did with a thing that began at that stamp or later."""
+    late = {body.number for body in part.bodies if body.start >= start}
+    stamps = {call["stamp"] for body, call, answer in part.calls() if body.number in late and thing_of(call, answer) == thing}
+    return without_calls(part, stamps)
+
+
+class Search:
+    """The least part that was found not to be opaque, and how often opaq was asked."""
+
+    def __init__(self, program, budget, part):
+        self.program = program
+        self.budget = budget
+        self.part = part
+        self.asked = 0
+        self.given_up = 0
+        self.cut_at = None
+
+    def is_not_opaque(self, part):
+        self.asked += 1
+        status, line = recorded.ask(self.program, ["decide", "--budget", str(self.budget)], part.text().encode())
+        if status not in (OPAQUE, NOT_OPAQUE, UNFINISHED):
+            fail(FAILED, f"a part of the run: {line}")
+        self.given_up += status == UNFINISHED
+        return status == NOT_OPAQUE
+
+    def takes(self, part):
+        """Goes on with the part, where it is not opaque."""
+        is_taken = self.is_not_opaque(part)
+        if is_taken:
+            self.part = part
+        return is_taken
+
+    def leave_out(self, without, parts):
+        """Leaves out what it can: all of it, or else of one half and then of the other."""
+        smaller = without(self.part, set(parts))
+        if size(smaller) == size(self.part) or self.takes(smaller) or len(parts) == 1:
+            return
+        middle = len(parts) // 2
+        self.leave_out(without, parts[:middle])
+        self.leave_out(without, parts[middle:])
+
+    def cut(self):
+        """Leaves out what came after the first answer with which it is not opaque."""
+        whole = self.part
+        stamps = sorted(answer["stamp"] for _, _, answer in whole.calls())
+        below, above = -1, len(stamps) - 1
+        while above - below > 1:
+            middle = (below + above) // 2
+            if self.takes(beginning(whole, stamps[middle])):
+                above = middle
+            else:
+                below = middle
+        self.cut_at = stamps[above]
+
+    def leave_out_late(self):
+        """Leaves out of each thing what came after all others of it were over, as much as it can."""
+        for thing in sorted({thing_of(call, answer) for _, call, answer in self.part.calls()}, key=str):
+            for starts in pauses(self.part, thing):
+                smaller = without_late(self.part, thing, starts)
+                if size(smaller) < size(self.part) and self.takes(smaller):
+                    break
+
+    def lessen(self):
+        """Tries every kind of part once."""
+        by_kind = sorted(self.part.objects, key=lambda it: TRIED_FIRST.index(it["kind"]))
+        self.leave_out(without_objects, [it["name"] for it in by_kind])
+        self.cut()
+        self.leave_out(without_transactions, [body.number for body in self.part.bodies if body.is_silent])
+        self.leave_out(without_things, sorted({thing_of(call, answer) for _, call, answer in self.part.calls()}, key=str))
+        self.leave_out(without_calls, spare_calls(self.part))
+        self.leave_out_late()
+        self.leave_out(without_ends, [body.number for body in self.part.bodies if body.is_silent and body.ends])
+        fewer = counted(self.part)
+        if size(fewer) < size(self.part):
+            self.takes(fewer)
+
+    def finish(self):
+        """Tries all parts from the front until none goes."""
+        before = None
+        while before != size(self.part):
+            before = size(self.part)
+            self.lessen()
+
+
+def size(part):
+    return sum(len(body.records()) for body in part.bodies)
+
+
+def core_of(program, budget, run):
+    """The search that ended with a core of the run's first fault. Some core is soon found; where the run is not opaque without what came
+    from the core's last answer on, that is searched again."""
+    whole = part_of(run)
+    while True:
+        search = Search(program, budget, whole)
+        search.finish()
+        shorter = beginning(whole, search.cut_at - 1)
+        if not search.is_not_opaque(shorter):
+            return search
+        whole = shorter
+
+
+def table(part):
+    """The records in the order of their stamps, with the old numbers."""
+    logs = {}
+    yield "stamp  of run  log  of run"
+    for new, (_, record) in enumerate(part.placed()):
+        log = logs.setdefault(record["log"], len(logs))
+        yield f"{new:5}  {record['stamp']:6}  {log:3}  {record['log']:6}  {recorded.said(record)}"
+
+
+def openings(run, part):
+    """What is said of counters that open at another number than in the run."""
+    old = {it["name"]: it.get("open") for it in run.objects}
+    for it in part.objects:
+        if it.get("open") != old[it["name"]]:
+            yield f"{it['name']} opens at {it['open']}, not at {old[it['name']]}: what was counted before every get of it is left out"
+
+
+def tell(run, search):
+    part = search.part
+    transactions = len({record["tx"] for record in run.records})
+    print(f"not opaque: {len(part.bodies)} of {transactions} transactions, {size(part)} of {len(run.records)} records")
+    for line in [*table(part), *openings(run, part)]:
+        print(line)
+    if search.given_up:
+        print(f"perhaps not the smallest: opaq gave up on {search.given_up} of {search.asked} questions")
+
+
+def fail(status, said):
+    """Ends the script."""
+    print(f"core.py: {said}", file=sys.stderr)
+    sys.exit(status)
+
+
+def words_of(words):
+    """The budget and the names of files."""
+    budget = 20000
+    if words[:1] == ["--budget"] and len(words) > 1 and words[1].isascii() and words[1].isdigit():
+        budget, words = int(words[1]), words[2:]
+    if len(words) not in (2, 3) or words[0].startswith("-"):
+        fail(USAGE, "the words are [--budget N] OPAQ RUN [OUT]")
+    return budget, words
+
+
+def main(words):
+    budget, words = words_of(words)
+    program, name = words[:2]
+    try:
+        with open(name, "rb") as file:
+            text = file.read()
+        status, line = recorded.ask(program, ["decide", "--budget", str(budget)], text)
+        if status in (OPAQUE, UNFINISHED, REFUSED):
+            print(line)
+            return status
+        if status != NOT_OPAQUE:
+            fail(FAILED, line)
+        run = recorded.read(text.decode())
+        search = core_of(program, budget, run)
+        tell(run, search)
+        if len(words) == 3:
+            with open(words[2], "w", encoding="utf-8") as file:
+                file.write(search.part.text())
+    except OSError as error:
+        fail(FAILED, f"{error.filename}: {error.strerror}")
+    return NOT_OPAQUE
+
+
+if __name__ == "__main__":
+    sys.exit(main(sys.argv[1:]))
