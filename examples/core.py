@@ -1,5 +1,5 @@
 #!/usr/bin/env python3
-"""Finds the core of a recorded run that is not opaque, a smallest run that still is not: core.py [--budget N] OPAQ RUN [OUT].
+"""Finds the core of a recorded run that is not opaque, a smallest run that still is not: core.py [--budget N] [--most M] OPAQ RUN [OUT].
 
 OPAQ is the built program and RUN a file that it reads. Parts of the run are left out, many at once, then halves of them and so on down to
 single ones, and opaq decides what is left. A part stays out only where the rest is not opaque. No part can be left out any more at the end.
@@ -10,13 +10,16 @@ run is not, for the reason that the core has.
 The core is printed as a table in the order of its stamps. Transactions and objects keep their names; stamps, places and logs are numbered anew,
 and the table has the old numbers beside the new ones. The core goes to the file OUT, as a run that opaq reads.
 
-A question that takes opaq more than N expanded beginnings of orders (20,000) is given up, and the part stays.
+A question that takes opaq more than N expanded beginnings of orders (20,000) is given up, and the part stays. When opaq was asked about more
+than M records in all (5,000,000, less than a minute) no more is left out. Where that happened it is said: the core may not be a smallest one.
 
 The exit status is 1 where a core was found, 0 where the run is opaque, 2 where opaq gives up on the whole run, 3 where it refuses the run, 4
 where something failed, and 64 where these words are not understood.
 """
 
 import bisect
+import gc
+import json
 import sys
 
 import recorded
@@ -25,6 +28,7 @@ OPAQUE, NOT_OPAQUE, UNFINISHED, REFUSED, FAILED, USAGE = 0, 1, 2, 3, 4, 64
 OBSERVING = ("read", "get", "contains")
 COUNTING = {"inc": 1, "dec": -1}
 OPENING_MOST = 1 << 62
+CUT_FIRST = 20_000
 TRIED_FIRST = ("counter", "queue", "set", "register")
 
 
@@ -107,12 +111,15 @@ class Part:
 def spelled(record, place, log, stamp):
     """A record with numbers anew. Its other words are spelled once."""
     if "words" not in record:
-        rest = {key: record[key] for key in ("ob", "op") if key in record}
-        first = {key: record[key] for key in ("ans", "arg") if key in record}
-        opening, between = (recorded.line(**it)[1:-1] + "," if it else "" for it in (first, rest))
-        record["words"] = (f'{{{opening}"at":', f',"ev":"{record["ev"]}","log":', f',{between}"stamp":', f',"tx":{record["tx"]}}}')
+        given = "".join(f'"{key}":{value_text(record[key])},' for key in ("ans", "arg") if key in record)
+        called = f'"ob":"{record["ob"]}","op":"{record["op"]}",' if "op" in record else ""
+        record["words"] = (f'{{{given}"at":', f',"ev":"{record["ev"]}","log":', f',{called}"stamp":', f',"tx":{record["tx"]}}}')
     at, event, more, tail = record["words"]
     return f"{at}{place}{event}{log}{more}{stamp}{tail}"
+
+
+def value_text(value):
+    return str(value) if type(value) is int else json.dumps(value)
 
 
 def part_of(run):
@@ -238,15 +245,18 @@ def without_late(part, thing, start):
 class Search:
     """The least part that was found not to be opaque, and how often opaq was asked."""
 
-    def __init__(self, program, budget, part):
+    def __init__(self, program, budget, most, part):
         self.program = program
         self.budget = budget
+        self.left = most
         self.part = part
         self.asked = 0
         self.given_up = 0
-        self.cut_at = None
 
     def is_not_opaque(self, part):
+        self.left -= size(part)
+        if self.left < 0:
+            return False
         self.asked += 1
         status, line = recorded.ask(self.program, ["decide", "--budget", str(self.budget)], part.text().encode())
         if status not in (OPAQUE, NOT_OPAQUE, UNFINISHED):
@@ -281,7 +291,6 @@ class Search:
                 above = middle
             else:
                 below = middle
-        self.cut_at = stamps[above]
 
     def leave_out_late(self):
         """Leaves out of each thing what came after all others of it were over, as much as it can."""
@@ -308,7 +317,7 @@ class Search:
     def finish(self):
         """Tries all parts from the front until none goes."""
         before = None
-        while before != size(self.part):
+        while before != size(self.part) and self.left >= 0:
             before = size(self.part)
             self.lessen()
 
@@ -317,17 +326,13 @@ def size(part):
     return sum(len(body.records()) for body in part.bodies)
 
 
-def core_of(program, budget, run):
-    """The search that ended with a core of the run's first fault. Some core is soon found; where the run is not opaque without what came
-    from the core's last answer on, that is searched again."""
-    whole = part_of(run)
-    while True:
-        search = Search(program, budget, whole)
-        search.finish()
-        shorter = beginning(whole, search.cut_at - 1)
-        if not search.is_not_opaque(shorter):
-            return search
-        whole = shorter
+def core_of(program, budget, most, run):
+    """The search that ended with a core. Of a run that is not too long for it the core is of its first fault: it is cut before all else."""
+    search = Search(program, budget, most, part_of(run))
+    if size(search.part) <= CUT_FIRST:
+        search.cut()
+    search.finish()
+    return search
 
 
 def table(part):
@@ -354,7 +359,9 @@ def tell(run, search):
     for line in [*table(part), *openings(run, part)]:
         print(line)
     if search.given_up:
-        print(f"perhaps not the smallest: opaq gave up on {search.given_up} of {search.asked} questions")
+        print(f"perhaps not a smallest one: opaq gave up on {search.given_up} of {search.asked} questions")
+    if search.left < 0:
+        print("perhaps not a smallest one: opaq was asked about too many records, see --most")
 
 
 def fail(status, said):
@@ -364,17 +371,18 @@ def fail(status, said):
 
 
 def words_of(words):
-    """The budget and the names of files."""
-    budget = 20000
-    if words[:1] == ["--budget"] and len(words) > 1 and words[1].isascii() and words[1].isdigit():
-        budget, words = int(words[1]), words[2:]
+    """The numbers that options give, and the names of files."""
+    given = {"--budget": 20_000, "--most": 5_000_000}
+    while len(words) > 1 and words[0] in given and words[1].isascii() and words[1].isdigit():
+        given[words[0]], words = int(words[1]), words[2:]
     if len(words) not in (2, 3) or words[0].startswith("-"):
-        fail(USAGE, "the words are [--budget N] OPAQ RUN [OUT]")
-    return budget, words
+        fail(USAGE, "the words are [--budget N] [--most M] OPAQ RUN [OUT]")
+    return given["--budget"], given["--most"], words
 
 
 def main(words):
-    budget, words = words_of(words)
+    gc.disable()  # a run of full size is a million small things, none of which goes
+    budget, most, words = words_of(words)
     program, name = words[:2]
     try:
         with open(name, "rb") as file:
@@ -386,7 +394,7 @@ def main(words):
         if status != NOT_OPAQUE:
             fail(FAILED, line)
         run = recorded.read(text.decode())
-        search = core_of(program, budget, run)
+        search = core_of(program, budget, most, run)
         tell(run, search)
         if len(words) == 3:
             with open(words[2], "w", encoding="utf-8") as file:

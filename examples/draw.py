@@ -1,5 +1,5 @@
 #!/usr/bin/env python3
-"""Draws a recorded run as an SVG picture: draw.py [--order TEXT] [--beginning N] [--fault TX] [--title TEXT] < RUN > PICTURE.
+"""Draws a recorded run as an SVG picture: draw.py [--order TEXT] [--beginning N] [--fault TX] [--story] [--step PIXELS] [--title TEXT] < RUN > PICTURE.
 
 A row is a log, that is a thread, and time goes to the right by stamps. A bar is a transaction from its first record to its last:
 green where it committed, orange where it aborted, grey where it is live, and open at its end then. The dark parts of a bar are its
@@ -8,39 +8,50 @@ pointer that rests on a bar shows them.
 
 With --order the serial order stands below, and each bar has its place in it. With --beginning the line after the first N records is
 drawn, as shortest.py finds it, and the transaction of the Nth record is framed in red; with --fault that of any number.
+
+With --story the sentences of story.py stand below, where it has a story, and the transactions that it is about are framed in red; the others
+are white. So a core is drawn, as core.py writes it.
+
+A run of hundreds of transactions is drawn too, as a wide picture to scroll, a row for each log. --step says how wide a stamp is: from 1 pixel to
+84, and from 26 on there are words.
+
+The exit status is 0 where something was drawn, 3 where the input is no run, and 64 where these words are not understood.
 """
 
 import argparse
 import sys
+import textwrap
 from xml.sax.saxutils import escape
 
 import recorded
+import story
 
 COLOURS = {"committed": "#8fce9b", "aborted": "#f4b27a", "live": "#c9ced6"}
-INK, FAULT = "#1f2933", "#d1242f"
+INK, FAULT, PALE = "#1f2933", "#d1242f", "#ffffff"
 LEFT, TOP, LANE, BAR = 70, 78, 78, 22
+WORDS_FROM, LETTER, LABELS_EVERY = 26, 0.6, 1200
+REFUSED, USAGE = 3, 64
 FATES = {"c": "committed", "a": "aborted"}
 
 
 class Picture:
     """The scale of a picture, and what was drawn so far."""
 
-    def __init__(self, run):
+    def __init__(self, run, step=None):
         self.first = run.records[0]["stamp"] if run.records else 0
         last = run.records[-1]["stamp"] if run.records else 0
         self.stamps = last - self.first + 1
-        self.step = max(2.0, min(84.0, 880 / self.stamps))
-        self.has_words = self.step >= 26
+        self.step = step or max(44.0 if self.stamps <= 40 else 6.0, min(84.0, 880 / self.stamps))
+        self.has_words = self.step >= WORDS_FROM
+        self.width = max(420, round(LEFT + self.stamps * self.step + 40))
         self.parts = []
 
     def x(self, stamp):
         return LEFT + (stamp - self.first + 0.5) * self.step
 
-    @property
-    def width(self):
-        return max(420, round(LEFT + self.stamps * self.step + 40))
-
     def text(self, x, y, words, size=12, anchor="middle", colour=INK, weight="normal"):
+        right = {"start": 1.0, "middle": 0.5, "end": 0.0}[anchor] * len(words) * size * LETTER
+        self.width = max(self.width, round(x + right) + 6)
         self.parts.append(
             f'<text x="{x:.1f}" y="{y:.1f}" font-size="{size}" text-anchor="{anchor}" fill="{colour}" font-weight="{weight}">{escape(words)}</text>'
         )
@@ -104,19 +115,20 @@ def draw_end(picture, it, y):
         picture.text(x + 10, y + 15, "C" if it.end == "committed" else "A", 12, weight="bold")
 
 
-def draw_transaction(picture, it, y, place, is_at_fault):
+def draw_transaction(picture, it, y, place, is_at_fault, is_pale):
     start, end = picture.x(it.first), picture.x(it.last)
     reach = max(3.0, end - start)
     words = "; ".join(recorded.said(record) for record in it.records)
     picture.parts.append(f"<g><title>{escape(words)}</title>")
     frame = 'rx="4" stroke-width="2.5"' if is_at_fault else 'rx="4" stroke-width="0.7"'
-    picture.box(start - 4, y, reach + 8, BAR, COLOURS[it.end], FAULT if is_at_fault else INK, frame)
+    picture.box(start - 4, y, reach + 8, BAR, PALE if is_pale else COLOURS[it.end], FAULT if is_at_fault else INK, frame)
     draw_calls(picture, it, y)
     draw_end(picture, it, y)
     if picture.has_words:
         tail = f", {place} in the order" if place else ""
         colour = FAULT if is_at_fault else INK
-        picture.text(start - 2, y - 22, f"transaction {it.number}, {it.end}{tail}", 12, "start", colour, "bold")
+        label = "transaction " if picture.step >= 44 else ""
+        picture.text(start - 2, y - 22, f"{label}{it.number}, {it.end}{tail}", 12, "start", colour, "bold")
     elif is_at_fault:
         picture.text(start + reach / 2, y - 18, f"transaction {it.number}", 12, colour=FAULT, weight="bold")
     elif reach >= 9 * len(str(it.number)):
@@ -125,7 +137,7 @@ def draw_transaction(picture, it, y, place, is_at_fault):
 
 
 def draw_stamps(picture, y):
-    every = next(it for it in (1, 2, 5, 10, 20, 50, 100, 200, 500, 1000, 10**6) if it * picture.step >= 26)
+    every = next(it for it in (1, 2, 5, 10, 20, 50, 100, 200, 500, 1000, 10**6) if it * picture.step >= 9 * len(str(picture.first + picture.stamps)))
     picture.line(LEFT, y, picture.x(picture.first + picture.stamps - 1) + 10, y)
     picture.text(LEFT - 8, y + 16, "stamp", 11, "end")
     for stamp in range(picture.first, picture.first + picture.stamps):
@@ -148,19 +160,32 @@ def draw_order(picture, order, y):
     return y + 28
 
 
-def drawn(run, order=(), beginning=None, fault=None, title=None):
+def draw_story(picture, lines, y):
+    """The sentences of a story, each in as many lines as it takes; the bottom of what was drawn."""
+    for line in lines:
+        for at, part in enumerate(textwrap.wrap(line, int((picture.width - 30) / (12 * LETTER)), subsequent_indent="    ")):
+            picture.text(LEFT - 60 + (18 if at else 0), y + 15, part.strip(), 12, "start")
+            y += 18
+    return y + 14
+
+
+def draw_labels(picture, first):
+    """The logs' names, again and again where the picture is wide."""
+    for log, lane in first.items():
+        for x in range(LEFT - 8, max(LEFT, picture.width - 200), LABELS_EVERY):
+            picture.text(x, TOP + lane * LANE + (15 if x < LEFT else -34), f"log {log}", 12, "end" if x < LEFT else "start")
+
+
+def drawn(run, order=(), beginning=None, faults=(), title=None, sentences=(), step=None):
     """The picture of a run."""
-    picture = Picture(run)
+    picture = Picture(run, step)
     lanes, first, count = lanes_of(run)
-    if beginning:
-        fault = run.records[beginning - 1]["tx"] if fault is None else fault
     if title:
         picture.text(LEFT - 60, 20, title, 14, "start", weight="bold")
-    for log, lane in first.items():
-        picture.text(LEFT - 8, TOP + lane * LANE + 15, f"log {log}", 12, "end")
+    draw_labels(picture, first)
     places = {int(word[:-1]): f"no. {place}" for place, word in enumerate(order, 1)}
     for tx, it in run.transactions().items():
-        draw_transaction(picture, it, TOP + lanes[tx] * LANE, places.get(tx), tx == fault)
+        draw_transaction(picture, it, TOP + lanes[tx] * LANE, places.get(tx), tx in faults, bool(sentences) and tx not in faults)
     bottom = TOP + count * LANE - 14
     draw_stamps(picture, bottom)
     if beginning:
@@ -170,25 +195,58 @@ def drawn(run, order=(), beginning=None, fault=None, title=None):
     bottom += 30
     if order:
         bottom = draw_order(picture, order, bottom)
-    return picture.svg(bottom)
+    return picture.svg(draw_story(picture, sentences, bottom) if sentences else bottom)
 
 
-def main():
-    asked = argparse.ArgumentParser(description=__doc__, formatter_class=argparse.RawDescriptionHelpFormatter)
+def step_of(word):
+    if not (word.isascii() and word.isdigit() and 1 <= int(word) <= 84):
+        raise argparse.ArgumentTypeError("a step is from 1 to 84 pixels")
+    return float(word)
+
+
+class Words(argparse.ArgumentParser):
+    """The words of the command line, refused with a status of their own."""
+
+    def error(self, message):
+        fail(USAGE, message)
+
+
+def fail(status, said):
+    """Ends the script."""
+    print(f"draw.py: {said}", file=sys.stderr)
+    sys.exit(status)
+
+
+def words_of(words):
+    asked = Words(description=__doc__, formatter_class=argparse.RawDescriptionHelpFormatter)
     asked.add_argument("--order", default="none")
     asked.add_argument("--beginning", type=int)
     asked.add_argument("--fault", type=int)
+    asked.add_argument("--story", action="store_true")
+    asked.add_argument("--step", type=step_of)
     asked.add_argument("--title")
-    asked = asked.parse_args()
+    return asked.parse_args(words)
+
+
+def faults_of(run, asked):
+    """The transactions that are framed: what was asked for, or the last one of the beginning."""
+    if asked.fault is not None:
+        return {asked.fault}
+    return {run.records[asked.beginning - 1]["tx"]} if asked.beginning else set()
+
+
+def main(words):
+    asked = words_of(words)
     order = [] if asked.order == "none" else asked.order.split()
     try:
         run = recorded.read(sys.stdin.read())
     except (ValueError, KeyError, TypeError):
-        sys.exit("draw.py: this is no run; `opaq decide` says what is wrong with it")
-    if asked.beginning and not 0 < asked.beginning <= len(run.records):
-        sys.exit(f"the run has {len(run.records)} records")
-    sys.stdout.write(drawn(run, order, asked.beginning, asked.fault, asked.title))
+        fail(REFUSED, "this is no run; `opaq decide` says what is wrong with it")
+    if asked.beginning is not None and not 0 < asked.beginning <= len(run.records):
+        fail(USAGE, f"the run has {len(run.records)} records")
+    lines, faults = (story.lines_of(run) if asked.story else None) or ((), faults_of(run, asked))
+    sys.stdout.write(drawn(run, order, asked.beginning, faults, asked.title, lines, asked.step))
 
 
 if __name__ == "__main__":
-    main()
+    main(sys.argv[1:])

@@ -83,7 +83,7 @@ class Run:
 
 def read(text):
     """The run of a text that opaq takes."""
-    header, *rest = [json.loads(it) for it in text.split("\n") if it]
+    header, *rest = json.loads(f"[{','.join(it for it in text.split(chr(10)) if it)}]")
     objects, facts = rest[: header["objects"]], rest[header["objects"] :]
     records = {(it["log"], it["at"]): it for it in facts if "end" not in it}
     ends = {it["log"]: it["end"] for it in facts if "end" in it}
