@@ -10,11 +10,13 @@ run is not, for the reason that the core has.
 The core is printed as a table in the order of its stamps. Transactions and objects keep their names; stamps, places and logs are numbered anew,
 and the table has the old numbers beside the new ones. The core goes to the file OUT, as a run that opaq reads.
 
-A question that takes opaq more than N expanded beginnings of orders (20,000) is given up, and the part stays. When opaq was asked about more
+A question that takes opaq more than N expanded beginnings of orders (10,000) is given up, and the part stays. When opaq was asked about more
 than M records in all (5,000,000, less than a minute) no more is left out. Where that happened it is said: the core may not be a smallest one.
 
-The exit status is 1 where a core was found, 0 where the run is opaque, 2 where opaq gives up on the whole run, 3 where it refuses the run, 4
-where something failed, and 64 where these words are not understood.
+Where opaq gives up on the whole run, each object is tried alone: one that is not opaque shows that the run is not.
+
+The exit status is 1 where a core was found, 0 where the run is opaque, 2 where opaq gives up on the whole run and each object, 3 where it refuses
+the run, 4 where something failed, and 64 where these words are not understood.
 """
 
 import bisect
@@ -252,6 +254,7 @@ class Search:
         self.part = part
         self.asked = 0
         self.given_up = 0
+        self.has_found = False
 
     def is_not_opaque(self, part):
         self.left -= size(part)
@@ -268,7 +271,7 @@ class Search:
         """Goes on with the part, where it is not opaque."""
         is_taken = self.is_not_opaque(part)
         if is_taken:
-            self.part = part
+            self.part, self.has_found = part, True
         return is_taken
 
     def leave_out(self, without, parts):
@@ -279,6 +282,19 @@ class Search:
         middle = len(parts) // 2
         self.leave_out(without, parts[:middle])
         self.leave_out(without, parts[middle:])
+
+    def leave_alone(self):
+        """Looks for an object that alone shows that the run is not opaque. All these questions are as long as one of the whole run."""
+        by_kind = sorted(self.part.objects, key=lambda it: -TRIED_FIRST.index(it["kind"]))
+        calls = {}
+        for body in self.part.bodies:
+            for it in body.calls:
+                calls.setdefault(it[0]["ob"], {}).setdefault(body.number, []).append(it)
+        for it in by_kind if len(by_kind) > 1 else []:
+            own = calls[it["name"]]
+            bodies = [Body(body.number, body.start, own[body.number], body.ends) for body in self.part.bodies if body.number in own]
+            if self.takes(Part([it], bodies)):
+                return
 
     def cut(self):
         """Leaves out what came after the first answer with which it is not opaque."""
@@ -326,12 +342,16 @@ def size(part):
     return sum(len(body.records()) for body in part.bodies)
 
 
-def core_of(program, budget, most, run):
-    """The search that ended with a core. Of a run that is not too long for it the core is of its first fault: it is cut before all else."""
+def core_of(program, budget, most, run, is_known):
+    """The search that ended with a core. Of a run that is known not to be opaque, and not too long for it, the core is of its first fault: it is
+    cut before all else. Of one that is not known `has_found` says at the end whether some part is not opaque."""
     search = Search(program, budget, most, part_of(run))
-    if size(search.part) <= CUT_FIRST:
+    search.has_found = is_known
+    if is_known and size(search.part) <= CUT_FIRST:
         search.cut()
-    search.finish()
+    search.leave_alone()
+    if search.has_found:
+        search.finish()
     return search
 
 
@@ -372,7 +392,7 @@ def fail(status, said):
 
 def words_of(words):
     """The numbers that options give, and the names of files."""
-    given = {"--budget": 20_000, "--most": 5_000_000}
+    given = {"--budget": 10_000, "--most": 5_000_000}
     while len(words) > 1 and words[0] in given and words[1].isascii() and words[1].isdigit():
         given[words[0]], words = int(words[1]), words[2:]
     if len(words) not in (2, 3) or words[0].startswith("-"):
@@ -388,13 +408,16 @@ def main(words):
         with open(name, "rb") as file:
             text = file.read()
         status, line = recorded.ask(program, ["decide", "--budget", str(budget)], text)
-        if status in (OPAQUE, UNFINISHED, REFUSED):
+        if status in (OPAQUE, REFUSED):
             print(line)
             return status
-        if status != NOT_OPAQUE:
+        if status not in (NOT_OPAQUE, UNFINISHED):
             fail(FAILED, line)
         run = recorded.read(text.decode())
-        search = core_of(program, budget, most, run)
+        search = core_of(program, budget, most, run, status == NOT_OPAQUE)
+        if not search.has_found:
+            print(line)
+            return UNFINISHED
         tell(run, search)
         if len(words) == 3:
             with open(words[2], "w", encoding="utf-8") as file:

@@ -182,25 +182,20 @@ class Story:
         sure = [it for it in others if it not in after and known.has_before(it, tx) and known.commits(it)]
         free = [it for it in others if it not in after and it not in sure]
         base = self.opens[name] + own + sum(others[it] for it in sure)
-        most = base + sum(max(0, others[it]) for it in free)
-        least = base + sum(min(0, others[it]) for it in free)
         needs = [("before", tx, it) for it in after] + [need for it in sure for need in (("before", it, tx), ("commits", it))]
-        start = f"transaction {tx} got {count} from {name}"
-        if not least <= count <= most:
-            bound = f"at most {most}" if count > most else f"at least {least}"
-            yield Sentence(("never",), f"{start}, which is {bound} there: {self.counted(name, own, sure, free, others)}", needs)
+        start, of = f"transaction {tx} got {count} from {name}", self.counted(name, own, sure, free, others)
+        if not is_sum(count - base, [others[it] for it in free]):
+            yield Sentence(("never",), f"{start}, {beyond(count, base, [others[it] for it in free])}: {of}", needs)
             return
         for it in free:
-            is_in = count == most and others[it] > 0 or count == least and others[it] < 0
-            is_out = count == most and others[it] < 0 or count == least and others[it] > 0
-            bound = "the most" if count == most else "the least"
-            words = f"{start}, which is {bound} that it can be there: {self.counted(name, own, sure, free, others)}"
-            if is_in and not is_out:
+            rest = [others[other] for other in free if other != it]
+            if not is_sum(count - base, rest):
+                words = f"{start}, which cannot be without {it}: {of}"
                 yield Sentence(("before", it, tx), f"{words}: so {tx} stands after {it}", needs)
                 if it not in self.committed:
                     yield Sentence(("commits", it), f"{words}: so {it}, which asked to commit, commits", needs)
-            elif is_out and not is_in and known.commits(it):
-                yield Sentence(("before", tx, it), f"{words}: so {tx} stands before {it}", [*needs, ("commits", it)])
+            elif not is_sum(count - base - others[it], rest) and known.commits(it):
+                yield Sentence(("before", tx, it), f"{start}, which cannot be with {it}: {of}: so {tx} stands before {it}", [*needs, ("commits", it)])
 
     def counted(self, name, own, sure, free, steps):
         """What a count can be made of, in words."""
@@ -276,6 +271,22 @@ class Story:
 
 
 STEP = {"inc": 1, "dec": -1}
+
+
+def is_sum(wanted, steps):
+    """Whether some of the steps come to the wanted number."""
+    sums = {0}
+    for step in steps:
+        sums |= {it + step for it in sums}
+    return wanted in sums
+
+
+def beyond(count, base, steps):
+    """Where a count is that cannot be."""
+    most, least = base + sum(max(0, it) for it in steps), base + sum(min(0, it) for it in steps)
+    if least <= count <= most:
+        return "to which no choice of those that count comes there"
+    return f"which is at most {most} there" if count > most else f"which is at least {least} there"
 
 
 def do_register(done, call, answer):
