@@ -372,16 +372,17 @@ def openings(run, part):
             yield f"{it['name']} opens at {it['open']}, not at {old[it['name']]}: what was counted before every get of it is left out"
 
 
-def tell(run, search):
+def told(run, search):
+    """What is printed of a core."""
     part = search.part
     transactions = len({record["tx"] for record in run.records})
-    print(f"not opaque: {len(part.bodies)} of {transactions} transactions, {size(part)} of {len(run.records)} records")
-    for line in [*table(part), *openings(run, part)]:
-        print(line)
+    yield f"not opaque: {len(part.bodies)} of {transactions} transactions, {size(part)} of {len(run.records)} records"
+    yield from table(part)
+    yield from openings(run, part)
     if search.given_up:
-        print(f"perhaps not a smallest one: opaq gave up on {search.given_up} of {search.asked} questions")
+        yield f"perhaps not a smallest one: opaq gave up on {search.given_up} of {search.asked} questions"
     if search.left < 0:
-        print("perhaps not a smallest one: opaq was asked about too many records, see --most")
+        yield "perhaps not a smallest one: opaq was asked about too many records, see --most"
 
 
 def fail(status, said):
@@ -418,10 +419,10 @@ def main(words):
         if not search.has_found:
             print(line)
             return UNFINISHED
-        tell(run, search)
         if len(words) == 3:
             with open(words[2], "w", encoding="utf-8") as file:
                 file.write(search.part.text())
+        print("\n".join(told(run, search)))
     except OSError as error:
         fail(FAILED, f"{error.filename}: {error.strerror}")
     return NOT_OPAQUE
