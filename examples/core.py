@@ -11,7 +11,7 @@ The core is printed as a table in the order of its stamps. Transactions and obje
 and the table has the old numbers beside the new ones. The core goes to the file OUT, as a run that opaq reads.
 
 A question that takes opaq more than N expanded beginnings of orders (10,000) is given up, and the part stays. When opaq was asked about more
-than M records in all (5,000,000, less than a minute) no more is left out. Where that happened it is said: the core may not be a smallest one.
+than M records in all (3,000,000, about a minute) no more is left out. Where that happened it is said: the core may not be a smallest one.
 
 Where opaq gives up on the whole run, each object is tried alone: one that is not opaque shows that the run is not.
 
@@ -31,6 +31,7 @@ OBSERVING = ("read", "get", "contains")
 COUNTING = {"inc": 1, "dec": -1}
 OPENING_MOST = 1 << 62
 CUT_FIRST = 20_000
+SOON = 3_000
 TRIED_FIRST = ("counter", "queue", "set", "register")
 
 
@@ -244,6 +245,29 @@ def without_late(part, thing, start):
     return without_calls(part, stamps)
 
 
+def is_undone(part, thing, start):
+    """Whether transactions that began before that stamp put as many of the value into the set or queue as they took out. All of them ended."""
+    if thing[1] is None or any(it["name"] == thing[0] and it["kind"] == "register" for it in part.objects):
+        return False
+    early = [(body, call, answer) for body, call, answer in part.calls() if body.start < start and thing_of(call, answer) == thing]
+    put = sum(body.may_commit for body, call, answer in early if call["op"] == "enq" or call["op"] == "add" and answer["ans"])
+    taken = sum(body.may_commit for body, call, answer in early if call["op"] == "deq" or call["op"] == "remove" and answer["ans"])
+    return put == taken
+
+
+def may_be_late(part, thing, start):
+    """Whether what began on it at that stamp or later may be left out. A queue must not keep what was taken out of it then."""
+    kind = next(it["kind"] for it in part.objects if it["name"] == thing[0])
+    return kind != "queue" or is_undone(part, thing, start)
+
+
+def without_early(part, thing, start):
+    """Leaves out what transactions did with a thing that began before that stamp."""
+    early = {body.number for body in part.bodies if body.start < start}
+    stamps = {call["stamp"] for body, call, answer in part.calls() if body.number in early and thing_of(call, answer) == thing}
+    return without_calls(part, stamps)
+
+
 class Search:
     """The least part that was found not to be opaque, and how often opaq was asked."""
 
@@ -255,6 +279,7 @@ class Search:
         self.asked = 0
         self.given_up = 0
         self.has_found = False
+        self.undone = []
 
     def is_not_opaque(self, part):
         self.left -= size(part)
@@ -311,9 +336,16 @@ class Search:
     def leave_out_late(self):
         """Leaves out of each thing what came after all others of it were over, as much as it can."""
         for thing in sorted({thing_of(call, answer) for _, call, answer in self.part.calls()}, key=str):
-            for starts in pauses(self.part, thing):
-                smaller = without_late(self.part, thing, starts)
-                if size(smaller) < size(self.part) and self.takes(smaller):
+            for start in list(pauses(self.part, thing)):
+                if may_be_late(self.part, thing, start) and self.takes(without_late(self.part, thing, start)):
+                    break
+
+    def leave_out_undone(self):
+        """Leaves out what was put into a set or queue and taken out again before other transactions on it began, as much as it can."""
+        for thing in sorted({thing_of(call, answer) for _, call, answer in self.part.calls()}, key=str):
+            for start in reversed(list(pauses(self.part, thing))):
+                if is_undone(self.part, thing, start) and self.takes(without_early(self.part, thing, start)):
+                    self.undone.append(thing)
                     break
 
     def lessen(self):
@@ -325,6 +357,7 @@ class Search:
         self.leave_out(without_things, sorted({thing_of(call, answer) for _, call, answer in self.part.calls()}, key=str))
         self.leave_out(without_calls, spare_calls(self.part))
         self.leave_out_late()
+        self.leave_out_undone()
         self.leave_out(without_ends, [body.number for body in self.part.bodies if body.is_silent and body.ends])
         fewer = counted(self.part)
         if size(fewer) < size(self.part):
@@ -379,6 +412,8 @@ def told(run, search):
     yield f"not opaque: {len(part.bodies)} of {transactions} transactions, {size(part)} of {len(run.records)} records"
     yield from table(part)
     yield from openings(run, part)
+    for name, value in dict.fromkeys(search.undone):
+        yield f"{value} was put into {name} and taken out again before all this: that is left out"
     if search.given_up:
         yield f"perhaps not a smallest one: opaq gave up on {search.given_up} of {search.asked} questions"
     if search.left < 0:
@@ -393,7 +428,7 @@ def fail(status, said):
 
 def words_of(words):
     """The numbers that options give, and the names of files."""
-    given = {"--budget": 10_000, "--most": 5_000_000}
+    given = {"--budget": 10_000, "--most": 3_000_000}
     while len(words) > 1 and words[0] in given and words[1].isascii() and words[1].isdigit():
         given[words[0]], words = int(words[1]), words[2:]
     if len(words) not in (2, 3) or words[0].startswith("-"):
@@ -408,7 +443,7 @@ def main(words):
     try:
         with open(name, "rb") as file:
             text = file.read()
-        status, line = recorded.ask(program, ["decide", "--budget", str(budget)], text)
+        status, line = recorded.ask(program, ["decide", "--budget", str(min(budget, SOON))], text)
         if status in (OPAQUE, REFUSED):
             print(line)
             return status
@@ -417,8 +452,11 @@ def main(words):
         run = recorded.read(text.decode())
         search = core_of(program, budget, most, run, status == NOT_OPAQUE)
         if not search.has_found:
-            print(line)
-            return UNFINISHED
+            status, line = recorded.ask(program, ["decide", "--budget", str(budget)], text)
+            if status in (OPAQUE, UNFINISHED):
+                print(line)
+                return status
+            search = core_of(program, budget, most, run, True)
         if len(words) == 3:
             with open(words[2], "w", encoding="utf-8") as file:
                 file.write(search.part.text())

@@ -29,7 +29,7 @@ import story
 COLOURS = {"committed": "#8fce9b", "aborted": "#f4b27a", "live": "#c9ced6"}
 INK, FAULT, PALE = "#1f2933", "#d1242f", "#ffffff"
 LEFT, TOP, LANE, BAR = 70, 78, 78, 22
-WORDS_FROM, LETTER, LABELS_EVERY = 26, 0.6, 1200
+WORDS_FROM, LETTER, LABELS_EVERY = 26, 0.56, 1200
 REFUSED, USAGE = 3, 64
 FATES = {"c": "committed", "a": "aborted"}
 
@@ -127,8 +127,8 @@ def draw_transaction(picture, it, y, place, is_at_fault, is_pale):
     if picture.has_words:
         tail = f", {place} in the order" if place else ""
         colour = FAULT if is_at_fault else INK
-        label = "transaction " if picture.step >= 44 else ""
-        picture.text(start - 2, y - 22, f"{label}{it.number}, {it.end}{tail}", 12, "start", colour, "bold")
+        label = f"transaction {it.number}, {it.end}{tail}" if picture.step >= 44 else str(it.number)
+        picture.text(start - 2, y - 22, label, 12, "start", colour, "bold")
     elif is_at_fault:
         picture.text(start + reach / 2, y - 18, f"transaction {it.number}", 12, colour=FAULT, weight="bold")
     elif reach >= 9 * len(str(it.number)):
