@@ -301,6 +301,8 @@ class Search:
 
     def leave_out(self, without, parts):
         """Leaves out what it can: all of it, or else of one half and then of the other."""
+        if self.left < 0:
+            return
         smaller = without(self.part, set(parts))
         if size(smaller) == size(self.part) or self.takes(smaller) or len(parts) == 1:
             return
@@ -428,6 +430,9 @@ def fail(status, said):
 
 def words_of(words):
     """The numbers that options give, and the names of files."""
+    if words in (["--help"], ["-h"]):
+        print(__doc__)
+        sys.exit(USAGE)
     given = {"--budget": 10_000, "--most": 3_000_000}
     while len(words) > 1 and words[0] in given and words[1].isascii() and words[1].isdigit():
         given[words[0]], words = int(words[1]), words[2:]

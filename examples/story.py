@@ -485,6 +485,9 @@ def fail(status, said):
 
 
 def main(words):
+    if words in (["--help"], ["-h"]):
+        print(__doc__)
+        return USAGE
     if words:
         fail(USAGE, "there are no words: the run is read from standard input")
     try:
