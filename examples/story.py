@@ -137,9 +137,9 @@ class Story:
         tried = [it for it, left in writers.items() if left == seen]
         if tried:
             return f"which only {numbers(tried)} {put(cell, seen)}, and {'that was' if len(tried) == 1 else 'these were'} not committed"
-        replaced = [it for it, calls in self.calls.items() if it != tx and any(call["op"] == "write" and (call["ob"],) == cell and call["arg"] == seen for call, _ in calls)]
-        if replaced:
-            return f"which only {numbers(replaced)} wrote, and replaced within the transaction"
+        wrote = [it for it in self.calls if it != tx and any(call["op"] == "write" and (call["ob"], call["arg"]) == (cell[0], seen) for call, _ in self.calls[it])]
+        if wrote:
+            return f"which only {numbers(wrote)} wrote, and replaced within the transaction"
         return "which nobody wrote" if len(cell) == 1 else "which nobody brought about"
 
     def from_one(self, known, cell, tx, start, source, writers, beside, needs):
@@ -235,12 +235,14 @@ class Story:
             yield Sentence(("before", putter, tx), f"{words}: so {tx} stands after {putter}")
         for other, _ in takes[value]:
             if other != tx and known.commits(other):
-                yield Sentence(("before", tx, other), f"{start}, which was put in once and which transaction {other} took and committed: so {tx} stands before {other}", [("commits", other)])
+                words = f"{start}, which was put in once and which transaction {other} took and committed"
+                yield Sentence(("before", tx, other), f"{words}: so {tx} stands before {other}", [("commits", other)])
         for first, (other, early) in once.items():
             is_before = other == putter and early < at or other != putter and known.has_before(other, putter) and known.commits(other)
             if first != value and is_before and putter != tx != other:
                 needs = [] if other == putter else [("before", other, putter), ("commits", other)]
-                words = f"{start}, and {first} stands before {value} in it, since {'transaction ' + str(putter) + ' put it in earlier' if other == putter else f'{other} put it in and stands before {putter}'}"
+                since = f"transaction {putter} put it in earlier" if other == putter else f"{other} put it in and stands before {putter}"
+                words = f"{start}, and {first} stands before {value} in it, since {since}"
                 yield from self.gone_before(name, tx, place, first, takes, words, needs)
 
     def by_empty(self, known, name, tx, place, once, takes):
@@ -253,7 +255,8 @@ class Story:
                 words = f"{start}, and {putter}, which stands before {tx}, put in {value}"
                 yield from self.gone_before(name, tx, place, value, takes, words, [("before", putter, tx), ("commits", putter)])
             elif not others and not self.took_itself(tx, place, value, takes):
-                yield Sentence(("before", tx, putter), f"{start}, and transaction {putter} put in {value}, which nobody else took: so {tx} stands before {putter}", [("commits", putter)])
+                words = f"{start}, and transaction {putter} put in {value}, which nobody else took"
+                yield Sentence(("before", tx, putter), f"{words}: so {tx} stands before {putter}", [("commits", putter)])
 
     @staticmethod
     def took_itself(tx, place, value, takes):
@@ -500,8 +503,7 @@ def main(words):
     if found:
         print("\n".join(found[0]))
         return TOLD
-    print("Values and real time make no circle of such sentences. The run, in the order of its stamps:")
-    print("\n".join(table(run)))
+    print("\n".join(["Values and real time make no circle of such sentences. The run, in the order of its stamps:", *table(run)]))
     return NOT_TOLD
 
 
