@@ -11,7 +11,7 @@ The core is printed as a table in the order of its stamps. Transactions and obje
 and the table has the old numbers beside the new ones. The core goes to the file OUT, as a run that opaq reads.
 
 A question that takes opaq more than N expanded beginnings of orders (10,000) is given up, and the part stays. When opaq was asked about more
-than M records in all (3,000,000, about a minute) no more is left out. Where that happened it is said: the core may not be a smallest one.
+than M records in all (1,500,000, less than a minute) no more is left out. Where that happened it is said: the core may not be a smallest one.
 
 Where opaq gives up on the whole run, each object is tried alone: one that is not opaque shows that the run is not.
 
@@ -32,6 +32,8 @@ COUNTING = {"inc": 1, "dec": -1}
 OPENING_MOST = 1 << 62
 CUT_FIRST = 20_000
 SOON = 3_000
+NEVER = float("inf")
+TABLE_MOST = 500
 TRIED_FIRST = ("counter", "queue", "set", "register")
 
 
@@ -230,12 +232,16 @@ def counted_before(part, name):
     return {it["stamp"] for it in calls}, sum(COUNTING[it["op"]] for it in calls)
 
 
-def pauses(part, thing):
-    """The first stamps of transactions on a thing, before which all that began earlier on it had ended, the first one aside."""
-    bodies = sorted((body for body in part.bodies if any(thing_of(*it) == thing for it in body.calls)), key=lambda body: body.start)
-    for at in range(1, len(bodies)):
-        if all(body.finish is not None and body.finish < bodies[at].start for body in bodies[:at]):
-            yield bodies[at].start
+def pauses(part):
+    """By thing: the first stamps of transactions on it, before which all that began earlier on it had ended, the first one aside."""
+    found, ended = {}, {}
+    for body in sorted(part.bodies, key=lambda body: body.start):
+        for thing in dict.fromkeys(thing_of(*it) for it in body.calls):
+            if thing in ended and ended[thing] < body.start:
+                found.setdefault(thing, []).append(body.start)
+            finish = NEVER if body.finish is None else body.finish
+            ended[thing] = max(ended.get(thing, finish), finish)
+    return found
 
 
 def without_late(part, thing, start):
@@ -335,20 +341,18 @@ class Search:
             else:
                 below = middle
 
-    def leave_out_late(self):
-        """Leaves out of each thing what came after all others of it were over, as much as it can."""
-        for thing in sorted({thing_of(call, answer) for _, call, answer in self.part.calls()}, key=str):
-            for start in list(pauses(self.part, thing)):
-                if may_be_late(self.part, thing, start) and self.takes(without_late(self.part, thing, start)):
+    def leave_out_by_time(self, may_go, without, starts_of):
+        """Leaves out of each thing what came before or after one of its pauses, as much as it can. Whether something went, by thing."""
+        gone = []
+        for thing, starts in starts_of.items():
+            for start in starts:
+                if self.left < 0:
+                    return gone
+                smaller = without(self.part, thing, start)
+                if size(smaller) < size(self.part) and may_go(self.part, thing, start) and self.takes(smaller):
+                    gone.append(thing)
                     break
-
-    def leave_out_undone(self):
-        """Leaves out what was put into a set or queue and taken out again before other transactions on it began, as much as it can."""
-        for thing in sorted({thing_of(call, answer) for _, call, answer in self.part.calls()}, key=str):
-            for start in reversed(list(pauses(self.part, thing))):
-                if is_undone(self.part, thing, start) and self.takes(without_early(self.part, thing, start)):
-                    self.undone.append(thing)
-                    break
+        return gone
 
     def lessen(self):
         """Tries every kind of part once."""
@@ -358,8 +362,9 @@ class Search:
         self.leave_out(without_transactions, [body.number for body in self.part.bodies if body.is_silent])
         self.leave_out(without_things, sorted({thing_of(call, answer) for _, call, answer in self.part.calls()}, key=str))
         self.leave_out(without_calls, spare_calls(self.part))
-        self.leave_out_late()
-        self.leave_out_undone()
+        self.leave_out_by_time(may_be_late, without_late, pauses(self.part))
+        last_first = {thing: starts[::-1] for thing, starts in pauses(self.part).items()}
+        self.undone += self.leave_out_by_time(is_undone, without_early, last_first)
         self.leave_out(without_ends, [body.number for body in self.part.bodies if body.is_silent and body.ends])
         fewer = counted(self.part)
         if size(fewer) < size(self.part):
@@ -412,7 +417,7 @@ def told(run, search):
     part = search.part
     transactions = len({record["tx"] for record in run.records})
     yield f"not opaque: {len(part.bodies)} of {transactions} transactions, {size(part)} of {len(run.records)} records"
-    yield from table(part)
+    yield from table(part) if size(part) <= TABLE_MOST else [f"more than {TABLE_MOST} records make no table"]
     yield from openings(run, part)
     for name, value in dict.fromkeys(search.undone):
         yield f"{value} was put into {name} and taken out again before all this: that is left out"
@@ -433,7 +438,7 @@ def words_of(words):
     if words in (["--help"], ["-h"]):
         print(__doc__)
         sys.exit(USAGE)
-    given = {"--budget": 10_000, "--most": 3_000_000}
+    given = {"--budget": 10_000, "--most": 1_500_000}
     while len(words) > 1 and words[0] in given and words[1].isascii() and words[1].isdigit():
         given[words[0]], words = int(words[1]), words[2:]
     if len(words) not in (2, 3) or words[0].startswith("-"):
