@@ -6,29 +6,24 @@
 
    Each register has a version, odd while a commit writes it. A transaction notes the clock when it begins, and is aborted where it reads a version
    that is newer. Writes are kept aside until the commit, which runs under one lock. A writer writes one number to x0 and x1 at a time, so no
-   transaction should see two numbers; a reader waits for a commit between its reads. The lines with `opaq_` are the recorder's. */
+   transaction should see two numbers. Every other reader asks for a write between its reads, and waits for it. The lines with `opaq_` are the
+   recorder's. */
 
 #define OPAQ_RECORDER
 #include "opaq.h"
 #include <pthread.h>
+#include <sched.h>
 #include <stdatomic.h>
 #include <string.h>
 
-enum { REGISTERS = 2, ROUNDS = 40, PATIENCE = 2000000 };
+enum { REGISTERS = 2, ROUNDS = 100 };
 
 struct attempt { long started, values[REGISTERS]; int has_read[REGISTERS], has_written[REGISTERS]; };
 
 static atomic_long clock_now, values[REGISTERS], versions[REGISTERS];
 static pthread_mutex_t commit_lock = PTHREAD_MUTEX_INITIALIZER;
-static atomic_int is_over;
+static atomic_int asked, is_over;
 static int validates = 1;
-static atomic_int waiting = 2;
-
-/* Both threads begin at once. */
-static void start(void) {
-    waiting--;
-    while (waiting) {}
-}
 
 static void begin(struct attempt *it) {
     memset(it, 0, sizeof *it);
@@ -85,28 +80,27 @@ static int commit(struct attempt *it) {
 
 static void *writer(void *unused) {
     opaq_thread(0);
-    start();
-    for (long number = 1; !is_over && opaq_attempts() < 400; number++) {
+    for (long number = 1;; number++) {
         struct attempt it;
+        while (asked < number && !is_over) sched_yield();
+        if (is_over) return unused;
         begin(&it);
         write_register(&it, 0, number);
         write_register(&it, 1, number);
         commit(&it);
-        for (volatile int spins = 20000; spins; spins--) {}
     }
-    return unused;
 }
 
 static void *reader(void *unused) {
     opaq_thread(1);
-    start();
     for (int round = 0; round < ROUNDS; round++) {
         struct attempt it;
         long one, other;
         begin(&it);
         if (read_register(&it, 0, &one)) {
             long then = clock_now;
-            for (int spins = 0; clock_now == then && spins < PATIENCE; spins++) {}
+            asked += round % 2;
+            while (round % 2 && clock_now == then) sched_yield();
             if (read_register(&it, 1, &other) && commit(&it)) continue;
         }
         opaq_end(0);
