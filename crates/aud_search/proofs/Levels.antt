@@ -1,5 +1,5 @@
 -- The steps of a search.
-use Rattle.std.specs.Prelude.{◌≡◌, ℕ, zero, suc, ◌+◌, ◌-◌, ◌<◌, ◌≤◌, nat_lt, List, [], ◌∷◌, ◌++◌, length, Option, Some, slice_get, ◌⊎◌, refl}
+use Rattle.std.specs.Prelude.{◌≡◌, ℕ, zero, suc, ◌+◌, ◌-◌, ◌<◌, ◌≤◌, nat_lt, List, [], ◌∷◌, ◌++◌, length, Option, Some, slice_get, ◌⊎◌, refl, Bool, true, false}
 use Rattle.std.specs.List.{Contains}
 use Rattle.std.proofs.Common.{sym, ◌∙◌, ap, subst, inl, inr, arith, take, append_assoc, length-append}
 use Rattle.std.proofs.lemmas.Bool.Decides.{nat_tests}
@@ -128,15 +128,18 @@ not_full : (objects : List Declared) (h : History) (path : List Decision) (c d :
 not_full objects h path c d good unfull other full =
     unfull (full-from_length objects h (path ++ c ∷ []) good (length-push path c ∙ sym (length-push path d) ∙ length-full objects h (path ++ d ∷ []) other full))
 
--- and so are those after it, where it is of a silent transaction
-pub tried-after : (plan : PlanOf) (h : History) (cs : List Choice) (path : List Decision) (k g : ℕ) (c : Choice) → IsWellFormed h → IsWithinLimits plan h → AreChoices h cs → IsNextPlace cs k g →
-    slice_get cs k ≡ Some c → AreTried plan.objects h cs path k → IsGoodNext plan.objects h path c.decision → Refuted plan.objects h (path ++ c.decision ∷ []) → AreTried plan.objects h cs path g
-tried-after plan h cs path k g c fine within choices behind at tried good refuted =
+-- and so are those after it, where it is of a silent transaction or enough
+pub tried-after : (plan : PlanOf) (h : History) (cs : List Choice) (path : List Decision) (k g : ℕ) (c : Choice) (is_enough : Bool) → IsWellFormed h → IsWithinLimits plan h → AreChoices h cs → IsNextPlace is_enough cs k g →
+    slice_get cs k ≡ Some c → (is_enough ≡ false → AreTried plan.objects h cs path k) → (is_enough ≡ true → Refuted plan.objects h (path ++ c.decision ∷ []) → Refuted plan.objects h path) →
+    IsGoodNext plan.objects h path c.decision → Refuted plan.objects h (path ++ c.decision ∷ []) → AreTried plan.objects h cs path g
+tried-after plan h cs path k g c true fine within choices behind at tried enough good refuted = λ j e below there. Refuted-append plan.objects h path (e.decision ∷ []) (enough refl refuted)
+tried-after plan h cs path k g c false fine within choices behind at tried enough good refuted =
     elim (behind.silent c at) [
-      | inl next ↦ subst (λ n. AreTried plan.objects h cs path n) (sym next) (tried-next plan.objects h cs path k c at tried refuted)
-      | inr silent ↦
+      | inl next ↦ subst (λ n. AreTried plan.objects h cs path n) (sym next) (tried-next plan.objects h cs path k c at (tried refl) refuted)
+      | inr (inl silent) ↦
           let all : Refuted plan.objects h path = refuted-by_silent plan h path c.decision fine within (choices.silent k c at silent) good refuted in
           λ j e below there. Refuted-append plan.objects h path (e.decision ∷ []) all
+      | inr (inr on) ↦ absurd (cc)
     ]
 
 -- a choice is passed over whose list is known to be refuted

@@ -1,5 +1,5 @@
 -- Choices that are passed over, as they are known to be refuted.
-use Rattle.std.specs.Prelude.{◌≡◌, ℕ, ◌+◌, ◌<◌, ◌≤◌, nat_lt, List, [], ◌∷◌, ◌++◌, length, Option, Some, false, slice_get, slice_index_or}
+use Rattle.std.specs.Prelude.{◌≡◌, ℕ, ◌+◌, ◌<◌, ◌≤◌, nat_lt, List, [], ◌∷◌, ◌++◌, length, Option, Some, false, slice_get, slice_index_or, Bool}
 use Rattle.std.proofs.Common.{sym, ◌∙◌, ap, subst, inl, inr, arith}
 use Rattle.std.proofs.lemmas.Bool.Decides.{nat_tests}
 use Rattle.aud_event.proofs.Bools.{split}
@@ -12,11 +12,11 @@ use Rattle.aud_search.specs.Choices.{AreChoices}
 use Rattle.aud_search.specs.Levels.{AreTried, IsSearching}
 use Rattle.aud_search.specs.Memos.{MemoOf, states_reached, Names, IsNext}
 use Rattle.aud_search.specs.Readiness.{ReadyOf, IsReady}
-use Rattle.aud_search.specs.Tried.{IsFound, ArePassed}
+use Rattle.aud_search.specs.Tried.{ArePassed, IsFollowed, no_choice}
 use Rattle.aud_search.proofs.Levels.{search-on}
 use Rattle.aud_search.proofs.Readiness.{bad-until}
 use Rattle.aud_search.proofs.Refuting.{refuted-bad}
-use Rattle.aud_search.proofs.Steps.{Follows, follows, bad-none, choice-at, no_choice}
+use Rattle.aud_search.proofs.Steps.{Follows, follows, bad-none, choice-at}
 
 -- the choice at a place is of its row's transaction
 pub next-at : {V : Type 0} (memo : MemoOf V) (n : Option ℕ) (at : CursorOf) (cs : List Choice) (k : ℕ) → AreChoices (history_of at.shape) cs → k < length cs → memo.shape ≡ at.shape → Names memo.states n (states_reached at.shape at.path) →
@@ -74,10 +74,10 @@ passed-search start cur cs used next from gs same s passed =
     search-on (objects_of start.shape) (history_of start.shape) start.path cs used cur.path next gs from s passed.0 (tried-passed start cur cs next from same s.tried passed)
 
 -- the choice that is followed stands after them
-pub passed-follows : (start cur new : CursorOf) (cs : List Choice) (used next from k : ℕ) (gs : List ℕ) → cur.shape ≡ start.shape → IsSearching (objects_of start.shape) (history_of start.shape) start.path cs used cur.path next gs → ArePassed cur cs next from →
-    IsFound cur new cs from (Some k) → Follows start cur new cs next k
-passed-follows start cur new cs used next from k gs same s passed found =
-    let f = follows start cur new cs used from k gs same (passed-search start cur cs used next from gs same s passed) found in
+pub passed-follows : (start cur new : CursorOf) (cs : List Choice) (used next from k : ℕ) (is_enough : Bool) (gs : List ℕ) → cur.shape ≡ start.shape → IsSearching (objects_of start.shape) (history_of start.shape) start.path cs used cur.path next gs → ArePassed cur cs next from →
+    IsFollowed cur new cs from k is_enough → Follows start cur new cs next k is_enough
+passed-follows start cur new cs used next from k is_enough gs same s passed w =
+    let f = follows start cur new cs used from k is_enough gs same (passed-search start cur cs used next from gs same s passed) w in
     let before : next ≤ from = passed.0 in
     record {
       choice = f.choice;
@@ -85,6 +85,7 @@ passed-follows start cur new cs used next from k gs same s passed found =
       inside = f.inside;
       at = f.at;
       tried = f.tried;
+      enough = f.enough;
       good = f.good;
       shape = f.shape;
       path = f.path;

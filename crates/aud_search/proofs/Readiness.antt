@@ -26,7 +26,8 @@ use Rattle.aud_search.specs.declared.choice.Choice.{Choice}
 use Rattle.aud_search.specs.declared.ready.RowChoices.{RowChoices}
 use Rattle.aud_search.specs.Choices.{AreChoices}
 use Rattle.aud_search.specs.Readiness.{ReadyOf, chosen, no_choices, HasRows, IsLeft, IsReady, IsReadyAfter, IsReadyBefore, IsRowMarked}
-use Rattle.aud_search.proofs.Steps.{AreBad, Follows, ready-good, no_choice, choice-at, went-back}
+use Rattle.aud_search.specs.Tried.{no_choice}
+use Rattle.aud_search.proofs.Steps.{AreBad, Follows, ready-good, choice-at, went-back}
 
 -- # Rows
 
@@ -485,7 +486,7 @@ bad-until r start cs from next k choices same ready bad none j c past below at g
           not-open r start j c (subst (λ l. AreChoices (history_of start.shape) l) (sym same) choices) ready (ap (λ l. slice_get l j) same ∙ at) (none j high below) good
     ]
 
-pub ready-on : (start cur new : CursorOf) (cs : List Choice) (next k : ℕ) (r : ReadyOf) → Follows start cur new cs next k → cur.shape ≡ start.shape → IsReady r cur → IsReadyAfter r new (slice_index_or cs k no_choice).decision
+pub ready-on : {is_enough : Bool} (start cur new : CursorOf) (cs : List Choice) (next k : ℕ) (r : ReadyOf) → Follows start cur new cs next k is_enough → cur.shape ≡ start.shape → IsReady r cur → IsReadyAfter r new (slice_index_or cs k no_choice).decision
 ready-on start cur new cs next k r f same ready =
     let there : slice_get cs k ≡ Some (slice_index_or cs k no_choice) = choice-at cs k f.inside in
     let own : f.choice ≡ slice_index_or cs k no_choice = (let a = f.at in cc) in
@@ -493,7 +494,7 @@ ready-on start cur new cs next k r f same ready =
     (cur.path, (f.path ∙ ap (λ (c : Choice). cur.path ++ c.decision ∷ []) own, subst (λ (v : ShapeOf). IsReady r (record { shape = v; path = cur.path })) shape ready))
 
 -- the cursor went on and back
-pub ready-still : (start cur new popped : CursorOf) (cs : List Choice) (next k : ℕ) (r : ReadyOf) → Follows start cur new cs next k → cur.shape ≡ start.shape → popped ≡ record { shape = new.shape; path = take (length new.path - 1) new.path } →
+pub ready-still : {is_enough : Bool} (start cur new popped : CursorOf) (cs : List Choice) (next k : ℕ) (r : ReadyOf) → Follows start cur new cs next k is_enough → cur.shape ≡ start.shape → popped ≡ record { shape = new.shape; path = take (length new.path - 1) new.path } →
     IsReady r cur → IsReady r popped
 ready-still start cur new popped cs next k r f same is ready =
     let went = went-back start cur new popped cs next k f is in

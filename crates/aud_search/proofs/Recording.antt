@@ -1,5 +1,5 @@
 -- What a recorder heard of a search.
-use Rattle.std.specs.Prelude.{◌≡◌, ℕ, ◌+◌, ◌-◌, ◌<◌, ◌≤◌, nat_lt, List, [], ◌∷◌, ◌++◌, map, length, take, reverse, Option, Some, None, false, slice_get, slice_index_or, refl, ◌⊎◌}
+use Rattle.std.specs.Prelude.{◌≡◌, ℕ, ◌+◌, ◌-◌, ◌<◌, ◌≤◌, nat_lt, List, [], ◌∷◌, ◌++◌, map, length, take, reverse, Option, Some, None, false, slice_get, slice_index_or, refl, ◌⊎◌, Bool, true}
 use Rattle.std.proofs.Common.{sym, ◌∙◌, ap, subst, inl, inr, arith}
 use Rattle.std.proofs.lemmas.Bool.Decides.{nat_tests}
 use Rattle.std.proofs.lemmas.List.{append-nil, reverse-append}
@@ -17,12 +17,12 @@ use Rattle.aud_search.specs.Choices.{AreChoices}
 use Rattle.aud_search.specs.Levels.{IsSearching}
 use Rattle.aud_search.specs.Memos.{MemoOf, NameWay, IsGrown, IsReported, IsFurther}
 use Rattle.aud_search.specs.Recorders.{HasNote, HasSilent, IsReason, AreKept, IsSilentAt, reason_by}
-use Rattle.aud_search.specs.Tried.{IsFound, IsNextPlace, ArePassed}
+use Rattle.aud_search.specs.Tried.{IsFound, IsFollowed, IsNextPlace, ArePassed, no_choice}
 use Rattle.aud_search.proofs.Passing.{passed-search, passed-follows}
 use Rattle.aud_search.specs.Readiness.{ReadyOf, IsReady}
 use Rattle.aud_search.proofs.Levels.{there-below}
 use Rattle.aud_search.proofs.Readiness.{bad-until}
-use Rattle.aud_search.proofs.Steps.{Follows, no_choice, choice-at, bad-none, next_of, states_of}
+use Rattle.aud_search.proofs.Steps.{Follows, choice-at, bad-none, next_of, states_of}
 
 -- # After one list
 
@@ -39,7 +39,7 @@ pub record IsOpen (P : List Decision → Type 0) (shape : ShapeOf) (cs : List Ch
   pub is : choice.decision ≡ d
   pub kept : AreKept P shape cs p 0 place
   pub good : IsGoodNext (objects_of shape) (history_of shape) p d
-  pub next : ((t.silent ≡ None) × (t.next ≡ place + 1)) ⊎ ((t.silent ≡ Some d) × (silent_fate (history_of shape) d.tx ≡ Some d.fate) × (length cs ≤ t.next))
+  pub next : ((t.silent ≡ None) × (t.next ≡ place + 1)) ⊎ (((t.silent ≡ Some d) × (silent_fate (history_of shape) d.tx ≡ Some d.fate) × (length cs ≤ t.next)) ⊎ ((t.silent ≡ None) × ((q : List Decision) → P q)))
 
 -- the same of each beginning of a list, the longest first
 abbrev pub AreOpen : (List Decision → Type 0) → ShapeOf → List Choice → List Turn → List Decision → Type 0
@@ -56,11 +56,16 @@ module _ (P Q : List Decision → Type 0) (shape : ShapeOf) (cs : List Choice) (
   heard-on p next None heard = kept-on p 0 next heard
   heard-on p next (Some d) (has, over) = (record { silent = has.silent; good = has.good; noted = on (p ++ d ∷ []) has.noted }, over)
 
+  next-on : {X Y Z : Type 0} → X ⊎ (Y ⊎ (Z × ((q : List Decision) → P q))) → X ⊎ (Y ⊎ (Z × ((q : List Decision) → Q q)))
+  next-on (inl x) = inl x
+  next-on (inr (inl y)) = inr (inl y)
+  next-on (inr (inr (z, all))) = inr (inr (z, λ q. on q (all q)))
+
   pub opens-on : (ts : List Turn) (path : List Decision) → AreOpen P shape cs ts path → AreOpen Q shape cs ts path
   opens-on [] path opens = tt
   opens-on (t ∷ ts) path (q, (d, (is, o, rest))) = (
     q,
-    (d, (is, record { place = o.place; choice = o.choice; at = o.at; is = o.is; kept = kept-on q 0 o.place o.kept; good = o.good; next = o.next }, opens-on ts q rest)),
+    (d, (is, record { place = o.place; choice = o.choice; at = o.at; is = o.is; kept = kept-on q 0 o.place o.kept; good = o.good; next = next-on o.next }, opens-on ts q rest)),
   )
 
 -- # Steps
@@ -99,18 +104,18 @@ module _ (P : List Decision → Type 0) (shape : ShapeOf) (cs : List Choice) whe
   heard-follows p from k (Some d) past inside (has, over) bad = absurd (omega arith)
 
   -- a good choice is followed
-  pub open-next : (p : List Decision) (k g : ℕ) (c : Choice) (t : Turn) (silent : Option Decision) → AreChoices (history_of shape) cs → slice_get cs k ≡ Some c → AreKept P shape cs p 0 k → IsGoodNext (objects_of shape) (history_of shape) p c.decision →
-      IsNextPlace cs k g → IsSilentAt cs k silent → t.next ≡ g → t.silent ≡ silent → IsOpen P shape cs p c.decision t
-  open-next p k g c t None choices at kept good behind quiet next is = record {
+  pub open-next : (p : List Decision) (k g : ℕ) (is_enough : Bool) (c : Choice) (t : Turn) (silent : Option Decision) → AreChoices (history_of shape) cs → slice_get cs k ≡ Some c → AreKept P shape cs p 0 k → IsGoodNext (objects_of shape) (history_of shape) p c.decision →
+      IsNextPlace is_enough cs k g → (is_enough ≡ true → (q : List Decision) → P q) → IsSilentAt cs k silent → t.next ≡ g → t.silent ≡ silent → IsOpen P shape cs p c.decision t
+  open-next p k g is_enough c t None choices at kept good behind deaf quiet next is = record {
     place = k;
     choice = c;
     at = at;
     is = refl;
     kept = kept;
     good = good;
-    next = elim (behind.silent c at) [ inl one ↦ inl (is, next ∙ one) | inr silent ↦ absurd (quiet c at silent) ];
+    next = elim (behind.silent c at) [ inl one ↦ inl (is, next ∙ one) | inr (inl silent) ↦ absurd (quiet c at silent) | inr (inr on) ↦ inr (inr (is, deaf on)) ];
   }
-  open-next p k g c t (Some d) choices at kept good behind quiet next is = record {
+  open-next p k g is_enough c t (Some d) choices at kept good behind deaf quiet next is = record {
     place = k;
     choice = c;
     at = at;
@@ -120,7 +125,7 @@ module _ (P : List Decision → Type 0) (shape : ShapeOf) (cs : List Choice) whe
     next =
         let (silent, own) = quiet c at in
         let over : g ≡ length cs = behind.over c at silent in
-        inr (is ∙ ap (λ (x : Decision). Some x) (sym own), choices.silent k c at silent, omega arith);
+        inr (inl (is ∙ ap (λ (x : Decision). Some x) (sym own), choices.silent k c at silent, omega arith));
   }
 
   -- and its list is refuted
@@ -128,7 +133,8 @@ module _ (P : List Decision → Type 0) (shape : ShapeOf) (cs : List Choice) whe
   open-done p d t o noted = elim o.next [
     | inl (none, one) ↦ subst (λ n. IsHeard P shape cs p n t.silent) (sym one) (subst (λ (s : Option Decision). IsHeard P shape cs p (o.place + 1) s) (sym none)
         (kept-join p 0 o.place (o.place + 1) o.kept (kept-one p o.place o.choice o.at (λ good. subst (λ (x : Decision). P (p ++ x ∷ [])) (sym o.is) noted))))
-    | inr (quiet, silent, over) ↦ subst (λ (s : Option Decision). IsHeard P shape cs p t.next s) (sym quiet) (record { silent = silent; good = o.good; noted = noted }, over)
+    | inr (inl (quiet, silent, over)) ↦ subst (λ (s : Option Decision). IsHeard P shape cs p t.next s) (sym quiet) (record { silent = silent; good = o.good; noted = noted }, over)
+    | inr (inr (none, all)) ↦ subst (λ (s : Option Decision). IsHeard P shape cs p t.next s) (sym none) (λ j c after below at good. all (p ++ c.decision ∷ []))
   ]
 
 -- why a list is refuted after which nothing is left
@@ -244,8 +250,8 @@ module _ {V N : Type 0} {noted : V → N → List Decision → Type 0} {start cu
   there-good : (d : Decision) → IsGoodNext (objects_of start.shape) (history_of start.shape) cur.path d → IsGoodAt cur d
   there-good d good = subst (λ (s : ShapeOf). IsGoodNext (objects_of s) (history_of s) cur.path d) (sym r.same) good
 
-  pub round-follows : (new : CursorOf) (k : ℕ) → IsFound cur new cs from (Some k) → Follows start cur new cs here.next k
-  round-follows new k found = passed-follows start cur new cs used here.next from k (reverse (map next_of turns)) r.same r.before r.passed found
+  pub round-follows : (new : CursorOf) (k : ℕ) (is_enough : Bool) → IsFollowed cur new cs from k is_enough → Follows start cur new cs here.next k is_enough
+  round-follows new k is_enough w = passed-follows start cur new cs used here.next from k is_enough (reverse (map next_of turns)) r.same r.before r.passed w
 
   -- why the list is refuted after which nothing is left
   pub round-reason : (new : CursorOf) (reason : Reason N) → AreChoices (history_of start.shape) cs → IsFound cur new cs from None → reason ≡ reason_by here.silent → IsReason (noted memo.recorder) new.shape new.path reason
@@ -274,37 +280,40 @@ module _ {V N : Type 0} {noted : V → N → List Decision → Type 0} {start cu
         (open-done (HasNote (noted recorder)) start.shape cs q d t o here_noted, rest)
 
     -- a good choice was followed
-    round-open : (new : CursorOf) (k g : ℕ) (silent : Option Decision) (t : Turn) → AreChoices (history_of start.shape) cs → (f : IsFound cur new cs from (Some k)) → IsNextPlace cs k g → IsSilentAt cs k silent → t.next ≡ g → t.silent ≡ silent →
-        IsOpen (HasNote (noted recorder)) start.shape cs cur.path f.0.decision t
-    round-open new k g silent t choices (c, (past, inside, at, good, is, bad)) behind quiet next own =
-        open-next (HasNote (noted recorder)) start.shape cs cur.path k g c t silent choices at
-        (heard-follows (HasNote (noted recorder)) start.shape cs cur.path from k here.silent past inside
+    round-open : (new : CursorOf) (k g : ℕ) (is_enough : Bool) (silent : Option Decision) (t : Turn) → AreChoices (history_of start.shape) cs → (w : IsFollowed cur new cs from k is_enough) → (is_enough ≡ true → (q : List Decision) → HasNote (noted recorder) q) →
+        IsNextPlace is_enough cs k g → IsSilentAt cs k silent → t.next ≡ g → t.silent ≡ silent → IsOpen (HasNote (noted recorder)) start.shape cs cur.path w.choice.decision t
+    round-open new k g true silent t choices w deaf behind quiet next own =
+        open-next (HasNote (noted recorder)) start.shape cs cur.path k g true w.choice t silent choices w.at (λ j e after below there ok. deaf refl (cur.path ++ e.decision ∷ [])) (good-there w.choice.decision w.good) behind deaf quiet next own
+    round-open new k g false silent t choices w deaf behind quiet next own =
+        open-next (HasNote (noted recorder)) start.shape cs cur.path k g false w.choice t silent choices w.at
+        (heard-follows (HasNote (noted recorder)) start.shape cs cur.path from k here.silent w.past w.inside
         (heard-on (HasNote (noted memo.recorder)) (HasNote (noted recorder)) start.shape cs on cur.path from here.silent r.heard)
-        (λ j e after below there ok. bad j e after below there (there-good e.decision ok)))
-        (good-there c.decision good) behind quiet next own
+        (λ j e after below there ok. w.others refl j e after below there (there-good e.decision ok)))
+        (good-there w.choice.decision w.good) behind deaf quiet next own
 
     -- its list is known to be refuted, and was noted
-    pub round-known : (new : CursorOf) (p : List Decision) (k g : ℕ) (silent : Option Decision) (note : N) → AreChoices (history_of start.shape) cs → IsFound cur new cs from (Some k) → IsNextPlace cs k g → IsSilentAt cs k silent → noted recorder note new.path → p ≡ cur.path →
+    pub round-known : (new : CursorOf) (p : List Decision) (k g : ℕ) (is_enough : Bool) (silent : Option Decision) (note : N) → AreChoices (history_of start.shape) cs → IsFollowed cur new cs from k is_enough → (is_enough ≡ true → (q : List Decision) → HasNote (noted recorder) q) →
+        IsNextPlace is_enough cs k g → IsSilentAt cs k silent → noted recorder note new.path → p ≡ cur.path →
         IsHeard (HasNote (noted recorder)) start.shape cs p g silent × AreOpen (HasNote (noted recorder)) start.shape cs (reverse turns) p
-    round-known new p k g silent note choices found behind quiet holds back =
-        let path : new.path ≡ cur.path ++ found.0.decision ∷ [] = ap (λ (v : CursorOf). v.path) found.1.4 in
+    round-known new p k g is_enough silent note choices w deaf behind quiet holds back =
+        let path : new.path ≡ cur.path ++ w.choice.decision ∷ [] = ap (λ (v : CursorOf). v.path) w.leads in
         subst (λ l. IsHeard (HasNote (noted recorder)) start.shape cs l g silent × AreOpen (HasNote (noted recorder)) start.shape cs (reverse turns) l) (sym back) (
-          open-done (HasNote (noted recorder)) start.shape cs cur.path found.0.decision (record { next = g; states = None; silent = silent })
-              (round-open new k g silent (record { next = g; states = None; silent = silent }) choices found behind quiet refl refl) (note, subst (λ (l : List Decision). noted recorder note l) path holds),
+          open-done (HasNote (noted recorder)) start.shape cs cur.path w.choice.decision (record { next = g; states = None; silent = silent })
+              (round-open new k g is_enough silent (record { next = g; states = None; silent = silent }) choices w deaf behind quiet refl refl) (note, subst (λ (l : List Decision). noted recorder note l) path holds),
           opens-on (HasNote (noted memo.recorder)) (HasNote (noted recorder)) start.shape cs on (reverse turns) cur.path r.opens,
         )
 
     -- its list is searched
-    pub round-deeper : (new : CursorOf) (k g : ℕ) (silent : Option Decision) (t : Turn) (more : List Turn) → AreChoices (history_of start.shape) cs → IsFound cur new cs from (Some k) → IsNextPlace cs k g → IsSilentAt cs k silent → t.next ≡ g → t.silent ≡ silent → more ≡ turns ++ t ∷ [] →
-        AreOpen (HasNote (noted recorder)) start.shape cs (reverse more) new.path
-    round-deeper new k g silent t more choices found behind quiet next own grown =
+    pub round-deeper : (new : CursorOf) (k g : ℕ) (is_enough : Bool) (silent : Option Decision) (t : Turn) (more : List Turn) → AreChoices (history_of start.shape) cs → IsFollowed cur new cs from k is_enough → (is_enough ≡ true → (q : List Decision) → HasNote (noted recorder) q) →
+        IsNextPlace is_enough cs k g → IsSilentAt cs k silent → t.next ≡ g → t.silent ≡ silent → more ≡ turns ++ t ∷ [] → AreOpen (HasNote (noted recorder)) start.shape cs (reverse more) new.path
+    round-deeper new k g is_enough silent t more choices w deaf behind quiet next own grown =
         subst (λ (l : List Turn). AreOpen (HasNote (noted recorder)) start.shape cs l new.path) (sym (ap reverse grown ∙ reverse-push turns t)) (
           cur.path,
           (
-            found.0.decision,
+            w.choice.decision,
             (
-              ap (λ (v : CursorOf). v.path) found.1.4,
-              round-open new k g silent t choices found behind quiet next own,
+              ap (λ (v : CursorOf). v.path) w.leads,
+              round-open new k g is_enough silent t choices w deaf behind quiet next own,
               opens-on (HasNote (noted memo.recorder)) (HasNote (noted recorder)) start.shape cs on (reverse turns) cur.path r.opens,
             ),
           ),

@@ -8,7 +8,7 @@ use Rattle.aud_event.proofs.Bools.{and_true, split}
 use Rattle.aud_history.specs.Histories.{History, is_in}
 use Rattle.aud_history.specs.WellFormed.{IsWellFormed}
 use Rattle.aud_history.specs.FirstFault.{IsWithinLimits}
-use Rattle.aud_history.specs.Table.{transactions}
+use Rattle.aud_history.specs.Table.{RowOf, row_of, transactions}
 use Rattle.aud_witness.specs.declared.decision.Fate.TheVariants.{C}
 use Rattle.aud_witness.specs.declared.decision.Decision.{Decision}
 use Rattle.aud_witness.specs.Prefixes.{BeginsWith}
@@ -17,23 +17,23 @@ use Rattle.aud_witness.specs.Enumeration.{is_legal_from}
 use Rattle.aud_witness.specs.OrderFaults.{is_enabled}
 use Rattle.aud_witness.proofs.Good.{IsGood-last, IsGood-push, Shows-from_IsGood}
 use Rattle.aud_order.specs.Shapes.{ShapeOf, plan_of, objects_of, history_of}
-use Rattle.aud_order.specs.Cursors.{CursorOf, IsGoodAt, cursor_with}
+use Rattle.aud_order.specs.Cursors.{CursorOf, IsGoodAt, cursor_back, cursor_with, transaction_at}
+use Rattle.aud_first.specs.Exchanges.{IsEnough}
 use Rattle.aud_order.specs.Silent.{silent_fate}
 use Rattle.aud_order.proofs.KidLemmas.{good-from_next}
 use Rattle.aud_order.proofs.Lists.{length-push, take-push}
 use Rattle.aud_order.proofs.Lengths.{length-good}
-use Rattle.aud_search.specs.declared.choice.Effect.TheVariants.{Silent}
 use Rattle.aud_search.specs.declared.choice.Choice.{Choice}
 use Rattle.aud_search.specs.declared.outcome.Outcome.{Outcome}
 use Rattle.aud_search.specs.declared.search.Turn.{Turn}
 use Rattle.aud_search.specs.declared.outcome.Outcome.TheVariants as outcome
 use Rattle.aud_search.specs.declared.outcome.Ended.{Ended}
 use Rattle.aud_search.specs.declared.outcome.Ended.TheVariants as ended
-use Rattle.aud_search.specs.Choices.{AreChoices}
+use Rattle.aud_search.specs.Choices.{AreChoices, IsOfRow}
 use Rattle.aud_search.specs.Searches.{SpentBy, Reports}
 use Rattle.aud_search.specs.Levels.{AreTried, IsSearching, IsOneLess}
 use Rattle.aud_search.specs.Memos.{MemoOf, states_reached, Names, NameWay, IsStep}
-use Rattle.aud_search.specs.Tried.{IsTried, IsFound, IsNextPlace, IsWitnessOf, Spends, ReportsFrom, outcome_of}
+use Rattle.aud_search.specs.Tried.{IsTried, no_choice, IsEnoughAt, IsTriedEnough, IsFound, IsFollowed, IsTaken, IsNextPlace, IsWitnessOf, Spends, ReportsFrom, outcome_of}
 use Rattle.aud_search.proofs.Levels.{there-below, tried-more, tried-after, search-on, search-deeper, search-spent, search-unspent, refuted-here, search-back, search-refuted, search-begins}
 use Rattle.aud_search.proofs.Weights.{weigh, lighter-deeper, lighter-on, lighter-back}
 
@@ -48,9 +48,6 @@ ready-good objects h p d next =
     let legal = and_true (is_in h d.tx && not (is_named p d.tx) && is_allowed h d.tx d.fate && is_enabled h p d.tx) (is_legal_from 0 objects (kept h p ++ block h d)) good in
     let enabled : is_enabled h p d.tx ≡ true = (and_true (is_in h d.tx && not (is_named p d.tx) && is_allowed h d.tx d.fate) (is_enabled h p d.tx) legal.0).1 in
     (λ i. not (next.new i) && enabled i)
-
-abbrev pub no_choice : Choice
-no_choice = record { effect = Silent; is_late = false; last = 0; place = 0; decision = no_decision }
 
 pub choice-at : (cs : List Choice) (k : ℕ) → k < length cs → slice_get cs k ≡ Some (slice_index_or cs k no_choice)
 choice-at [] k inside = absurd (omega arith)
@@ -148,12 +145,13 @@ pub more-turns : {X : Type 0} (f : Turn → X) (old new : List Turn) (t : Turn) 
 more-turns f old new t is = ap (map f) is ∙ map-append f old (t ∷ [])
 
 -- the choice that was followed
-pub record Follows (start cur new : CursorOf) (cs : List Choice) (next k : ℕ) : Type 0 where
+pub record Follows (start cur new : CursorOf) (cs : List Choice) (next k : ℕ) (is_enough : Bool) : Type 0 where
   pub choice : Choice
   pub past : next ≤ k
   pub inside : k < length cs
   pub at : slice_get cs k ≡ Some choice
-  pub tried : AreTried (objects_of start.shape) (history_of start.shape) cs cur.path k
+  pub tried : is_enough ≡ false → AreTried (objects_of start.shape) (history_of start.shape) cs cur.path k
+  pub enough : is_enough ≡ true → Refuted (objects_of start.shape) (history_of start.shape) (cur.path ++ choice.decision ∷ []) → Refuted (objects_of start.shape) (history_of start.shape) cur.path
   pub good : IsGood (objects_of start.shape) (history_of start.shape) (cur.path ++ choice.decision ∷ [])
   pub shape : new.shape ≡ start.shape
   pub path : new.path ≡ cur.path ++ choice.decision ∷ []
@@ -164,25 +162,103 @@ good-here start cur d same good = subst (λ (s : ShapeOf). IsGoodNext (objects_o
 here-good : (start cur : CursorOf) (d : Decision) → cur.shape ≡ start.shape → IsGoodNext (objects_of start.shape) (history_of start.shape) cur.path d → IsGoodAt cur d
 here-good start cur d same good = subst (λ (s : ShapeOf). IsGoodNext (objects_of s) (history_of s) cur.path d) (sym same) good
 
-pub follows : (start cur new : CursorOf) (cs : List Choice) (used next k : ℕ) (gs : List ℕ) → cur.shape ≡ start.shape →
-    IsSearching (objects_of start.shape) (history_of start.shape) start.path cs used cur.path next gs → IsFound cur new cs next (Some k) → Follows start cur new cs next k
-follows start cur new cs used next k gs same s (c, (past, inside, at, good, is, bad)) = record {
-  choice = c;
-  past = past;
-  inside = inside;
-  at = at;
-  tried = tried-more (objects_of start.shape) (history_of start.shape) cs cur.path next k s.tried (λ j e behind below there ok. bad j e behind below there (here-good start cur e.decision same ok));
-  good = IsGood-push (objects_of start.shape) (history_of start.shape) cur.path c.decision (s.opens cur.path s.here).0 (good-here start cur c.decision same good);
-  shape = ap (λ (v : CursorOf). v.shape) is ∙ same;
-  path = ap (λ (v : CursorOf). v.path) is;
+pub follows : (start cur new : CursorOf) (cs : List Choice) (used next k : ℕ) (is_enough : Bool) (gs : List ℕ) → cur.shape ≡ start.shape →
+    IsSearching (objects_of start.shape) (history_of start.shape) start.path cs used cur.path next gs → IsFollowed cur new cs next k is_enough → Follows start cur new cs next k is_enough
+follows start cur new cs used next k is_enough gs same s w = record {
+  choice = w.choice;
+  past = w.past;
+  inside = w.inside;
+  at = w.at;
+  tried = λ off. tried-more (objects_of start.shape) (history_of start.shape) cs cur.path next k s.tried (λ j e behind below there ok. w.others off j e behind below there (here-good start cur e.decision same ok));
+  enough = λ on. subst (λ (z : ShapeOf). Refuted (objects_of z) (history_of z) (cur.path ++ w.choice.decision ∷ []) → Refuted (objects_of z) (history_of z) cur.path) same (w.enough on w.good);
+  good = IsGood-push (objects_of start.shape) (history_of start.shape) cur.path w.choice.decision (s.opens cur.path s.here).0 (good-here start cur w.choice.decision same w.good);
+  shape = ap (λ (v : CursorOf). v.shape) w.leads ∙ same;
+  path = ap (λ (v : CursorOf). v.path) w.leads;
 }
 
-full-here : (start cur new : CursorOf) (cs : List Choice) (next k : ℕ) (f : Follows start cur new cs next k) → IsFull (history_of start.shape) (cur.path ++ f.choice.decision ∷ []) → IsFull (history_of new.shape) new.path
+-- the cursor went by the choice
+pub tried-found : (at mid : CursorOf) (cs : List Choice) (from k : ℕ) → IsFound at mid cs from (Some k) → IsTried (cursor_back mid) mid (slice_index_or cs k no_choice).decision true
+tried-found at mid cs from k (c, (past, inside, there, good, leads, bad)) =
+    let back : at ≡ cursor_back mid = sym (ap cursor_back leads ∙ (λ i. record { shape = at.shape; path = take-push at.path c.decision i })) in
+    let own : c ≡ slice_index_or cs k no_choice = (let is = choice-at cs k inside in cc) in
+    subst (λ (e : Choice). IsTried (cursor_back mid) mid e.decision true) own
+    (subst (λ (v : CursorOf). IsGoodAt v c.decision × (mid ≡ cursor_with v c.decision)) back (good, leads))
+
+-- a choice that was tried and is enough is followed
+pub enough-followed : (start new : CursorOf) (cs : List Choice) (from k : ℕ) (b : Bool) → from ≤ k → k < length cs → IsTriedEnough start new (slice_index_or cs k no_choice).decision b → b ≡ true → IsFollowed start new cs from k true
+enough-followed start new cs from k false past inside tried is = absurd (cc)
+enough-followed start new cs from k true past inside tried is = record {
+  choice = slice_index_or cs k no_choice;
+  past = past;
+  inside = inside;
+  at = choice-at cs k inside;
+  good = tried.0;
+  leads = tried.1;
+  others = λ off. absurd (cc);
+  enough = λ on. tried.2;
+}
+
+pub tried-enough : (old popped new : CursorOf) (d : Decision) (b : Bool) → popped ≡ old → IsEnoughAt old d → IsTried popped new d b → IsTriedEnough old new d b
+tried-enough old popped new d true is enough tried = (subst (λ (v : CursorOf). IsGoodAt v d) is tried.0, tried.1 ∙ ap (λ (v : CursorOf). cursor_with v d) is, enough)
+tried-enough old popped new d false is enough tried = tried.1 ∙ is
+
+-- the cursor went on by the decision and back
+pub came-back : (old mid popped : CursorOf) (d : Decision) (b : Bool) → IsTried old mid d b → b ≡ true → popped ≡ cursor_back mid → popped ≡ old
+came-back old mid popped d false tried is back = absurd (cc)
+came-back old mid popped d true tried is back = back ∙ ap cursor_back tried.1 ∙ (λ i. record { shape = old.shape; path = take-push old.path d i })
+
+-- the transaction of a choice's row
+pub own-transaction : (h : History) (c : Choice) → IsOfRow h c → slice_index_or (transactions h) c.place 0 ≡ c.decision.tx
+own-transaction h c (r, (at, is)) = at-row (transactions h) c.place r at ∙ is
+  where
+    at-row : (ts : List ℕ) (k : ℕ) (r : RowOf) → slice_get (map (row_of h) ts) k ≡ Some r → slice_index_or ts k 0 ≡ r.tx
+    at-row [] k r e = absurd (cc)
+    at-row (t ∷ ts) zero r e = let same : row_of h t ≡ r = cc in ap (λ (x : RowOf). x.tx) same
+    at-row (t ∷ ts) (suc k) r e = at-row ts k r e
+
+-- where a committed transaction is enough, so is its choice
+pub choice-enough : (at popped : CursorOf) (c : Choice) → popped ≡ at → IsOfRow (history_of at.shape) c → c.decision.fate ≡ C → IsEnough popped (transaction_at popped c.place) → IsEnoughAt at c.decision
+choice-enough at popped c is own commits enough =
+    let t : transaction_at at c.place ≡ c.decision.tx = own-transaction (history_of at.shape) c own in
+    let here : IsEnough at (transaction_at at c.place) = subst (λ (v : CursorOf). IsEnough v (transaction_at v c.place)) is enough in
+    let named : IsEnough at c.decision.tx = subst (λ n. IsEnough at n) t here in
+    let whole : record { tx = c.decision.tx; fate = C } ≡ c.decision = (λ i. record { tx = c.decision.tx; fate = sym commits i }) in
+    subst (λ (d : Decision). IsEnoughAt at d) whole named
+
+-- the choice that the search just went by, or in its place one that is enough
+pub going-on : (at mid new : CursorOf) (cs : List Choice) (from place k : ℕ) (is_enough : Bool) → IsFound at mid cs from (Some place) → IsTaken mid new cs place k is_enough → IsFollowed at new cs from k is_enough
+going-on at mid new cs from place k false (c, (past, inside, there, good, leads, bad)) taken =
+    let (same, stays) = taken.same refl in
+    subst (λ n. IsFollowed at new cs from n false) (sym same) (record {
+      choice = c;
+      past = past;
+      inside = inside;
+      at = there;
+      good = good;
+      leads = stays ∙ leads;
+      others = λ off. bad;
+      enough = λ on. absurd (cc);
+    })
+going-on at mid new cs from place k true (c, (past, inside, there, good, leads, bad)) taken =
+    let back : record { shape = mid.shape; path = take (length mid.path - 1) mid.path } ≡ at = ap (λ (v : CursorOf). record { shape = v.shape; path = take (length v.path - 1) v.path }) leads ∙ (λ i. record { shape = at.shape; path = take-push at.path c.decision i }) in
+    let w = subst (λ (v : CursorOf). IsFollowed v new cs place k true) back (taken.enough refl) in
+    record {
+      choice = w.choice;
+      past = (let first = w.past in omega arith);
+      inside = w.inside;
+      at = w.at;
+      good = w.good;
+      leads = w.leads;
+      others = λ off. absurd (cc);
+      enough = w.enough;
+    }
+
+full-here : {is_enough : Bool} (start cur new : CursorOf) (cs : List Choice) (next k : ℕ) (f : Follows start cur new cs next k is_enough) → IsFull (history_of start.shape) (cur.path ++ f.choice.decision ∷ []) → IsFull (history_of new.shape) new.path
 full-here start cur new cs next k f full =
     subst (λ (s : ShapeOf). IsFull (history_of s) new.path) (sym f.shape) (subst (λ l. IsFull (history_of start.shape) l) (sym f.path) full)
 
-pub loop-witness : (start cur new : CursorOf) (cs : List Choice) (used next k : ℕ) (gs : List ℕ) (w : List Decision) → IsSearching (objects_of start.shape) (history_of start.shape) start.path cs used cur.path next gs →
-    Follows start cur new cs next k → IsFull (history_of new.shape) new.path → w ≡ new.path → BeginsWith start.path w × Shows (objects_of start.shape) (history_of start.shape) w
+pub loop-witness : {is_enough : Bool} (start cur new : CursorOf) (cs : List Choice) (used next k : ℕ) (gs : List ℕ) (w : List Decision) → IsSearching (objects_of start.shape) (history_of start.shape) start.path cs used cur.path next gs →
+    Follows start cur new cs next k is_enough → IsFull (history_of new.shape) new.path → w ≡ new.path → BeginsWith start.path w × Shows (objects_of start.shape) (history_of start.shape) w
 loop-witness start cur new cs used next k gs w s f full is =
     let whole : w ≡ cur.path ++ f.choice.decision ∷ [] = is ∙ f.path in
     let all : IsFull (history_of start.shape) (cur.path ++ f.choice.decision ∷ []) = subst (λ l. IsFull (history_of start.shape) l) f.path (subst (λ (s : ShapeOf). IsFull (history_of s) new.path) f.shape full) in (
@@ -190,8 +266,8 @@ loop-witness start cur new cs used next k gs w s f full is =
       subst (λ l. Shows (objects_of start.shape) (history_of start.shape) l) (sym whole) (Shows-from_IsGood (objects_of start.shape) (history_of start.shape) (cur.path ++ f.choice.decision ∷ []) all f.good),
     )
 
-pub loop-spent : (start cur new : CursorOf) (cs : List Choice) (used next k : ℕ) (gs : List ℕ) → IsSearching (objects_of start.shape) (history_of start.shape) start.path cs used cur.path next gs →
-    Follows start cur new cs next k → (IsFull (history_of new.shape) new.path → ⊥) → SpentBy (objects_of start.shape) (history_of start.shape) start.path used
+pub loop-spent : {is_enough : Bool} (start cur new : CursorOf) (cs : List Choice) (used next k : ℕ) (gs : List ℕ) → IsSearching (objects_of start.shape) (history_of start.shape) start.path cs used cur.path next gs →
+    Follows start cur new cs next k is_enough → (IsFull (history_of new.shape) new.path → ⊥) → SpentBy (objects_of start.shape) (history_of start.shape) start.path used
 loop-spent start cur new cs used next k gs s f unfull =
     search-spent (objects_of start.shape) (history_of start.shape) start.path cs used cur.path next gs k f.choice s f.past f.at f.good (λ full. unfull (full-here start cur new cs next k f full))
 
@@ -211,15 +287,15 @@ pub record Grounds (shape : ShapeOf) (cs : List Choice) : Type 0 where
   pub within : IsWithinLimits (plan_of shape) (history_of shape)
   pub choices : AreChoices (history_of shape) cs
 
-followed-tried : (start cur new : CursorOf) (cs : List Choice) (next k g : ℕ) → Grounds start.shape cs → (f : Follows start cur new cs next k) → IsNextPlace cs k g →
+followed-tried : {is_enough : Bool} (start cur new : CursorOf) (cs : List Choice) (next k g : ℕ) → Grounds start.shape cs → (f : Follows start cur new cs next k is_enough) → IsNextPlace is_enough cs k g →
     Refuted (objects_of start.shape) (history_of start.shape) (cur.path ++ f.choice.decision ∷ []) → AreTried (objects_of start.shape) (history_of start.shape) cs cur.path g
 followed-tried start cur new cs next k g on f behind refuted =
-    tried-after (plan_of start.shape) (history_of start.shape) cs cur.path k g f.choice on.fine on.within on.choices behind f.at f.tried
+    tried-after (plan_of start.shape) (history_of start.shape) cs cur.path k g f.choice _ on.fine on.within on.choices behind f.at f.tried f.enough
     (IsGood-last (objects_of start.shape) (history_of start.shape) cur.path f.choice.decision f.good) refuted
 
-pub loop-deeper : (start cur new : CursorOf) (cs : List Choice) (used next k g : ℕ) (below more : List ℕ) → Grounds start.shape cs →
+pub loop-deeper : {is_enough : Bool} (start cur new : CursorOf) (cs : List Choice) (used next k g : ℕ) (below more : List ℕ) → Grounds start.shape cs →
     IsSearching (objects_of start.shape) (history_of start.shape) start.path cs used cur.path next (reverse below) →
-    Follows start cur new cs next k → (IsFull (history_of new.shape) new.path → ⊥) → IsNextPlace cs k g → more ≡ below ++ g ∷ [] →
+    Follows start cur new cs next k is_enough → (IsFull (history_of new.shape) new.path → ⊥) → IsNextPlace is_enough cs k g → more ≡ below ++ g ∷ [] →
     IsSearching (objects_of start.shape) (history_of start.shape) start.path cs (used + 1) new.path 0 (reverse more)
 loop-deeper start cur new cs used next k g below more on s f unfull behind grown =
     subst (λ l. IsSearching (objects_of start.shape) (history_of start.shape) start.path cs (used + 1) new.path 0 l) (sym (ap reverse grown ∙ reverse-push below g))
@@ -227,13 +303,13 @@ loop-deeper start cur new cs used next k g below more on s f unfull behind grown
     (search-deeper (objects_of start.shape) (history_of start.shape) start.path cs used cur.path next (reverse below) k g f.choice on.choices s f.past behind.past f.at (followed-tried start cur new cs next k g on f behind) f.good (λ full. unfull (full-here start cur new cs next k f full))))
 
 -- a followed list that is known to be refuted
-followed-refuted : (start cur new : CursorOf) (cs : List Choice) (next k : ℕ) → (f : Follows start cur new cs next k) → Refuted (objects_of new.shape) (history_of new.shape) new.path →
+followed-refuted : {is_enough : Bool} (start cur new : CursorOf) (cs : List Choice) (next k : ℕ) → (f : Follows start cur new cs next k is_enough) → Refuted (objects_of new.shape) (history_of new.shape) new.path →
     Refuted (objects_of start.shape) (history_of start.shape) (cur.path ++ f.choice.decision ∷ [])
 followed-refuted start cur new cs next k f refuted =
     subst (λ l. Refuted (objects_of start.shape) (history_of start.shape) l) f.path (subst (λ (s : ShapeOf). Refuted (objects_of s) (history_of s) new.path) f.shape refuted)
 
 -- the cursor goes on and back
-pub went-back : (start cur new popped : CursorOf) (cs : List Choice) (next k : ℕ) → Follows start cur new cs next k → popped ≡ record { shape = new.shape; path = take (length new.path - 1) new.path } →
+pub went-back : {is_enough : Bool} (start cur new popped : CursorOf) (cs : List Choice) (next k : ℕ) → Follows start cur new cs next k is_enough → popped ≡ record { shape = new.shape; path = take (length new.path - 1) new.path } →
     (popped.shape ≡ start.shape) × (popped.path ≡ cur.path)
 went-back start cur new popped cs next k f is = (
   ap (λ (v : CursorOf). v.shape) is ∙ f.shape,
@@ -241,9 +317,9 @@ went-back start cur new popped cs next k f is = (
 )
 
 -- a choice is passed over, as its list is known to be refuted
-pub loop-known : (start cur new popped : CursorOf) (cs : List Choice) (used next k g : ℕ) (below : List ℕ) → Grounds start.shape cs →
+pub loop-known : {is_enough : Bool} (start cur new popped : CursorOf) (cs : List Choice) (used next k g : ℕ) (below : List ℕ) → Grounds start.shape cs →
     IsSearching (objects_of start.shape) (history_of start.shape) start.path cs used cur.path next (reverse below) →
-    Follows start cur new cs next k → IsNextPlace cs k g → Refuted (objects_of new.shape) (history_of new.shape) new.path →
+    Follows start cur new cs next k is_enough → IsNextPlace is_enough cs k g → Refuted (objects_of new.shape) (history_of new.shape) new.path →
     popped ≡ record { shape = new.shape; path = take (length new.path - 1) new.path } →
     IsSearching (objects_of start.shape) (history_of start.shape) start.path cs used popped.path g (reverse below)
 loop-known start cur new popped cs used next k g below on s f behind refuted is =
@@ -253,7 +329,7 @@ loop-known start cur new popped cs used next k g below on s f behind refuted is 
     (followed-tried start cur new cs next k g on f behind (followed-refuted start cur new cs next k f refuted)))
 
 -- the followed choice is a step on from a list after which the states have the number
-pub step-at : {V : Type 0} (start cur new : CursorOf) (cs : List Choice) (next k : ℕ) (memo : MemoOf V) (n : Option ℕ) (ns : List (Option ℕ)) → Grounds start.shape cs → Follows start cur new cs next k → memo.shape ≡ start.shape →
+pub step-at : {is_enough : Bool} {V : Type 0} (start cur new : CursorOf) (cs : List Choice) (next k : ℕ) (memo : MemoOf V) (n : Option ℕ) (ns : List (Option ℕ)) → Grounds start.shape cs → Follows start cur new cs next k is_enough → memo.shape ≡ start.shape →
     NameWay start.shape memo.states (n ∷ ns) cur.path → IsStep memo n (slice_index_or cs k no_choice) new
 step-at start cur new cs next k memo n ns on f same way =
     let there : slice_get cs k ≡ Some picked = choice-at cs k f.inside in
@@ -271,8 +347,8 @@ step-at start cur new cs next k memo n ns on f same way =
 abbrev pub weight : ShapeOf → List Choice → List Decision → ℕ → List ℕ → ℕ
 weight shape cs path next below = weigh (length cs) (length (transactions (history_of shape))) (length path) next (reverse below)
 
-pub loop-deeper-lighter : (start cur new : CursorOf) (cs : List Choice) (next k g : ℕ) (below more : List ℕ) →
-    Follows start cur new cs next k → k < g → more ≡ below ++ g ∷ [] → weight start.shape cs new.path 0 more < weight start.shape cs cur.path next below
+pub loop-deeper-lighter : {is_enough : Bool} (start cur new : CursorOf) (cs : List Choice) (next k g : ℕ) (below more : List ℕ) →
+    Follows start cur new cs next k is_enough → k < g → more ≡ below ++ g ∷ [] → weight start.shape cs new.path 0 more < weight start.shape cs cur.path next below
 loop-deeper-lighter start cur new cs next k g below more f behind grown =
     let long : length new.path ≡ length cur.path + 1 = ap length f.path ∙ length-push cur.path f.choice.decision in
     let short : length (cur.path ++ f.choice.decision ∷ []) ≤ length (transactions (history_of start.shape)) = length-good (objects_of start.shape) (history_of start.shape) (cur.path ++ f.choice.decision ∷ []) f.good in
@@ -281,8 +357,8 @@ loop-deeper-lighter start cur new cs next k g below more f behind grown =
     (subst (λ n. weigh (length cs) (length (transactions (history_of start.shape))) n 0 (g ∷ reverse below) < weight start.shape cs cur.path next below) (sym long)
     (lighter-deeper (length cs) (length (transactions (history_of start.shape))) (length cur.path) next k g (reverse below) (omega arith) f.past f.inside behind))
 
-pub loop-known-lighter : (start cur new popped : CursorOf) (cs : List Choice) (next k g : ℕ) (below : List ℕ) →
-    Follows start cur new cs next k → k < g → popped ≡ record { shape = new.shape; path = take (length new.path - 1) new.path } → weight start.shape cs popped.path g below < weight start.shape cs cur.path next below
+pub loop-known-lighter : {is_enough : Bool} (start cur new popped : CursorOf) (cs : List Choice) (next k g : ℕ) (below : List ℕ) →
+    Follows start cur new cs next k is_enough → k < g → popped ≡ record { shape = new.shape; path = take (length new.path - 1) new.path } → weight start.shape cs popped.path g below < weight start.shape cs cur.path next below
 loop-known-lighter start cur new popped cs next k g below f behind is =
     subst (λ l. weight start.shape cs l g below < weight start.shape cs cur.path next below) (sym (went-back start cur new popped cs next k f is).1)
     (lighter-on (length cs) (length (transactions (history_of start.shape))) (length cur.path) next k g (reverse below) f.past f.inside behind)

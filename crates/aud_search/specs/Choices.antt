@@ -41,6 +41,10 @@ StayMarked h old new = AreMarked h old → AreMarked h new
 abbrev pub AreMarkedFrom : List Choice → List Choice → ℕ → Option Fate → Type 0
 AreMarkedFrom old new t silent = (c : Choice) → Contains new c → Contains old c ⊎ (c.effect ≡ Silent → (silent ≡ Some c.decision.fate) × (c.decision.tx ≡ t))
 
+-- the choice is of the transaction of its row
+abbrev pub IsOfRow : History → Choice → Type 0
+IsOfRow h c = (r : RowOf) × ((slice_get (table_of h) c.place ≡ Some r) × (r.tx ≡ c.decision.tx))
+
 -- every transaction with every fate that it may have, once, each with the place of its row
 pub record AreChoices (h : History) (cs : List Choice) : Type 0 where
   pub rows : (k : ℕ) (c : Choice) → slice_get cs k ≡ Some c → (r : RowOf) × ((slice_get (table_of h) c.place ≡ Some r) × (r.tx ≡ c.decision.tx))

@@ -2,11 +2,12 @@
 use Rattle.std.specs.Prelude.{◌≡◌, ℕ, ◌+◌, ◌<◌, ◌≤◌, Bool, true, false, List, [], ◌∷◌, ◌++◌, length, Option, Some, None, slice_get, ◌⊎◌}
 use Rattle.aud_event.specs.Meanings.{Declared}
 use Rattle.aud_history.specs.Histories.{History}
+use Rattle.aud_witness.specs.declared.decision.Fate.TheVariants.{C}
 use Rattle.aud_witness.specs.declared.decision.Decision.{Decision}
 use Rattle.aud_witness.specs.Prefixes.{BeginsWith}
 use Rattle.aud_witness.specs.Orders.{Shows, Refuted}
 use Rattle.aud_order.specs.Shapes.{objects_of, history_of}
-use Rattle.aud_order.specs.Cursors.{CursorOf, IsGoodAt, cursor_with}
+use Rattle.aud_order.specs.Cursors.{CursorOf, IsGoodAt, cursor_back, cursor_with}
 use Rattle.aud_search.specs.declared.choice.Effect.TheVariants.{Silent}
 use Rattle.aud_search.specs.declared.choice.Choice.{Choice}
 use Rattle.aud_search.specs.declared.outcome.Outcome.{Outcome}
@@ -15,10 +16,18 @@ use Rattle.aud_search.specs.declared.outcome.Ended.{Ended}
 use Rattle.aud_search.specs.declared.outcome.Ended.TheVariants as ended
 use Rattle.aud_search.specs.Searches.{SpentBy}
 
+-- no choice in particular
+abbrev pub no_choice : Choice
+no_choice = record { effect = Silent; is_late = false; last = 0; place = 0; decision = record { tx = 0; fate = C } }
+
 -- one choice was tried: it is good, and the cursor went on, or it is not, and nothing changed
 abbrev pub IsTried : CursorOf → CursorOf → Decision → Bool → Type 0
 IsTried old new d true = IsGoodAt old d × (new ≡ cursor_with old d)
 IsTried old new d false = (IsGoodAt old d → ⊥) × (new ≡ old)
+
+-- where the list with the decision is refuted, the cursor's list is
+abbrev pub IsEnoughAt : CursorOf → Decision → Type 0
+IsEnoughAt c d = IsGoodAt c d → Refuted (objects_of c.shape) (history_of c.shape) (c.path ++ d ∷ []) → Refuted (objects_of c.shape) (history_of c.shape) c.path
 
 -- choices were tried from a place on, up to the first that is good
 abbrev pub IsFound : CursorOf → CursorOf → List Choice → ℕ → Option ℕ → Type 0
@@ -31,11 +40,37 @@ IsFound old new cs from (Some k) =
 abbrev pub ArePassed : CursorOf → List Choice → ℕ → ℕ → Type 0
 ArePassed at cs from to = (from ≤ to) × ((j : ℕ) (c : Choice) → from ≤ j → j < to → slice_get cs j ≡ Some c → Refuted (objects_of at.shape) (history_of at.shape) (at.path ++ c.decision ∷ []))
 
--- the place of the next choice once the one at k is refuted: after one of a silent transaction none is left
-pub record IsNextPlace (cs : List Choice) (k g : ℕ) : Type 0 where
+-- one choice is followed: the first from a place on that is good, or, where it is enough, any that is
+pub record IsFollowed (old new : CursorOf) (cs : List Choice) (from k : ℕ) (is_enough : Bool) : Type 0 where
+  pub choice : Choice
+  pub past : from ≤ k
+  pub inside : k < length cs
+  pub at : slice_get cs k ≡ Some choice
+  pub good : IsGoodAt old choice.decision
+  pub leads : new ≡ cursor_with old choice.decision
+  pub others : is_enough ≡ false → (j : ℕ) (e : Choice) → from ≤ j → j < k → slice_get cs j ≡ Some e → IsGoodAt old e.decision → ⊥
+  pub enough : is_enough ≡ true → IsEnoughAt old choice.decision
+
+-- one choice was tried: it is good and enough, and the cursor went on, or nothing changed
+abbrev pub IsTriedEnough : CursorOf → CursorOf → Decision → Bool → Type 0
+IsTriedEnough old new d true = IsGoodAt old d × (new ≡ cursor_with old d) × IsEnoughAt old d
+IsTriedEnough old new d false = new ≡ old
+
+-- the same of choices from a place on
+abbrev pub IsFoundEnough : CursorOf → CursorOf → List Choice → ℕ → Option ℕ → Type 0
+IsFoundEnough old new cs from None = new ≡ old
+IsFoundEnough old new cs from (Some k) = IsFollowed old new cs from k true
+
+-- the choice that the search just went by is followed, or in its place one that is enough
+pub record IsTaken (old new : CursorOf) (cs : List Choice) (place k : ℕ) (is_enough : Bool) : Type 0 where
+  pub same : is_enough ≡ false → (k ≡ place) × (new ≡ old)
+  pub enough : is_enough ≡ true → IsFollowed (cursor_back old) new cs place k true
+
+-- the place of the next choice once the one at k is refuted: after one of a silent transaction, or one that is enough, none is left
+pub record IsNextPlace (is_enough : Bool) (cs : List Choice) (k g : ℕ) : Type 0 where
   pub past : k < g
   pub inside : g ≤ length cs
-  pub silent : (c : Choice) → slice_get cs k ≡ Some c → (g ≡ k + 1) ⊎ (c.effect ≡ Silent)
+  pub silent : (c : Choice) → slice_get cs k ≡ Some c → (g ≡ k + 1) ⊎ ((c.effect ≡ Silent) ⊎ (is_enough ≡ true))
   pub over : (c : Choice) → slice_get cs k ≡ Some c → c.effect ≡ Silent → g ≡ length cs
 
 -- of a budget some is used, and the rest is left; one expansion is not of the budget

@@ -15,17 +15,15 @@ use std::alloc::Allocator;
 pub(crate) enum Effect {
     /// Nothing, whatever its fate: it may be placed at once wherever it is good.
     Silent,
-    /// Nothing, as it aborts.
-    Unseen,
-    /// What it did.
+    /// What it did, or that it did not.
     Seen,
 }
 
 /// A decision that a completion may make, with the place of its transaction's row.
 ///
-/// Choices are ordered as a search tries them: first those of silent transactions, then those that abort, then by when the
-/// transaction did its last event, as most memories let their transactions take effect about when they end. Those of transactions
-/// that did it before the search begins to try come after the others.
+/// Choices are ordered as a search tries them: first those of silent transactions, then by when the transaction did its last event, as
+/// most memories let their transactions take effect about when they end, and that it commits before that it aborts. Those of
+/// transactions that did it before the search begins to try come after the others.
 #[derive(Clone, Copy, PartialEq, Eq, PartialOrd, Ord)]
 pub(crate) struct Choice {
     pub effect: Effect,
@@ -46,9 +44,9 @@ fn effect_of(silent: Option<Fate>, fate: Fate) -> Effect
             None => Effect::Seen,
         },
         Fate::A => match silent {
-            Some(Fate::C) => Effect::Unseen,
+            Some(Fate::C) => Effect::Seen,
             Some(Fate::A) => Effect::Silent,
-            None => Effect::Unseen,
+            None => Effect::Seen,
         },
     }
 }

@@ -10,6 +10,7 @@ mod outcome;
 mod ready;
 mod recorder;
 mod room;
+mod rules;
 mod search;
 mod shared;
 mod spots;

@@ -1,17 +1,18 @@
 //! The search over one cursor: each good list of decisions is expanded at most once, and so is each spot, which is the
 //! transactions placed and the states of all objects. Where a silent transaction is good, only its choice is followed.
 
-ghost use Rattle.std.specs.Prelude.{◌≡◌, ◌<◌, Some, None, length, IfOk, OnOk, MatchOption, []};
+ghost use Rattle.std.specs.Prelude.{◌≡◌, ◌<◌, List, Some, None, true, length, slice_index_or, IfOk, OnOk, IsTrue, MatchOption, []};
 ghost use Rattle.aud_witness.specs.Orders.{IsFull, Opaque};
+ghost use Rattle.aud_witness.specs.declared.decision.Decision.{Decision};
 ghost use Rattle.aud_history.specs.WellFormed.{IsWellFormed};
 ghost use Rattle.aud_history.specs.FirstFault.{IsWithinLimits};
 ghost use Rattle.aud_order.specs.Shapes.{plan_of, objects_of, history_of};
-ghost use Rattle.aud_search.specs.Choices.{AreChoices};
+ghost use Rattle.aud_search.specs.Choices.{AreChoices, IsOfRow};
 ghost use Rattle.aud_search.specs.Levels.{IsOneLess};
 ghost use Rattle.aud_search.specs.Readiness.{IsReady};
 ghost use Rattle.aud_search.specs.Searches.{Reports, ReportsWith, Decides, DecidesByLetter};
 ghost use Rattle.aud_order.specs.Cursors.{cursor_back, cursor_with};
-ghost use Rattle.aud_search.specs.Tried.{IsTried, IsFound, IsNextPlace, ArePassed, IsWitnessOf, ReportsAt};
+ghost use Rattle.aud_search.specs.Tried.{no_choice, IsTried, IsTriedEnough, IsFound, IsFoundEnough, IsTaken, IsNextPlace, ArePassed, IsWitnessOf, ReportsAt};
 ghost use Rattle.aud_search.specs.Memos.{Names, states_reached, IsReported, IsFurther, IsStep, IsRefutedAt};
 ghost use Rattle.aud_search.specs.Recorders.{HasNote, IsNotedFor, IsReason, AreKept, IsSilentAt, reason_by, IsNotedAfter, HasNoteAfter};
 ghost use Rattle.aud_search.specs.Turns.{IsSought, IsArrived, IsClosed};
@@ -21,11 +22,12 @@ use crate::memo::{Memo, Reason};
 use crate::outcome::{Decided, Ended, Outcome, Searched};
 use crate::ready::Ready;
 use crate::recorder::{Recorder, Unnoted, Unrecorded};
+use crate::rules::Rules;
 use crate::shared::{ROWS_MAX, Scene, Shared, Sharing};
 use aud_event::OutOfMemory;
 use aud_order::{Cursor, Pushed, Shape};
 use aud_witness::laws::letter_is_opaque;
-use aud_witness::{Decision, Prefix};
+use aud_witness::{Decision, Fate, Prefix};
 use std::alloc::{Allocator, Global};
 use std::marker::Model;
 
@@ -161,14 +163,15 @@ fn go_back<N: Copy, R: Recorder<N, A>, A: Allocator + Copy>(
     }
 }
 
-/// The place of the next choice once this one is refuted. After one of a silent transaction none is left to try.
-fn next_place(choices: &[Choice], place: usize) -> usize
+/// The place of the next choice once this one is refuted. After one of a silent transaction, or one that is enough, none is left to
+/// try.
+fn next_place(choices: &[Choice], place: usize, is_enough: bool) -> usize
     requires { place < length choices.now }
-    ensures { IsNextPlace choices.now place result }
+    ensures { IsNextPlace is_enough choices.now place result }
 {
     match choices[place].effect {
         Effect::Silent => choices.len(),
-        Effect::Unseen => place + 1,
+        Effect::Seen if is_enough => choices.len(),
         Effect::Seen => place + 1,
     }
 }
@@ -180,7 +183,6 @@ fn silent_at(choices: &[Choice], place: usize) -> Option<Decision>
 {
     match choices[place].effect {
         Effect::Silent => Some(choices[place].decision),
-        Effect::Unseen => None,
         Effect::Seen => None,
     }
 }
@@ -217,6 +219,23 @@ impl Turn {
     }
 }
 
+/// Whether the rules refute the cursor's list, which the search came to before they were in play, and nothing needs to be noted.
+fn is_doomed_late<N: Copy, R: Recorder<N, A>, A: Allocator + Copy>(
+    memo: &Memo<N, R, A>,
+    cursor: &Cursor<A>,
+    rules: &mut Rules<A>,
+) -> bool
+    requires { cursor.now.shape ≡ rules.old }
+    ensures refuted { IsTrue result → IsRefutedAt cursor.now }
+    ensures noted { IsTrue result → (p : List Decision) → HasNote (R.noted memo.now.recorder) p }
+    ensures same { rules.new ≡ rules.old }
+{
+    if memo.is_deaf() {
+        return rules.is_doomed_late(cursor);
+    }
+    false
+}
+
 /// Passes over choices that are known to be refuted, and goes on by the first of the others that is good. It answers its place.
 fn seek<N: Copy, R: Recorder<N, A>, A: Allocator + Copy>(
     memo: &mut Memo<N, R, A>,
@@ -224,7 +243,9 @@ fn seek<N: Copy, R: Recorder<N, A>, A: Allocator + Copy>(
     choices: &[Choice],
     ready: &Ready<A>,
     here: Turn,
+    rules: &mut Rules<A>,
 ) -> Result<Option<usize>, OutOfMemory>
+    requires rules { cursor.old.shape ≡ rules.old }
     requires choices { AreChoices (history_of cursor.old.shape) choices.now }
     requires same { ready.now.choices ≡ choices.now }
     requires ready { IsReady ready.now cursor.old }
@@ -232,9 +253,118 @@ fn seek<N: Copy, R: Recorder<N, A>, A: Allocator + Copy>(
     requires named { Names memo.old.states here.states (states_reached cursor.old.shape cursor.old.path) }
     ensures sought { IfOk result (IsSought (R.noted memo.new.recorder) cursor.old cursor.new choices.now here.next) }
     ensures reported { OnOk result (IsReported R.grows memo.old memo.new) }
+    ensures rules { rules.new ≡ rules.old }
 {
+    if is_doomed_late(memo, cursor, rules) {
+        return Ok(None);
+    }
     let from = pass_known(memo, cursor, choices, ready, here)?;
-    try_from(cursor, choices, ready, from)
+    let found = try_from(cursor, choices, ready, from)?;
+    if found.is_none() {
+        rules.count(cursor.prefix().len());
+    }
+    Ok(found)
+}
+
+/// Whether the choice's transaction commits by it.
+fn commits(choice: &Choice) -> bool
+    ensures { IsTrue result → choice.now.decision.fate ≡ Fate.C }
+{
+    match choice.decision.fate {
+        Fate::C => true,
+        Fate::A => false,
+    }
+}
+
+/// Goes on by the choice, if it is good and enough.
+fn try_enough<A: Allocator + Copy>(
+    cursor: &mut Cursor<A>,
+    choice: &Choice,
+    rules: &Rules<A>,
+) -> Result<bool, OutOfMemory>
+    requires rules { cursor.old.shape ≡ rules.now }
+    requires own { IsOfRow (history_of cursor.old.shape) choice.now }
+    ensures { IfOk result (IsTriedEnough cursor.old cursor.new choice.now.decision) }
+{
+    if !commits(choice) {
+        return Ok(false);
+    }
+    if !try_decision(cursor, choice.decision)? {
+        return Ok(false);
+    }
+    let _ = cursor.pop();
+    if !rules.is_enough(cursor, choice.place) {
+        return Ok(false);
+    }
+    try_decision(cursor, choice.decision)
+}
+
+/// Goes on by the first choice from a place on that is good and enough, and answers its place.
+fn find_enough<A: Allocator + Copy>(
+    cursor: &mut Cursor<A>,
+    choices: &[Choice],
+    ready: &Ready<A>,
+    from: usize,
+    rules: &Rules<A>,
+) -> Result<Option<usize>, OutOfMemory>
+    requires choices { AreChoices (history_of cursor.old.shape) choices.now }
+    requires same { ready.now.choices ≡ choices.now }
+    requires rules { cursor.old.shape ≡ rules.now }
+    ensures { IfOk result (IsFoundEnough cursor.old cursor.new choices.now from) }
+{
+    let mut next = from;
+    while let Some(place) = ready.next(next) {
+        if try_enough(cursor, &choices[place], rules)? {
+            return Ok(Some(place));
+        }
+        next = place + 1;
+    }
+    Ok(None)
+}
+
+/// The choice by which the search goes on, and whether it is enough.
+#[derive(Clone, Copy)]
+struct Taken {
+    place: usize,
+    is_enough: bool,
+}
+
+/// Goes on by a choice that is enough in place of the one by which the search just did, if there is one from there on and nothing
+/// needs to be noted.
+fn prefer<N: Copy, R: Recorder<N, A>, A: Allocator + Copy>(
+    memo: &Memo<N, R, A>,
+    cursor: &mut Cursor<A>,
+    choices: &[Choice],
+    ready: &Ready<A>,
+    place: usize,
+    rules: &Rules<A>,
+) -> Result<Taken, OutOfMemory>
+    requires choices { AreChoices (history_of cursor.old.shape) choices.now }
+    requires same { ready.now.choices ≡ choices.now }
+    requires rules { cursor.old.shape ≡ rules.now }
+    requires inside { place < length choices.now }
+    requires tried { IsTried (cursor_back cursor.old) cursor.old (slice_index_or choices.now place no_choice).decision true }
+    ensures taken { IfOk result (λ t. IsTaken cursor.old cursor.new choices.now place t.place t.is_enough) }
+    ensures deaf { IfOk result (λ t. t.is_enough ≡ true → (p : List Decision) → HasNote (R.noted memo.now.recorder) p) }
+{
+    let first = Taken {
+        place,
+        is_enough: false,
+    };
+    if !rules.are_in_play() || choices[place].effect == Effect::Silent || !memo.is_deaf() {
+        return Ok(first);
+    }
+    let _ = cursor.pop();
+    if let Some(place) = find_enough(cursor, choices, ready, place, rules)? {
+        return Ok(Taken {
+            place,
+            is_enough: true,
+        });
+    }
+    if !try_decision(cursor, choices[place].decision)? {
+        unreachable!();
+    }
+    Ok(first)
 }
 
 /// What became of a list that the search went on to.
@@ -246,21 +376,70 @@ enum Arrival {
     Fresh(Option<usize>),
 }
 
+/// Whether the rules refute the cursor's list, to which the search just went by the choice, and nothing needs to be noted. After a
+/// choice of a silent transaction they do exactly where they did before, and are not asked.
+fn is_doomed<N: Copy, R: Recorder<N, A>, A: Allocator + Copy>(
+    memo: &Memo<N, R, A>,
+    cursor: &Cursor<A>,
+    choice: &Choice,
+    rules: &mut Rules<A>,
+) -> bool
+    requires { cursor.now.shape ≡ rules.old }
+    ensures refuted { IsTrue result → IsRefutedAt cursor.now }
+    ensures noted { IsTrue result → HasNote (R.noted memo.now.recorder) cursor.now.path }
+    ensures same { rules.new ≡ rules.old }
+{
+    match choice.effect {
+        Effect::Silent => false,
+        Effect::Seen => {
+            if memo.is_deaf() {
+                return rules.is_doomed_by(cursor, choice.place);
+            }
+            false
+        }
+    }
+}
+
+/// Says what the rules say of the cursor's list, to which the search just went by the choice, where the states have the number, if
+/// they have one.
+fn arrive_new<N: Copy, R: Recorder<N, A>, A: Allocator + Copy>(
+    memo: &mut Memo<N, R, A>,
+    cursor: &mut Cursor<A>,
+    choice: &Choice,
+    states: Option<usize>,
+    rules: &mut Rules<A>,
+) -> Arrival
+    requires named { Names memo.old.states states (states_reached cursor.old.shape cursor.old.path) }
+    requires rules { cursor.old.shape ≡ rules.old }
+    ensures arrived { IsArrived (R.noted memo.new.recorder) memo.new.states cursor.old cursor.new result }
+    ensures stays { memo.new ≡ memo.old }
+    ensures same { rules.new ≡ rules.old }
+{
+    if !is_doomed(memo, cursor, choice, rules) {
+        return Arrival::Fresh(states);
+    }
+    take_back(cursor, memo);
+    Arrival::Known
+}
+
 /// Says what is known of the cursor's list, to which the search just went by the choice, from states with a number.
 fn arrive<N: Copy, R: Recorder<N, A>, A: Allocator + Copy>(
     memo: &mut Memo<N, R, A>,
     cursor: &mut Cursor<A>,
     choice: &Choice,
     from: Option<usize>,
+    rules: &mut Rules<A>,
 ) -> Result<Arrival, OutOfMemory>
-    requires { IsStep memo.old from choice.now cursor.old }
+    requires step { IsStep memo.old from choice.now cursor.old }
+    requires rules { cursor.old.shape ≡ rules.old }
+    ensures same { rules.new ≡ rules.old }
     ensures arrived { IfOk result (IsArrived (R.noted memo.new.recorder) memo.new.states cursor.old cursor.new) }
     ensures further { OnOk result (IsFurther R.grows memo.old memo.new) }
 {
     memo.touch(choice.decision);
     let states = memo.follow(from, choice, cursor);
     let Some(note) = memo.knows(states, cursor) else {
-        return Ok(Arrival::Fresh(states));
+        return Ok(arrive_new(memo, cursor, choice, states, rules));
     };
     memo.note(cursor, Reason::Same(note))?;
     take_back(cursor, memo);
@@ -316,8 +495,10 @@ fn search_on<N: Copy, R: Recorder<N, A>, A: Allocator + Copy>(
     memo: &mut Memo<N, R, A>,
     ready: &mut Ready<A>,
     turns: &mut Vec<Turn, A>,
+    rules: &mut Rules<A>,
 ) -> Result<Ended<N, A>, OutOfMemory>
     requires memo { memo.old.shape ≡ cursor.old.shape }
+    requires rules { rules.old ≡ cursor.old.shape }
     requires choices { AreChoices (history_of cursor.old.shape) choices.now }
     requires unfull { IsFull (history_of cursor.old.shape) cursor.old.path → ⊥ }
     requires fine { IsWellFormed (history_of cursor.old.shape) }
@@ -332,25 +513,27 @@ fn search_on<N: Copy, R: Recorder<N, A>, A: Allocator + Copy>(
     let mut here = Turn::new(None);
     let _good = cursor.prefix();
     'search: loop {
-        let Some(place) = seek(memo, cursor, choices, ready, here)? else {
+        let Some(place) = seek(memo, cursor, choices, ready, here, rules)? else {
             match close(memo, cursor, ready, turns, &mut here)? {
                 Some(note) => return Ok(Ended::Refuted(note)),
                 None => continue,
             }
         };
+        let taken = prefer(memo, cursor, choices, ready, place, rules)?;
         if cursor.full() {
             return witness_at(alloc, cursor);
         }
-        here.next = next_place(choices, place);
-        here.silent = silent_at(choices, place);
-        let Arrival::Fresh(states) = arrive(memo, cursor, &choices[place], here.states)? else {
+        here.next = next_place(choices, taken.place, taken.is_enough);
+        here.silent = silent_at(choices, taken.place);
+        let choice = &choices[taken.place];
+        let Arrival::Fresh(states) = arrive(memo, cursor, choice, here.states, rules)? else {
             continue;
         };
         let Some(rest) = spend(left) else {
             return Ok(Ended::Spent);
         };
         left = rest;
-        ready.go_on(choices[place].decision, cursor);
+        ready.go_on(choice.decision, cursor);
         turns.push(here)?;
         here = Turn::new(states);
     }
@@ -376,7 +559,10 @@ fn search_from<'a, N: Copy, R: Recorder<N, A>, A: Allocator + Copy>(
 {
     let mut ready = Ready::at(alloc, shape, choices, cursor)?;
     let mut turns = Vec::new(alloc);
-    search_on(alloc, cursor, choices, budget, memo, &mut ready, &mut turns)
+    let mut rules = Rules::new(alloc, shape);
+    search_on(
+        alloc, cursor, choices, budget, memo, &mut ready, &mut turns, &mut rules,
+    )
 }
 
 /// Searches the lists that begin with the cursor's, with a budget or without, over what is remembered of the shape. After each list

@@ -3,7 +3,8 @@ use Rattle.std.proofs.Common.{arith, length-set, ◌∙◌}
 use Rattle.std.proofs.lemmas.Option.{slice_get_within}
 use Rattle.aud_history.specs.Table.{table_of}
 use Rattle.aud_order.specs.Shapes.{history_of}
-use Rattle.aud_search.proofs.Steps.{no_choice, choice-at}
+use Rattle.aud_search.specs.Tried.{no_choice}
+use Rattle.aud_search.proofs.Steps.{choice-at}
 use Rattle.aud_search.proofs.Readiness.{rows-more}
 use Rattle.aud_search.proofs.ready.rows_of.Goals as goal
 

@@ -4,15 +4,16 @@ use Rattle.aud_search.proofs.Recording.{further-grown, further-reported}
 use Rattle.aud_search.proofs.search.arrive.Goals as goal
 
 pub follow-states-requires : goal.follow-states-requires
-follow-states-requires g c = subst (λ (m : MemoOf _). IsStep m c.args.from c.args.choice.now c.args.cursor.now) (sym c.touch.ensures) c.requires
+follow-states-requires g c = subst (λ (m : MemoOf _). IsStep m c.args.from c.args.choice.now c.args.cursor.now) (sym c.touch.ensures) c.requires.step
 
 pub knows-requires-clause-shape : goal.knows-requires-clause-shape
-knows-requires-clause-shape g c = c.follow-states.ensures.grown.shape ∙ ap (λ (m : MemoOf _). m.shape) c.touch.ensures ∙ c.requires.shape
+knows-requires-clause-shape g c = c.follow-states.ensures.grown.shape ∙ ap (λ (m : MemoOf _). m.shape) c.touch.ensures ∙ c.requires.step.shape
 
 pub returns-in_default-clause-further : goal.returns-in_default-clause-further
 returns-in_default-clause-further g c =
-    subst (λ (m : MemoOf _). IsFurther g.R.Recorder.grows m c.follow-states.new.self) c.touch.ensures
-    (further-grown g.R.Recorder.grows g.met.R.Recorder.grows_from_itself c.touch.new.self c.follow-states.new.self c.follow-states.ensures.grown)
+    subst (λ (m : MemoOf _). IsFurther g.R.Recorder.grows c.args.memo.now m) (sym c.arrive_new.ensures.stays)
+    (subst (λ (m : MemoOf _). IsFurther g.R.Recorder.grows m c.follow-states.new.self) c.touch.ensures
+    (further-grown g.R.Recorder.grows g.met.R.Recorder.grows_from_itself c.touch.new.self c.follow-states.new.self c.follow-states.ensures.grown))
 
 pub returns-clause-arrived : goal.returns-clause-arrived
 returns-clause-arrived g c =

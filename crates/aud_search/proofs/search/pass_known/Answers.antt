@@ -7,7 +7,8 @@ use Rattle.aud_search.specs.Memos.{states_reached, Names, IsNext}
 use Rattle.aud_search.specs.Recorders.{HasNote}
 use Rattle.aud_search.proofs.Passing.{next-at, passed-more}
 use Rattle.aud_search.proofs.Recording.{kept-passed, note-on, reported-on}
-use Rattle.aud_search.proofs.Steps.{no_choice}
+use Rattle.aud_search.specs.Tried.{no_choice}
+use Rattle.aud_search.proofs.Steps.{}
 use Rattle.aud_search.proofs.search.pass_known.Goals as goal
 
 pub knows_after-requires : goal.knows_after-requires

@@ -1,4 +1,4 @@
-use Rattle.std.specs.Prelude.{◌+◌, ◌-◌, ◌<◌, ◌∷◌, List, map, length, take, Some, refl, reverse, slice_index_or}
+use Rattle.std.specs.Prelude.{◌+◌, ◌-◌, ◌<◌, ◌∷◌, List, map, length, take, refl, reverse, slice_index_or}
 use Rattle.std.proofs.Common.{sym, ◌∙◌, ap, subst}
 use Rattle.std.proofs.lemmas.Bool.{false≢true}
 use Rattle.std.proofs.lemmas.Result.{IfOk-weaker}
@@ -12,11 +12,11 @@ use Rattle.aud_search.specs.declared.search.Turn.{Turn}
 use Rattle.aud_search.specs.Memos.{states_reached, Names, NameWay}
 use Rattle.aud_search.specs.Readiness.{IsReady, IsReadyAfter}
 use Rattle.aud_search.specs.Recorders.{HasNote}
-use Rattle.aud_search.specs.Tried.{IsFound, IsWitnessOf, ReportsAt}
+use Rattle.aud_search.specs.Tried.{IsFollowed, IsWitnessOf, ReportsAt, no_choice}
 use Rattle.aud_search.proofs.MemoLemmas.{way-further, way-deeper, way-back}
 use Rattle.aud_search.proofs.Readiness.{ready-on, ready-still}
 use Rattle.aud_search.proofs.Recording.{IsHeard, AreOpen, kept-none, note-on, round, round-follows, round-reason, round-over, round-back, round-known, round-deeper}
-use Rattle.aud_search.proofs.Steps.{no_choice, weight, next_of, states_of, more-turns, Grounds, went-back, loop-known, loop-known-lighter, loop-refuted, step-at, spends-start, spends-more, spent-from, loop-witness, reports-witness, loop-spent, loop-deeper, loop-deeper-lighter, loop-over, loop-back, loop-back-lighter}
+use Rattle.aud_search.proofs.Steps.{weight, next_of, states_of, more-turns, Grounds, went-back, loop-known, loop-known-lighter, loop-refuted, step-at, spends-start, spends-more, spent-from, loop-witness, reports-witness, loop-spent, loop-deeper, loop-deeper-lighter, loop-over, loop-back, loop-back-lighter, going-on, tried-found}
 use Rattle.aud_search.proofs.search.search_on.Goals as goal
 
 pub search-init : goal.search-init
@@ -37,6 +37,7 @@ search-init g c =
       opens = subst (λ (l : List Turn). AreOpen P start.shape cs (reverse l) start.path) (sym c.requires.first) tt;
       choices = c.requires.same;
       ready = c.requires.ready;
+      rules = c.requires.rules;
     }
 
 pub seek-requires-clause-choices : goal.seek-requires-clause-choices
@@ -173,6 +174,7 @@ search-preserved-in-None g c =
       opens = heard.1;
       choices = c.close.ensures.choices ∙ at.invariant.choices;
       ready = c.in_ok-note.ensures.ready;
+      rules = c.seek.ensures.rules ∙ at.invariant.rules;
     }
 
 pub returns-then-full-clause-reported : goal.returns-then-full-clause-reported
@@ -180,27 +182,29 @@ returns-then-full-clause-reported g c =
     let at = c.search in
     let start = c.args.cursor.now in
     let cs = c.args.choices.now in
-    let new = c.seek.new.cursor in
+    let new = c.prefer.new.cursor in
     let memo = c.seek.new.memo in
     let (from, (passed, kept, found)) = rw c.in-Some.is at c.in_ok-place.ensures.sought in
     let r = round g.R.Recorder.noted g.R.Recorder.grows g.met.R.Recorder.noted_stays start at.cursor at.cursor at.memo memo cs at.invariant.used from at.here at.turns.items refl c.in_ok-place.ensures.reported at.invariant.same at.invariant.memo at.invariant.way at.invariant.searching at.invariant.heard at.invariant.opens passed kept in
-    let k = c.in-Some.place in
-    let f = round-follows r new k found in
+    let k = c.in_ok-taken.taken.place in
+    let w = going-on at.cursor c.seek.new.cursor c.prefer.new.cursor cs from c.in-Some.place k c.in_ok-taken.taken.is_enough found c.in_ok-taken.ensures.taken in
+    let f = round-follows r c.prefer.new.cursor k c.in_ok-taken.taken.is_enough w in
     IfOk-weaker c.witness_at.result (IsWitnessOf new.path) (ReportsAt start (g.R.Recorder.noted memo.recorder) c.args.budget)
     (λ e is. reports-witness g.row.N.Denot g.row.A.Denot (g.R.Recorder.noted memo.recorder) (objects_of start.shape) (history_of start.shape) start.path new.path c.args.budget e is
     (loop-witness start at.cursor new cs at.invariant.used at.here.next k (reverse (map next_of at.turns.items)) new.path r.before f (c.full.ensures.0 c.if-full.true) refl)) c.witness_at.ensures
 
-pub arrive-requires : goal.arrive-requires
-arrive-requires g c =
+pub arrive-requires-clause-step : goal.arrive-requires-clause-step
+arrive-requires-clause-step g c =
     let at = c.search in
     let start = c.args.cursor.now in
     let cs = c.args.choices.now in
-    let new = c.seek.new.cursor in
+    let new = c.prefer.new.cursor in
     let memo = c.seek.new.memo in
     let (from, (passed, kept, found)) = rw c.in-Some.is at c.in_ok-place.ensures.sought in
     let r = round g.R.Recorder.noted g.R.Recorder.grows g.met.R.Recorder.noted_stays start at.cursor at.cursor at.memo memo cs at.invariant.used from at.here at.turns.items refl c.in_ok-place.ensures.reported at.invariant.same at.invariant.memo at.invariant.way at.invariant.searching at.invariant.heard at.invariant.opens passed kept in
-    let k = c.in-Some.place in
-    let f = round-follows r new k found in
+    let k = c.in_ok-taken.taken.place in
+    let w = going-on at.cursor c.seek.new.cursor c.prefer.new.cursor cs from c.in-Some.place k c.in_ok-taken.taken.is_enough found c.in_ok-taken.ensures.taken in
+    let f = round-follows r c.prefer.new.cursor k c.in_ok-taken.taken.is_enough w in
     let on : Grounds start.shape cs = record { fine = c.requires.fine; within = c.requires.within; choices = c.requires.choices } in
     step-at start at.cursor new cs at.here.next k memo at.here.states (reverse (map states_of at.turns.items)) on f r.memo_same r.way
 
@@ -209,12 +213,13 @@ search-smaller-in_default-2 g c =
     let at = c.search in
     let start = c.args.cursor.now in
     let cs = c.args.choices.now in
-    let new = c.seek.new.cursor in
+    let new = c.prefer.new.cursor in
     let memo = c.seek.new.memo in
     let (from, (passed, kept, found)) = rw c.in-Some.is at c.in_ok-place.ensures.sought in
     let r = round g.R.Recorder.noted g.R.Recorder.grows g.met.R.Recorder.noted_stays start at.cursor at.cursor at.memo memo cs at.invariant.used from at.here at.turns.items refl c.in_ok-place.ensures.reported at.invariant.same at.invariant.memo at.invariant.way at.invariant.searching at.invariant.heard at.invariant.opens passed kept in
-    let k = c.in-Some.place in
-    let f = round-follows r new k found in
+    let k = c.in_ok-taken.taken.place in
+    let w = going-on at.cursor c.seek.new.cursor c.prefer.new.cursor cs from c.in-Some.place k c.in_ok-taken.taken.is_enough found c.in_ok-taken.ensures.taken in
+    let f = round-follows r c.prefer.new.cursor k c.in_ok-taken.taken.is_enough w in
     let (noted, refuted, back) = rw c.in_default-2.is at c.in_ok-states.ensures.arrived in
     loop-known-lighter start at.cursor new c.arrive.new.cursor cs at.here.next k c.next_place.result (map next_of at.turns.items) f c.next_place.ensures.past back
 
@@ -223,19 +228,22 @@ search-preserved-in_default-2 g c =
     let at = c.search in
     let start = c.args.cursor.now in
     let cs = c.args.choices.now in
-    let new = c.seek.new.cursor in
+    let new = c.prefer.new.cursor in
     let memo = c.seek.new.memo in
     let (from, (passed, kept, found)) = rw c.in-Some.is at c.in_ok-place.ensures.sought in
     let r = round g.R.Recorder.noted g.R.Recorder.grows g.met.R.Recorder.noted_stays start at.cursor at.cursor at.memo memo cs at.invariant.used from at.here at.turns.items refl c.in_ok-place.ensures.reported at.invariant.same at.invariant.memo at.invariant.way at.invariant.searching at.invariant.heard at.invariant.opens passed kept in
-    let k = c.in-Some.place in
-    let f = round-follows r new k found in
+    let k = c.in_ok-taken.taken.place in
+    let w = going-on at.cursor c.seek.new.cursor c.prefer.new.cursor cs from c.in-Some.place k c.in_ok-taken.taken.is_enough found c.in_ok-taken.ensures.taken in
+    let f = round-follows r c.prefer.new.cursor k c.in_ok-taken.taken.is_enough w in
     let (noted, refuted, back) = rw c.in_default-2.is at c.in_ok-states.ensures.arrived in
     let on : Grounds start.shape cs = record { fine = c.requires.fine; within = c.requires.within; choices = c.requires.choices } in
     let went = went-back start at.cursor new c.arrive.new.cursor cs at.here.next k f back in
     let now = c.arrive.new.memo in
     let further = c.in_ok-states.ensures.further in
     let heard = round-known r now.recorder (note-on g.R.Recorder.noted g.R.Recorder.grows g.met.R.Recorder.noted_stays g.met.R.Recorder.grows_onward memo.recorder now.recorder further.recorder)
-    new c.arrive.new.cursor.path k c.next_place.result c.silent_at-here.result noted.0 c.requires.choices found c.next_place.ensures c.silent_at-here.ensures noted.1 went.1 in
+    new c.arrive.new.cursor.path k c.next_place.result c.in_ok-taken.taken.is_enough c.silent_at-here.result noted.0 c.requires.choices w
+    (λ enough q. note-on g.R.Recorder.noted g.R.Recorder.grows g.met.R.Recorder.noted_stays g.met.R.Recorder.grows_onward memo.recorder now.recorder further.recorder q (c.in_ok-taken.ensures.deaf enough q))
+    c.next_place.ensures c.silent_at-here.ensures noted.1 went.1 in
     record {
       same = went.0;
       used = at.invariant.used;
@@ -248,6 +256,7 @@ search-preserved-in_default-2 g c =
       opens = heard.1;
       choices = at.invariant.choices;
       ready = ready-still start at.cursor new c.arrive.new.cursor cs at.here.next k at.ready f r.same back at.invariant.ready;
+      rules = c.in_ok-states.ensures.same ∙ c.seek.ensures.rules ∙ at.invariant.rules;
     }
 
 pub returns-in_default-spend-clause-reported : goal.returns-in_default-spend-clause-reported
@@ -255,12 +264,13 @@ returns-in_default-spend-clause-reported g c =
     let at = c.search in
     let start = c.args.cursor.now in
     let cs = c.args.choices.now in
-    let new = c.seek.new.cursor in
+    let new = c.prefer.new.cursor in
     let memo = c.seek.new.memo in
     let (from, (passed, kept, found)) = rw c.in-Some.is at c.in_ok-place.ensures.sought in
     let r = round g.R.Recorder.noted g.R.Recorder.grows g.met.R.Recorder.noted_stays start at.cursor at.cursor at.memo memo cs at.invariant.used from at.here at.turns.items refl c.in_ok-place.ensures.reported at.invariant.same at.invariant.memo at.invariant.way at.invariant.searching at.invariant.heard at.invariant.opens passed kept in
-    let k = c.in-Some.place in
-    let f = round-follows r new k found in
+    let k = c.in_ok-taken.taken.place in
+    let w = going-on at.cursor c.seek.new.cursor c.prefer.new.cursor cs from c.in-Some.place k c.in_ok-taken.taken.is_enough found c.in_ok-taken.ensures.taken in
+    let f = round-follows r c.prefer.new.cursor k c.in_ok-taken.taken.is_enough w in
     let unfull : IsFull (history_of new.shape) new.path → ⊥ = λ full. false≢true (sym c.if-full.false ∙ c.full.ensures.1 full) in
     spent-from g.row.N.Denot g.row.A.Denot (g.R.Recorder.noted c.arrive.new.memo.recorder) (objects_of start.shape) (history_of start.shape) start.path c.args.budget at.left at.invariant.used at.invariant.spends (rw c.in_default-spend.is at c.spend.ensures)
     (loop-spent start at.cursor new cs at.invariant.used at.here.next k (reverse (map next_of at.turns.items)) r.before f unfull)
@@ -270,12 +280,13 @@ go_on-requires g c =
     let at = c.search in
     let start = c.args.cursor.now in
     let cs = c.args.choices.now in
-    let new = c.seek.new.cursor in
+    let new = c.prefer.new.cursor in
     let memo = c.seek.new.memo in
     let (from, (passed, kept, found)) = rw c.in-Some.is at c.in_ok-place.ensures.sought in
     let r = round g.R.Recorder.noted g.R.Recorder.grows g.met.R.Recorder.noted_stays start at.cursor at.cursor at.memo memo cs at.invariant.used from at.here at.turns.items refl c.in_ok-place.ensures.reported at.invariant.same at.invariant.memo at.invariant.way at.invariant.searching at.invariant.heard at.invariant.opens passed kept in
-    let k = c.in-Some.place in
-    let f = round-follows r new k found in
+    let k = c.in_ok-taken.taken.place in
+    let w = going-on at.cursor c.seek.new.cursor c.prefer.new.cursor cs from c.in-Some.place k c.in_ok-taken.taken.is_enough found c.in_ok-taken.ensures.taken in
+    let f = round-follows r c.prefer.new.cursor k c.in_ok-taken.taken.is_enough w in
     let (named, stays) = rw c.in-Fresh.is at c.in_ok-states.ensures.arrived in
     subst (λ (v : CursorOf). IsReadyAfter at.ready v (slice_index_or cs k no_choice).decision) (sym stays) (ready-on start at.cursor new cs at.here.next k at.ready f r.same at.invariant.ready)
 
@@ -284,12 +295,13 @@ search-smaller g c =
     let at = c.search in
     let start = c.args.cursor.now in
     let cs = c.args.choices.now in
-    let new = c.seek.new.cursor in
+    let new = c.prefer.new.cursor in
     let memo = c.seek.new.memo in
     let (from, (passed, kept, found)) = rw c.in-Some.is at c.in_ok-place.ensures.sought in
     let r = round g.R.Recorder.noted g.R.Recorder.grows g.met.R.Recorder.noted_stays start at.cursor at.cursor at.memo memo cs at.invariant.used from at.here at.turns.items refl c.in_ok-place.ensures.reported at.invariant.same at.invariant.memo at.invariant.way at.invariant.searching at.invariant.heard at.invariant.opens passed kept in
-    let k = c.in-Some.place in
-    let f = round-follows r new k found in
+    let k = c.in_ok-taken.taken.place in
+    let w = going-on at.cursor c.seek.new.cursor c.prefer.new.cursor cs from c.in-Some.place k c.in_ok-taken.taken.is_enough found c.in_ok-taken.ensures.taken in
+    let f = round-follows r c.prefer.new.cursor k c.in_ok-taken.taken.is_enough w in
     let (named, stays) = rw c.in-Fresh.is at c.in_ok-states.ensures.arrived in
     let turn : Turn = record { next = c.next_place.result; states = at.here.states; silent = c.silent_at-here.result } in
     subst (λ (v : CursorOf). weight start.shape cs v.path c.new-here-in-search.result.next (map next_of c.push.new.self.items) < weight start.shape cs at.cursor.path at.here.next (map next_of at.turns.items)) (sym stays)
@@ -306,17 +318,19 @@ search-preserved g c =
     let memo = c.seek.new.memo in
     let (from, (passed, kept, found)) = rw c.in-Some.is at c.in_ok-place.ensures.sought in
     let r = round g.R.Recorder.noted g.R.Recorder.grows g.met.R.Recorder.noted_stays start at.cursor at.cursor at.memo memo cs at.invariant.used from at.here at.turns.items refl c.in_ok-place.ensures.reported at.invariant.same at.invariant.memo at.invariant.way at.invariant.searching at.invariant.heard at.invariant.opens passed kept in
-    let k = c.in-Some.place in
+    let k = c.in_ok-taken.taken.place in
+    let enough = c.in_ok-taken.taken.is_enough in
     let (named, stays) = rw c.in-Fresh.is at c.in_ok-states.ensures.arrived in
-    let was = c.seek.new.cursor in
+    let was = c.prefer.new.cursor in
     let unfull : IsFull (history_of was.shape) was.path → ⊥ = λ full. false≢true (sym c.if-full.false ∙ c.full.ensures.1 full) in
     let on : Grounds start.shape cs = record { fine = c.requires.fine; within = c.requires.within; choices = c.requires.choices } in
     let turn : Turn = record { next = c.next_place.result; states = at.here.states; silent = c.silent_at-here.result } in
     let now = c.arrive.new.memo in
     let P = HasNote (g.R.Recorder.noted now.recorder) in
     let further = c.in_ok-states.ensures.further in
-    let there = subst (λ (v : CursorOf). IsFound at.cursor v cs from (Some k)) (sym stays) found in
-    let f = round-follows r new k there in
+    let w : IsFollowed at.cursor new cs from k enough = subst (λ (v : CursorOf). IsFollowed at.cursor v cs from k enough) (sym stays)
+    (going-on at.cursor c.seek.new.cursor was cs from c.in-Some.place k enough found c.in_ok-taken.ensures.taken) in
+    let f = round-follows r new k enough w in
     record {
       same = f.shape;
       used = at.invariant.used + 1;
@@ -333,8 +347,14 @@ search-preserved g c =
           (subst (λ (v : CursorOf). IsFull (history_of v.shape) v.path → ⊥) (sym stays) unfull) c.next_place.ensures
           (more-turns next_of at.turns.items c.push.new.self.items turn c.in_ok-push.ensures.items));
       heard = subst (λ (t : Turn). IsHeard P start.shape cs new.path t.next t.silent) (sym c.new-here-in-search.ensures) (kept-none P start.shape cs new.path 0);
-      opens = round-deeper r now.recorder (note-on g.R.Recorder.noted g.R.Recorder.grows g.met.R.Recorder.noted_stays g.met.R.Recorder.grows_onward memo.recorder now.recorder further.recorder) new k c.next_place.result c.silent_at-here.result turn c.push.new.self.items c.requires.choices there
+      opens = round-deeper r now.recorder (note-on g.R.Recorder.noted g.R.Recorder.grows g.met.R.Recorder.noted_stays g.met.R.Recorder.grows_onward memo.recorder now.recorder further.recorder) new k c.next_place.result enough c.silent_at-here.result turn c.push.new.self.items c.requires.choices w
+          (λ on q. note-on g.R.Recorder.noted g.R.Recorder.grows g.met.R.Recorder.noted_stays g.met.R.Recorder.grows_onward memo.recorder now.recorder further.recorder q (c.in_ok-taken.ensures.deaf on q))
           c.next_place.ensures c.silent_at-here.ensures refl refl c.in_ok-push.ensures.items;
       choices = c.go_on.ensures.choices ∙ at.invariant.choices;
       ready = c.go_on.ensures.ready;
+      rules = c.in_ok-states.ensures.same ∙ c.seek.ensures.rules ∙ at.invariant.rules;
     }
+
+pub prefer-requires-clause-tried : goal.prefer-requires-clause-tried
+prefer-requires-clause-tried g c =
+    let (from, (passed, kept, found)) = rw c.in-Some.is at c.in_ok-place.ensures.sought in tried-found c.search.cursor c.seek.new.cursor c.args.choices.now from c.in-Some.place found

@@ -21,6 +21,7 @@ invariant-search g l = record {
   opens : AreOpen (HasNote (g.R.Recorder.noted l.memo.recorder)) l.fn.cursor.shape l.choices (reverse l.turns.items) l.cursor.path;
   choices : l.ready.choices ≡ l.choices;
   ready : IsReady l.ready l.cursor;
+  rules : l.rules ≡ l.fn.cursor.shape;
 }
 
 abbrev pub decreases-search : goal.decreases-search

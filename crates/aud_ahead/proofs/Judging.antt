@@ -1,0 +1,112 @@
+-- What may be, once it is closed, refutes a list.
+use Rattle.std.specs.Prelude.{◌≡◌, ℕ, zero, suc, ◌+◌, ◌<◌, ◌≤◌, Bool, true, false, not, ◌&&◌, ◌||◌, nat_eq, nat_lt, List, [], ◌∷◌, map, length, Some, slice_get, slice_index_or, refl, ◌⊎◌}
+use Rattle.std.specs.List.{list_any}
+use Rattle.std.proofs.Common.{sym, ◌∙◌, ap, subst, inl, inr, arith, get_or}
+use Rattle.std.proofs.Math.ListN.{length-map}
+use Rattle.std.proofs.lemmas.Bool.Decides.{nat_tests}
+use Rattle.std.proofs.lemmas.Option.{slice_get_read}
+use Rattle.aud_event.specs.Meanings.{PlanOf}
+use Rattle.aud_event.proofs.Bools.{true_and, not_false, split, nat_eq-is}
+use Rattle.aud_object.specs.Objects.{ObjState}
+use Rattle.aud_history.specs.Histories.{History, events_of, is_in, is_completed}
+use Rattle.aud_history.specs.WellFormed.{IsWellFormed}
+use Rattle.aud_history.specs.FirstFault.{IsWithinLimits}
+use Rattle.aud_history.specs.Table.{RowOf, transactions, tx_status, first_stamp, last_stamp, row_of, table_of}
+use Rattle.aud_history.proofs.Tables.{any-transactions}
+use Rattle.aud_history.proofs.RowLaws.{is_before-by_stamps}
+use Rattle.aud_witness.specs.declared.decision.Fate.TheVariants.{C}
+use Rattle.aud_witness.specs.declared.decision.Decision.{Decision}
+use Rattle.aud_witness.specs.Orders.{is_allowed, is_named, Refuted}
+use Rattle.aud_witness.specs.Spots.{is_ended, status_allows}
+use Rattle.aud_witness.proofs.Bridge.{row-at, named-at, status-allowed, ended-status}
+use Rattle.aud_order.proofs.KidLemmas.{in-transactions}
+use Rattle.aud_ahead.specs.Hulls.{reached, MayComeBefore, IsHull}
+use Rattle.aud_ahead.specs.Ranges.{RunNowhere, StayWithin}
+use Rattle.aud_ahead.specs.Outlooks.{OutlookOf, MayBe, may_come, AreClosed, IsClosed}
+use Rattle.aud_ahead.proofs.HullLemmas.{refuted-by_hull}
+
+-- where a transaction stands among others
+place-among : (ts : List ℕ) (t : ℕ) → list_any (nat_eq t) ts ≡ true → (k : ℕ) × ((k < length ts) × (get_or ts k 0 ≡ t))
+place-among [] t h = absurd (cc)
+place-among (x ∷ ts) t h =
+    elim (split (nat_eq t x)) [
+      | inl same ↦ (0, (omega arith, sym (nat_eq-is t x same)))
+      | inr other ↦
+          let (k, (inside, is)) = place-among ts t (sym (ap (λ b. b || list_any (nat_eq t) ts) other) ∙ h) in
+          (suc k, (omega arith, is))
+    ]
+
+module _ (plan : PlanOf) (h : History) (p : List Decision) (outlook : OutlookOf) (fine : IsWellFormed h) (within : IsWithinLimits plan h) where
+  -- what may come before T by the definition may by the rows
+  comes : (t : ℕ) (d : Decision) → is_in h t ≡ true → MayComeBefore h p t d → d.fate ≡ C → may_come (row_of h t) (row_of h d.tx) ≡ true
+  comes t d there come commits =
+      let may : status_allows (tx_status (events_of d.tx h)) C ≡ true = status-allowed h d.tx C fine ∙ subst (λ f. is_allowed h d.tx f ≡ true) commits come.allowed in
+      let late : (is_ended (tx_status (events_of t h)) && nat_lt (last_stamp h t) (first_stamp h d.tx)) ≡ false =
+      ap (λ k. k && nat_lt (last_stamp h t) (first_stamp h d.tx)) (ended-status (events_of t h))
+      ∙ sym (is_before-by_stamps h t d.tx there ∙ ap (λ k. is_completed h t && k && nat_lt (last_stamp h t) (first_stamp h d.tx)) come.in_history ∙ ap (λ k. k && nat_lt (last_stamp h t) (first_stamp h d.tx)) (and_nothing (is_completed h t)))
+      ∙ come.free in
+      true_and (status_allows (tx_status (events_of d.tx h)) C) (not (is_ended (tx_status (events_of t h)) && nat_lt (last_stamp h t) (first_stamp h d.tx))) may
+      (not_false (is_ended (tx_status (events_of t h)) && nat_lt (last_stamp h t) (first_stamp h d.tx)) late)
+    where
+      and_nothing : (a : Bool) → (a && true) ≡ a
+      and_nothing true = refl
+      and_nothing false = refl
+
+  closed-hull : (t : ℕ) → is_in h t ≡ true → MayBe outlook (reached plan.objects h p) → IsClosed outlook (table_of h) (map (is_named p) (transactions h)) (row_of h t) →
+      IsHull plan.objects h p t (MayBe outlook)
+  closed-hull t there now closed = record {
+    now = now;
+    closed = λ d before after come commits may ran.
+        let (k, (inside, is)) = place-among (transactions h) d.tx (any-transactions h d.tx ∙ come.in_history) in
+        let row : slice_get (table_of h) k ≡ Some (row_of h d.tx) = row-at h (transactions h) k 0 inside ∙ ap (λ n. Some (row_of h n)) is in
+        let open_row : slice_index_or (map (is_named p) (transactions h)) k false ≡ false = named-at (is_named p) (transactions h) k 0 inside ∙ ap (is_named p) is ∙ come.new in
+        let within_rows : k < length (table_of h) = omega (arith, inside, length-map (transactions h) (row_of h)) in
+        closed k (row_of h d.tx) within_rows row open_row (comes t d there come commits) before after may ran;
+  }
+
+  pub refuted-stuck : (k : ℕ) (row d : RowOf) (placed : List Bool) (states : List ObjState) → k < length (table_of h) → row ≡ slice_index_or (table_of h) k d →
+      placed ≡ map (is_named p) (transactions h) → states ≡ reached plan.objects h p → slice_index_or placed k false ≡ false → RunNowhere (MayBe outlook) row.block.executions →
+      MayBe outlook states → IsClosed outlook (table_of h) placed row → Refuted plan.objects h p
+  refuted-stuck k row d placed states inside is marks now new nowhere holds closed =
+      let t : ℕ = get_or (transactions h) k 0 in
+      let short : k < length (transactions h) = omega (arith, inside, length-map (transactions h) (row_of h)) in
+      let own : row ≡ row_of h t = is ∙ named-row (transactions h) k d short in
+      let there : is_in h t ≡ true = in-transactions h k 0 short in
+      let fresh : is_named p t ≡ false = sym (named-at (is_named p) (transactions h) k 0 short) ∙ ap (λ l. slice_index_or l k false) (sym marks) ∙ new in
+      let stuck : RunNowhere (MayBe outlook) (row_of h t).block.executions = subst (λ (r : RowOf). RunNowhere (MayBe outlook) r.block.executions) own nowhere in
+      let hold : MayBe outlook (reached plan.objects h p) = subst (λ ss. MayBe outlook ss) now holds in
+      let shut : IsClosed outlook (table_of h) (map (is_named p) (transactions h)) (row_of h t) =
+      subst (λ (r : RowOf). IsClosed outlook (table_of h) (map (is_named p) (transactions h)) r) own (subst (λ l. IsClosed outlook (table_of h) l row) marks closed) in
+      refuted-by_hull plan h p t (MayBe outlook) fine within (closed-hull t there hold shut) there fresh stuck
+    where
+      named-row : (ts : List ℕ) (k : ℕ) (d : RowOf) → k < length ts → slice_index_or (map (row_of h) ts) k d ≡ row_of h (get_or ts k 0)
+      named-row [] k d low = absurd (omega arith)
+      named-row (t ∷ ts) zero d low = refl
+      named-row (t ∷ ts) (suc k) d low = named-row ts k d (omega arith)
+
+-- one row further
+pub closed-more : (outlook : OutlookOf) (rows : List RowOf) (placed : List Bool) (t : RowOf) (n : ℕ) (row : RowOf) (is_placed : Bool) → n < length rows → row ≡ slice_index_or rows n row →
+    is_placed ≡ slice_index_or placed n false → AreClosed outlook rows placed t n → (is_placed ≡ false → may_come t row ≡ true → StayWithin (MayBe outlook) row.block.executions) →
+    AreClosed outlook rows placed t (n + 1)
+closed-more outlook rows placed t n row is_placed inside is mark before here k r low at open_row may =
+    elim (less_or k n low) as (λ _. StayWithin (MayBe outlook) r.block.executions) [
+      | inl less ↦ before k r less at open_row may
+      | inr same ↦
+          let own : row ≡ r = unsome row r (sym (slice_get_read rows (length rows) n row refl inside is) ∙ ap (slice_get rows) (sym same) ∙ at) in
+          let off : is_placed ≡ false = mark ∙ ap (λ m. slice_index_or placed m false) (sym same) ∙ open_row in
+          subst (λ (x : RowOf). StayWithin (MayBe outlook) x.block.executions) own (here off (ap (λ (x : RowOf). may_come t x) own ∙ may))
+    ]
+  where
+    less_or : (k n : ℕ) → k < n + 1 → (k < n) ⊎ (k ≡ n)
+    less_or k n low =
+        elim (split (nat_eq k n)) [
+          | inl same ↦ inr (nat_eq-is k n same)
+          | inr other ↦ inl (grind (arith, nat_tests, other, low))
+        ]
+
+    unsome : (x y : RowOf) → Some x ≡ Some y → x ≡ y
+    unsome x y e = cc
+
+-- all rows
+pub closed-all : (outlook : OutlookOf) (rows : List RowOf) (placed : List Bool) (t : RowOf) (n : ℕ) → length rows ≤ n → AreClosed outlook rows placed t n → IsClosed outlook rows placed t
+closed-all outlook rows placed t n whole closed k r low at open_row may = closed k r (omega (arith, low, whole)) at open_row may

@@ -1,0 +1,6 @@
+pub mod HullLemmas
+pub mod SetLemmas
+pub mod CellLemmas
+pub mod SpanLemmas
+pub mod Outlooking
+pub mod Judging

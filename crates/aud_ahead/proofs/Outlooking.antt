@@ -1,0 +1,91 @@
+-- What may be of cells and of counters, together; and that what is now may be.
+use Rattle.std.specs.Prelude.{◌≡◌, ℕ, ℤ, zero, suc, Bool, true, false, ◌||◌, List, [], ◌∷◌, map, Option, Some, None, slice_get, slice_index_or, refl}
+use Rattle.std.specs.List.{list_any}
+use Rattle.std.specs.Ordering.{int_eq}
+use Rattle.std.proofs.Common.{sym, ◌∙◌, ap, subst}
+use Rattle.aud_event.specs.declared.fact.Event.{Event}
+use Rattle.aud_event.specs.declared.fact.Event.TheVariants.{Inv, Ret, TryC, TryA, Commit, Abort}
+use Rattle.aud_event.specs.Meanings.{Declared}
+use Rattle.aud_object.specs.Objects.{ObjState, opening_of, after_op, on_object}
+use Rattle.aud_object.specs.Executions.{state_after, states_after_from}
+use Rattle.aud_object.specs.Replayed.{executed}
+use Rattle.aud_object.specs.declared.execution.Execution.{Execution}
+use Rattle.aud_object.proofs.Ints.{eq-itself}
+use Rattle.aud_history.specs.Histories.{History}
+use Rattle.aud_witness.specs.declared.decision.Decision.{Decision}
+use Rattle.aud_witness.specs.Orders.{kept}
+use Rattle.aud_ahead.specs.declared.cell.Key.{Key}
+use Rattle.aud_ahead.specs.declared.cell.Cell.{Cell}
+use Rattle.aud_ahead.specs.Hulls.{reached}
+use Rattle.aud_ahead.specs.Ranges.{RunNowhere, StayWithin}
+use Rattle.aud_ahead.specs.Cells.{IsProper, cell_of, is_now, is_cell, Hold}
+use Rattle.aud_ahead.specs.Spans.{AreWithin}
+use Rattle.aud_ahead.specs.Outlooks.{OutlookOf, MayBe}
+use Rattle.aud_ahead.proofs.SetLemmas.{proper-after, proper-opening}
+use Rattle.aud_ahead.proofs.CellLemmas.{unsome}
+
+-- # States that are reached are proper
+
+proper-events : (s : ObjState) (es : List Event) → IsProper s → IsProper (state_after s es)
+proper-events s [] h = h
+proper-events s (Inv ob op ∷ []) h = h
+proper-events s (Inv ob op ∷ Ret a b c ∷ es) h = proper-events (after_op s op) es (proper-after s op h)
+proper-events s (Inv ob op ∷ Inv a b ∷ es) h = h
+proper-events s (Inv ob op ∷ TryC ∷ es) h = h
+proper-events s (Inv ob op ∷ TryA ∷ es) h = h
+proper-events s (Inv ob op ∷ Commit ∷ es) h = h
+proper-events s (Inv ob op ∷ Abort ∷ es) h = h
+proper-events s (Ret a b c ∷ es) h = h
+proper-events s (TryC ∷ es) h = h
+proper-events s (TryA ∷ es) h = h
+proper-events s (Commit ∷ es) h = h
+proper-events s (Abort ∷ es) h = h
+
+abbrev AreProper : List ObjState → Type 0
+AreProper states = (ob : ℕ) (s : ObjState) → slice_get states ob ≡ Some s → IsProper s
+
+proper-from : (n : ℕ) (states : List ObjState) (es : List Event) → AreProper states → AreProper (states_after_from n states es)
+proper-from n [] es h ob s at = absurd (cc)
+proper-from n (z ∷ states) es h zero s at = subst IsProper (unsome at) (proper-events z (on_object n es) (h 0 z refl))
+proper-from n (z ∷ states) es h (suc ob) s at = proper-from (suc n) states es (λ k q e. h (suc k) q e) ob s at
+
+proper-openings : (objects : List Declared) → AreProper (map opening_of objects)
+proper-openings [] ob s at = absurd (cc)
+proper-openings (d ∷ objects) zero s at = subst IsProper (unsome at) (proper-opening d)
+proper-openings (d ∷ objects) (suc ob) s at = proper-openings objects ob s at
+
+proper-reached : (objects : List Declared) (h : History) (p : List Decision) → AreProper (reached objects h p)
+proper-reached objects h p = proper-from 0 (map opening_of objects) (kept h p) (proper-openings objects)
+
+-- # What is now may be
+
+has-now : (s : ObjState) (key : Key) (v : ℤ) → cell_of s key ≡ Some v → is_now (Some s) key v ≡ true
+has-now s key v cell = ap (λ (o : Option ℤ). elim o as (λ _. Bool) [ Some w ↦ int_eq v w | None ↦ false ]) cell ∙ eq-itself v
+
+now-holds : (states : List ObjState) (loose : List (List Cell)) → AreProper states → Hold states loose states
+now-holds states loose proper = record {
+  proper = proper;
+  held = λ ob s key v at cell.
+      ap (λ b. b || list_any (is_cell key v) (slice_index_or loose ob [])) (ap (λ (o : Option ObjState). is_now o key v) at ∙ has-now s key v cell);
+}
+
+pub may-be-now : (outlook : OutlookOf) (objects : List Declared) (h : History) (p : List Decision) → outlook.now ≡ reached objects h p → AreWithin outlook.spans outlook.now →
+    MayBe outlook (reached objects h p)
+may-be-now outlook objects h p is within = record {
+  cells = subst (λ z. Hold outlook.now outlook.loose z) is (now-holds outlook.now outlook.loose (subst AreProper (sym is) (proper-reached objects h p)));
+  counters = subst (λ z. AreWithin outlook.spans z) is within;
+}
+
+-- # Both parts
+
+pub nowhere_cells : (outlook : OutlookOf) (xs : List Execution) → RunNowhere (Hold outlook.now outlook.loose) xs → RunNowhere (MayBe outlook) xs
+nowhere_cells outlook xs nowhere states may = nowhere states may.cells
+
+pub nowhere_counters : (outlook : OutlookOf) (xs : List Execution) → RunNowhere (AreWithin outlook.spans) xs → RunNowhere (MayBe outlook) xs
+nowhere_counters outlook xs nowhere states may = nowhere states may.counters
+
+pub nowhere-stays : (outlook : OutlookOf) (xs : List Execution) → RunNowhere (MayBe outlook) xs → StayWithin (MayBe outlook) xs
+nowhere-stays outlook xs nowhere states after may ran = absurd (let none : executed states xs ≡ None = nowhere states may in cc)
+
+pub both-stay : (outlook : OutlookOf) (xs : List Execution) → StayWithin (Hold outlook.now outlook.loose) xs → StayWithin (AreWithin outlook.spans) xs → StayWithin (MayBe outlook) xs
+both-stay outlook xs cells counters states after may ran = record { cells = cells states after may.cells ran; counters = counters states after may.counters ran }

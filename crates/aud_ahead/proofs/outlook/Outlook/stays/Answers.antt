@@ -1,0 +1,5 @@
+use Rattle.aud_ahead.proofs.Outlooking.{nowhere-stays}
+use Rattle.aud_ahead.proofs.outlook.Outlook.stays.Goals as goal
+
+pub returns-then-not-may_run : goal.returns-then-not-may_run
+returns-then-not-may_run g c = λ done. nowhere-stays c.args.self.now c.args.executions.now (c.may_run.ensures c.if-not-may_run.true)

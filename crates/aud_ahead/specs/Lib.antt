@@ -1,0 +1,5 @@
+pub mod Hulls
+pub mod Ranges
+pub mod Cells
+pub mod Spans
+pub mod Outlooks

@@ -1,0 +1,213 @@
+//! The look ahead of a list.
+
+ghost use Rattle.std.specs.Prelude.{◌≡◌, IfOk, IsTrue, MatchOption, ◌<◌};
+ghost use Rattle.aud_ahead.specs.Outlooks.{IsDoomed};
+
+use crate::brief::{Brief, Slots, briefs_of};
+use crate::judge::is_stuck;
+use crate::sight::{Sight, admit_until};
+use crate::wants::Wants;
+use aud_event::OutOfMemory;
+use aud_order::{Cursor, Shape};
+use std::alloc::{Allocator, Global};
+use std::marker::Model;
+
+/// A row, by when its transaction has to be placed.
+#[derive(Clone, Copy, PartialEq, Eq, PartialOrd, Ord)]
+struct Urgent {
+    last: u32,
+    place: usize,
+}
+
+/// How many rows are looked at after a list, those that end first.
+const LOOKS: usize = 24;
+
+/// How many rows that need a value of a cell are looked at once the cell changed.
+const NEAREST: usize = 64;
+
+/// Tells lists of which it is plain that none that begins with them shows the history: the block of some transaction runs in none of the
+/// states that may be in front of it. It knows what may be of registers, sets and counters; a queue may be anything.
+#[derive(Drop)]
+pub struct Ahead<'a, A: Allocator + Copy = Global> {
+    alloc: A,
+    shape: &'a Shape<A>,
+    slots: Slots<A>,
+    briefs: Vec<Brief<A>, A>,
+    urgent: Vec<Urgent, A>,
+    wants: Wants<A>,
+    sight: Sight<A>,
+}
+
+impl<'a, A: Allocator + Copy> Model for Ahead<'a, A> {
+    ghost use Rattle.aud_order.specs.Shapes.{ShapeOf};
+
+    ghost Value = { ShapeOf };
+
+    ghost view = { λ a. a.shape.now };
+}
+
+/// The rows, those first that have to be placed first.
+fn urgent_of<A: Allocator + Copy>(
+    alloc: A,
+    briefs: &[Brief<A>],
+) -> Result<Vec<Urgent, A>, OutOfMemory> {
+    let mut urgent = Vec::new(alloc);
+    for (place, brief) in briefs.iter().enumerate() {
+        urgent.push(Urgent {
+            last: brief.last,
+            place,
+        })?;
+    }
+    urgent.sort()?;
+    Ok(urgent)
+}
+
+impl<'a, A: Allocator + Copy> Ahead<'a, A> {
+    /// Of the lists of the shape. It goes over all executions once.
+    pub fn of(alloc: A, shape: &'a Shape<A>) -> Result<Ahead<'a, A>, OutOfMemory>
+        ensures { IfOk result (λ ahead. ahead ≡ shape.entry.now) }
+    {
+        let mut slots = Slots::new(alloc);
+        let briefs = briefs_of(alloc, &mut slots, shape)?;
+        let urgent = urgent_of(alloc, &briefs)?;
+        let wants = Wants::of(alloc, slots.list.len(), &briefs)?;
+        let objects = shape.plan().objects().len();
+        let sight = Sight::new(alloc, slots.list.len(), objects, briefs.len())?;
+        Ok(Ahead {
+            alloc,
+            shape,
+            slots,
+            briefs,
+            urgent,
+            wants,
+            sight,
+        })
+    }
+
+    /// A row that is not placed and may run in nothing that is found to be possible, among so many that end first.
+    fn find_stuck(&mut self, cursor: &Cursor<A>, looks: usize) -> Result<Option<usize>, OutOfMemory>
+        ensures { self.new ≡ self.old }
+    {
+        let (store, placed) = (cursor.store(), cursor.placed());
+        self.sight.begin();
+        let mut open = 0;
+        let mut looked = 0;
+        for urgent in &self.urgent {
+            if urgent.place >= placed.len() || placed.has(urgent.place) {
+                continue;
+            }
+            if looked >= looks {
+                return Ok(None);
+            }
+            looked += 1;
+            open = admit_until(&mut self.sight, &self.briefs, placed, open, urgent.last)?;
+            self.sight.widen(store, &self.slots.list, &self.briefs)?;
+            if !self.sight.is_active(urgent.place) {
+                return Ok(Some(urgent.place));
+            }
+        }
+        Ok(None)
+    }
+
+    /// Whether what was found shows that the block of the row at the place runs nowhere after the cursor's list.
+    fn is_shown(&self, cursor: &Cursor<A>, place: usize) -> Result<bool, OutOfMemory>
+        requires { cursor.now.shape ≡ self.now }
+        ensures { IfOk result (λ shown. IsTrue shown → IsDoomed cursor.now) }
+    {
+        let objects = cursor.store().len();
+        let loose = self.sight.loose(self.alloc, objects, &self.slots.list)?;
+        let spans = self.sight.spans(self.alloc, cursor.store())?;
+        if place >= self.shape.table().rows().len() {
+            return Ok(false);
+        }
+        Ok(is_stuck(self.shape, cursor, &loose, &spans, place))
+    }
+
+    /// A row that needs what no row that is not placed may bring any more, once the row at the place was placed.
+    fn find_starving(&self, cursor: &Cursor<A>, placed_last: usize) -> Option<usize> {
+        let (store, placed) = (cursor.store(), cursor.placed());
+        let slots = &self.slots.list;
+        let brief = self.briefs.get(placed_last)?;
+        for touch in &brief.touches {
+            if touch.leaves.is_some() {
+                let found = self
+                    .wants
+                    .starving(store, placed, slots, touch.slot, NEAREST);
+                if found.is_some() {
+                    return found;
+                }
+            }
+        }
+        None
+    }
+
+    /// Whether the row at the place may run in nothing that is found to be possible in front of it.
+    fn is_stuck_alone(&mut self, cursor: &Cursor<A>, place: usize) -> Result<bool, OutOfMemory>
+        ensures { self.new ≡ self.old }
+    {
+        let (store, placed) = (cursor.store(), cursor.placed());
+        let Some(brief) = self.briefs.get(place) else {
+            return Ok(false);
+        };
+        self.sight.begin();
+        admit_until(&mut self.sight, &self.briefs, placed, 0, brief.last)?;
+        self.sight.widen(store, &self.slots.list, &self.briefs)?;
+        Ok(!self.sight.is_active(place))
+    }
+
+    fn look_after(&mut self, cursor: &Cursor<A>, placed_last: usize) -> Result<bool, OutOfMemory>
+        requires { cursor.now.shape ≡ self.old }
+        ensures doomed { IfOk result (λ doomed. IsTrue doomed → IsDoomed cursor.now) }
+        ensures same { self.new ≡ self.old }
+    {
+        let Some(place) = self.find_starving(cursor, placed_last) else {
+            return Ok(false);
+        };
+        if self.is_stuck_alone(cursor, place)? {
+            return self.is_shown(cursor, place);
+        }
+        Ok(false)
+    }
+
+    fn look(&mut self, cursor: &Cursor<A>, looks: usize) -> Result<bool, OutOfMemory>
+        requires { cursor.now.shape ≡ self.old }
+        ensures doomed { IfOk result (λ doomed. IsTrue doomed → IsDoomed cursor.now) }
+        ensures same { self.new ≡ self.old }
+    {
+        match self.find_stuck(cursor, looks)? {
+            Some(place) => self.is_shown(cursor, place),
+            None => Ok(false),
+        }
+    }
+
+    /// Whether it is plain that no list that begins with the cursor's shows the history, though it was not so before the row at the
+    /// place was placed: some transaction reads what no other may write any more. Where memory is refused it says no.
+    pub fn is_doomed_by(&mut self, cursor: &Cursor<A>, placed_last: usize) -> bool
+        requires { cursor.now.shape ≡ self.old }
+        ensures doomed { IsTrue result → IsDoomed cursor.now }
+        ensures same { self.new ≡ self.old }
+    {
+        match self.look_after(cursor, placed_last) {
+            Ok(doomed) => doomed,
+            Err(_) => false,
+        }
+    }
+
+    /// Whether it is plain that no list that begins with the cursor's shows the history. It looks at the transactions that have to be
+    /// placed first, after the empty list at all. Where memory is refused it says no.
+    pub fn is_doomed(&mut self, cursor: &Cursor<A>) -> bool
+        requires { cursor.now.shape ≡ self.old }
+        ensures doomed { IsTrue result → IsDoomed cursor.now }
+        ensures same { self.new ≡ self.old }
+    {
+        let looks = if cursor.prefix().is_empty() {
+            usize::MAX
+        } else {
+            LOOKS
+        };
+        match self.look(cursor, looks) {
+            Ok(doomed) => doomed,
+            Err(_) => false,
+        }
+    }
+}

@@ -1,0 +1,216 @@
+//! What the cells of registers and sets may have.
+
+ghost use Rattle.std.specs.Prelude.{◌≡◌, ℤ, IsTrue, true, false, None, Some, slice_get, slice_index_or, []};
+ghost use Rattle.std.specs.List.{list_any};
+ghost use Rattle.aud_ahead.specs.Cells.{is_cell, is_now, may_answer, may_hold, may_hold_by, may_see, newer, told, told_by, told_of, Hold, TellWithin};
+ghost use Rattle.aud_ahead.specs.declared.cell.Cell.{Cell};
+ghost use Rattle.aud_ahead.specs.Ranges.{RunNowhere, StayWithin};
+
+use crate::cell::{Cell, Key, one_if, same_key, seen_by, told_by};
+use aud_event::{Answer, Op, OutOfMemory};
+use aud_object::{Execution, Store};
+use std::alloc::{Allocator, Global};
+use std::marker::Model;
+
+/// What is known of a cell, once this was told.
+fn told_of(key: Key, known: Option<i64>, cell: Option<Cell>) -> Option<i64>
+    ensures { result ≡ told_of key known cell }
+{
+    match cell {
+        None => known,
+        Some(cell) => {
+            if same_key(cell.key, key) {
+                Some(cell.value)
+            } else {
+                known
+            }
+        }
+    }
+}
+
+/// What is known of a cell of an object, once an execution more ran.
+fn newer(known: Option<i64>, x: &Execution, object: u16, key: Key) -> Option<i64>
+    ensures { result ≡ newer known x.now object key }
+{
+    if x.object == object {
+        told_of(key, known, told_by(x.op, x.answer))
+    } else {
+        known
+    }
+}
+
+/// What the executions tell of the cell last.
+fn told(executions: &[Execution], object: u16, key: Key) -> Option<i64>
+    ensures { result ≡ told None executions.now object key }
+{
+    let mut known = None;
+    for x in executions {
+        known = newer(known, x, object, key);
+    }
+    known
+}
+
+/// Whether the object's cell has the value now.
+fn is_now<A: Allocator + Drop>(store: &Store<A>, object: usize, key: Key, value: i64) -> bool
+    ensures { result ≡ is_now (slice_get store.now.now object) key value }
+{
+    match key {
+        Key::Own => store.answer(object, Op::Read) == Some(Answer::Int(value)),
+        Key::Element(element) => match store.answer(object, Op::Contains(element)) {
+            Some(Answer::Flag(flag)) => value == one_if(flag),
+            _ => false,
+        },
+    }
+}
+
+/// Whether the cell is of the key and has the value.
+fn is_cell(key: Key, value: i64, cell: &Cell) -> bool
+    ensures { result ≡ is_cell key value cell.now }
+{
+    same_key(cell.key, key) && value == cell.value
+}
+
+/// Whether one of the cells is of the key and has the value.
+fn has_cell(cells: &[Cell], key: Key, value: i64) -> bool
+    ensures { result ≡ list_any (is_cell key value) cells.now }
+{
+    cells.iter().any(|cell| is_cell(key, value, cell))
+}
+
+/// For each object the cells that it may have, beside those that it has now.
+#[derive(Drop)]
+pub(crate) struct Loose<A: Allocator + Copy = Global> {
+    cells: Vec<Vec<Cell, A>, A>,
+}
+
+impl<A: Allocator + Copy> Model for Loose<A> {
+    ghost use Rattle.std.specs.Prelude.{List, map};
+    ghost use Rattle.aud_ahead.specs.declared.cell.Cell.{Cell};
+
+    ghost Value = { List (List Cell) };
+
+    ghost view = { λ l. map (λ v. v.items) l.cells.items };
+}
+
+impl<A: Allocator + Copy> Loose<A> {
+    /// So many objects may have no other cells.
+    pub(crate) fn none(alloc: A, objects: usize) -> Result<Loose<A>, OutOfMemory> {
+        let mut cells = Vec::new(alloc);
+        for _ in 0..objects {
+            cells.push(Vec::new(alloc))?;
+        }
+        Ok(Loose { cells })
+    }
+
+    /// The object may have the cell, too.
+    pub(crate) fn add(&mut self, object: usize, cell: Cell) -> Result<(), OutOfMemory> {
+        match self.cells.get_mut(object) {
+            Some(cells) => {
+                if !has_cell(cells, cell.key, cell.value) {
+                    cells.push(cell)?;
+                }
+                Ok(())
+            }
+            None => Ok(()),
+        }
+    }
+
+    /// Whether the object's cell may have the value.
+    fn has(&self, store: &Store<A>, object: usize, key: Key, value: i64) -> bool
+        ensures { result ≡ may_hold store.now.now self.now object key value }
+    {
+        is_now(store, object, key, value)
+            || match self.cells.get(object) {
+                Some(cells) => has_cell(cells, key, value),
+                None => false,
+            }
+    }
+
+    /// The same where it is known what was told of the cell.
+    fn has_by(
+        &self,
+        store: &Store<A>,
+        object: usize,
+        key: Key,
+        known: Option<i64>,
+        value: i64,
+    ) -> bool
+        ensures { result ≡ may_hold_by store.now.now self.now object key known value }
+    {
+        match known {
+            None => self.has(store, object, key, value),
+            Some(only) => value == only,
+        }
+    }
+
+    /// Whether the object may have the cell before an operation, after executions.
+    fn may_see(
+        &self,
+        store: &Store<A>,
+        before: &[Execution],
+        object: u16,
+        seen: Option<Cell>,
+    ) -> bool
+        ensures { result ≡ may_see store.now.now self.now before.now object seen }
+    {
+        match seen {
+            None => true,
+            Some(cell) => {
+                let known = told(before, object, cell.key);
+                self.has_by(store, object as usize, cell.key, known, cell.value)
+            }
+        }
+    }
+
+    /// Whether the execution may have its answer after the others.
+    fn may_answer(&self, store: &Store<A>, before: &[Execution], x: &Execution) -> bool
+        ensures { result ≡ may_answer store.now.now self.now before.now x.now }
+    {
+        self.may_see(store, before, x.object, seen_by(x.op, x.answer))
+    }
+
+    /// Whether the executions may run.
+    pub(crate) fn may_run(&self, store: &Store<A>, executions: &[Execution]) -> bool
+        ensures { result ≡ false → RunNowhere (Hold store.now.now self.now) executions.now }
+    {
+        for (place, x) in executions.iter().enumerate() {
+            if !self.may_answer(store, &executions[..place], x) {
+                return false;
+            }
+        }
+        true
+    }
+
+    /// Whether what the executions tell last of the cell is among what it may have.
+    fn has_told(&self, store: &Store<A>, executions: &[Execution], object: u16, key: Key) -> bool
+        ensures { IsTrue result → (v : ℤ) → told None executions.now object key ≡ Some v → may_hold store.now.now self.now object key v ≡ true }
+    {
+        match told(executions, object, key) {
+            Some(value) => self.has(store, object as usize, key, value),
+            None => true,
+        }
+    }
+
+    /// The same of the cell of which the execution tells, if it does of one.
+    fn has_told_by(&self, store: &Store<A>, executions: &[Execution], x: &Execution) -> bool
+        ensures { IsTrue result → (c : Cell) (v : ℤ) → told_by x.now.op x.now.answer ≡ Some c → told None executions.now x.now.object c.key ≡ Some v →
+            may_hold store.now.now self.now x.now.object c.key v ≡ true }
+    {
+        match told_by(x.op, x.answer) {
+            Some(cell) => self.has_told(store, executions, x.object, cell.key),
+            None => true,
+        }
+    }
+
+    /// Whether the executions lead from what cells may have to what they may have, where they run.
+    pub(crate) fn stays(&self, store: &Store<A>, executions: &[Execution]) -> bool
+        ensures { IsTrue result → StayWithin (Hold store.now.now self.now) executions.now }
+    {
+        for x in executions {
+            if !self.has_told_by(store, executions, x) {
+                return false;
+            }
+        }
+        true
+    }
+}

@@ -1,0 +1,92 @@
+//! Whether what may be shows that a list is refuted.
+
+ghost use Rattle.std.specs.Prelude.{◌≡◌, ◌<◌, IsTrue, false, true, length};
+ghost use Rattle.aud_history.specs.Table.{table_of};
+ghost use Rattle.aud_witness.specs.Spots.{is_ended};
+ghost use Rattle.aud_order.specs.Shapes.{history_of};
+ghost use Rattle.aud_ahead.specs.Ranges.{StayWithin};
+ghost use Rattle.aud_ahead.specs.Outlooks.{may_come, IsClosed, IsDoomed, MayBe};
+
+use crate::cells::Loose;
+use crate::outlook::Outlook;
+use crate::span::Spans;
+use aud_history::{Status, TxRow};
+use aud_marks::Marks;
+use aud_order::{Cursor, Shape};
+use aud_witness::{Fate, allows};
+use std::alloc::Allocator;
+
+/// Whether a transaction of the status is committed or aborted.
+pub(crate) fn has_ended(status: Status) -> bool
+    ensures { result ≡ is_ended status }
+{
+    match status {
+        Status::Committed | Status::Aborted => true,
+        Status::CommitPending | Status::Live => false,
+    }
+}
+
+/// Whether the other row's transaction may commit before the row's.
+fn may_come<A: Allocator>(row: &TxRow<A>, other: &TxRow<A>) -> bool
+    ensures { result ≡ may_come row.now other.now }
+{
+    allows(other.status(), Fate::C) && !(has_ended(row.status()) && row.last() < other.first())
+}
+
+/// Whether the other row leads from what may be to what may be, where it is not placed and may come before the row.
+fn stays_under<A: Allocator + Copy>(
+    outlook: &Outlook<A>,
+    row: &TxRow<A>,
+    other: &TxRow<A>,
+    is_placed: bool,
+) -> bool
+    ensures { IsTrue result → is_placed ≡ false → may_come row.now other.now ≡ true → StayWithin (MayBe outlook.now) other.now.block.executions }
+{
+    is_placed || !may_come(row, other) || outlook.stays(other.block().executions())
+}
+
+/// Whether all rows do.
+fn is_closed<A: Allocator + Copy>(
+    outlook: &Outlook<A>,
+    rows: &[TxRow<A>],
+    placed: &Marks<A>,
+    row: &TxRow<A>,
+) -> bool
+    ensures { IsTrue result → IsClosed outlook.now rows.now placed.now row.now }
+{
+    for (place, other) in rows.iter().enumerate() {
+        if !stays_under(outlook, row, other, placed.has(place)) {
+            return false;
+        }
+    }
+    true
+}
+
+/// Whether it follows from what may be that the block of the row at the place runs nowhere after the cursor's list: then no list that
+/// begins with that shows the history.
+pub(crate) fn is_stuck<A: Allocator + Copy>(
+    shape: &Shape<A>,
+    cursor: &Cursor<A>,
+    loose: &Loose<A>,
+    spans: &Spans<A>,
+    place: usize,
+) -> bool
+    requires shape { cursor.now.shape ≡ shape.now }
+    requires inside { place < length (table_of (history_of shape.now)) }
+    ensures { IsTrue result → IsDoomed cursor.now }
+{
+    let _sound = shape.history();
+    let _within = shape.plan();
+    let rows = shape.table().rows();
+    let row = &rows[place];
+    let placed = cursor.placed();
+    let outlook = Outlook {
+        store: cursor.store(),
+        loose,
+        spans,
+    };
+    if placed.has(place) || outlook.may_run(row.block().executions()) {
+        return false;
+    }
+    outlook.holds() && is_closed(&outlook, rows, placed, row)
+}

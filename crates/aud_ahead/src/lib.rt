@@ -1,0 +1,16 @@
+#![tactic(auto)]
+//! When no list that begins with another shows a history, though each of its decisions is good: what objects may be in front of a
+//! transaction.
+
+mod ahead;
+mod brief;
+mod cell;
+mod cells;
+mod judge;
+pub mod laws;
+mod outlook;
+mod sight;
+mod span;
+mod wants;
+
+pub use ahead::Ahead;

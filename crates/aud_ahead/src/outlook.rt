@@ -1,0 +1,60 @@
+//! What objects may be in front of a transaction.
+
+ghost use Rattle.std.specs.Prelude.{◌≡◌, IsTrue, false};
+ghost use Rattle.aud_ahead.specs.Outlooks.{MayBe};
+ghost use Rattle.aud_ahead.specs.Ranges.{RunNowhere, StayWithin};
+ghost use Rattle.aud_ahead.specs.Spans.{AreWithin};
+
+use crate::cells::Loose;
+use crate::span::Spans;
+use aud_object::{Execution, Store};
+use std::alloc::{Allocator, Global};
+use std::marker::Model;
+
+/// What objects may be: what they are in the store, and what beside that.
+#[derive(Drop)]
+pub(crate) struct Outlook<'a, A: Allocator + Copy = Global> {
+    pub store: &'a Store<A>,
+    pub loose: &'a Loose<A>,
+    pub spans: &'a Spans<A>,
+}
+
+impl<'a, A: Allocator + Copy> Model for Outlook<'a, A> {
+    ghost use Rattle.aud_ahead.specs.Outlooks.{OutlookOf};
+
+    ghost Value = { OutlookOf };
+
+    ghost view = { λ o. record { now = o.store.now.now; loose = o.loose.now; spans = o.spans.now } };
+}
+
+impl<'a, A: Allocator + Copy> Outlook<'a, A> {
+    /// Whether the counters of the store are within their spans.
+    pub(crate) fn holds(&self) -> bool
+        ensures { IsTrue result → AreWithin self.now.spans self.now.now }
+    {
+        self.spans.hold(self.store)
+    }
+
+    /// Whether the executions may run.
+    pub(crate) fn may_run(&self, executions: &[Execution]) -> bool
+        ensures { result ≡ false → RunNowhere (MayBe self.now) executions.now }
+    {
+        if !self.loose.may_run(self.store, executions) {
+            return false;
+        }
+        if !self.spans.may_run(executions) {
+            return false;
+        }
+        true
+    }
+
+    /// Whether the executions lead from what may be to what may be, where they run.
+    pub(crate) fn stays(&self, executions: &[Execution]) -> bool
+        ensures { IsTrue result → StayWithin (MayBe self.now) executions.now }
+    {
+        if !self.may_run(executions) {
+            return true;
+        }
+        self.loose.stays(self.store, executions) && self.spans.stays(executions)
+    }
+}

@@ -1,0 +1,10 @@
+pub mod Acting
+pub mod Registering
+pub mod Counting
+pub mod Queueing
+pub mod Membering
+pub mod Waying
+pub mod Exchanging
+pub mod Harmlessly
+pub mod Suiting
+pub mod Tabling

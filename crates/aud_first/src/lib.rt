@@ -1,0 +1,11 @@
+#![tactic(auto)]
+//! Transactions that may be placed at once, though they change objects.
+
+mod deed;
+mod first;
+mod flip;
+pub mod laws;
+mod uses;
+mod way;
+
+pub use first::First;
