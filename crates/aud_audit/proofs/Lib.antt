@@ -1,5 +1,6 @@
 pub mod Seating
 pub mod Ending
 pub mod Saying
+pub mod Commanding
 pub mod Meshing
 pub mod Crosses

@@ -2,3 +2,4 @@ pub mod Seats
 pub mod Meshes
 pub mod Searches
 pub mod Lines
+pub mod Commands
