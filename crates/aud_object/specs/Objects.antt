@@ -61,6 +61,11 @@ greatest = pos 9223372036854775807
 abbrev pub least : ℤ
 least = pos 0 -ℤ pos 9223372036854775808
 
+-- the items of a queue; of other objects none
+abbrev pub items_of : ObjState → List ℤ
+items_of (queue q) = q
+items_of _ = []
+
 -- the table: what an operation answers
 abbrev pub answer_of : ObjState → Op → Answer
 answer_of (register v) Read = Int v

@@ -78,7 +78,7 @@ impl<A: Allocator + Drop> Items<A> {
     }
 
     /// The items, the front first.
-    fn left(&self) -> &[i64]
+    pub(crate) fn left(&self) -> &[i64]
         ensures { result.now ≡ items_in self.now }
     {
         &self.all[self.gone..]

@@ -1,7 +1,7 @@
 //! The state of one object. A change of it can be taken back with no memory.
 
 ghost use Rattle.std.specs.Prelude.{◌≡◌, ◌↔◌, IsTrue, IfOk, OnErr, OnOk, MatchOption};
-ghost use Rattle.aud_object.specs.Objects.{answer_of, after_op, opening_of};
+ghost use Rattle.aud_object.specs.Objects.{answer_of, after_op, front_of, items_of, opening_of};
 ghost use Rattle.aud_object.specs.Keeps.{back_value};
 ghost use Rattle.aud_object.specs.States.{meaning, back};
 ghost use Rattle.aud_object.specs.Digests.{digest_of};
@@ -34,6 +34,16 @@ fn back_number(value: &mut i64, change: Change)
     }
 }
 
+/// What is answered to a removal from the front of these items.
+fn front_answer(items: &[i64]) -> Answer
+    ensures { result ≡ front_of items.now }
+{
+    match items.first() {
+        Some(front) => Answer::Int(*front),
+        None => Answer::Empty,
+    }
+}
+
 impl<A: Allocator + Clone> State<A> {
     /// Runs the operation, and says what it changed. An operation that is not of the kind answers Done and changes nothing.
     pub(crate) fn apply(&mut self, op: Op) -> Result<(Answer, Option<Change>), OutOfMemory>
@@ -62,6 +72,30 @@ impl<A: Allocator + Drop> State<A> {
             (State::SetOf(s), State::SetOf(t)) => s.same(t),
             (State::Queue(p), State::Queue(q)) => p.same(q),
             _ => false,
+        }
+    }
+
+    /// What the operation would be answered now.
+    pub(crate) fn answer(&self, op: Op) -> Answer
+        ensures { result ≡ answer_of (meaning self.now) op }
+    {
+        match (self, op) {
+            (State::Register(v), Op::Read) => Answer::Int(*v),
+            (State::Counter(v), Op::Get) => Answer::Int(*v),
+            (State::SetOf(set), Op::Add(v)) => Answer::Flag(!set.has(v)),
+            (State::SetOf(set), Op::Remove(v) | Op::Contains(v)) => Answer::Flag(set.has(v)),
+            (State::Queue(items), Op::Deq) => front_answer(items.left()),
+            _ => Answer::Done,
+        }
+    }
+
+    /// The items of a queue, the front first. Of other kinds there are none.
+    pub(crate) fn items(&self) -> &[i64]
+        ensures { result.now ≡ items_of (meaning self.now) }
+    {
+        match self {
+            State::Queue(items) => items.left(),
+            _ => &[],
         }
     }
 

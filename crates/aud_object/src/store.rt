@@ -1,7 +1,7 @@
 //! The states of all objects of a plan, with a log by which a block is taken back with no memory.
 
 ghost use Rattle.std.specs.Prelude.{◌≡◌, ◌≢◌, ◌↔◌, ◌≤◌, IsTrue, [], ◌∷◌, length, true, false, map, IfOk, OnErr, OnOk, option_map, is_some, slice_get};
-ghost use Rattle.aud_object.specs.Objects.{opening_of};
+ghost use Rattle.aud_object.specs.Objects.{answer_of, items_of, opening_of};
 ghost use Rattle.aud_object.specs.States.{meaning};
 ghost use Rattle.aud_object.specs.Shown.{shown};
 ghost use Rattle.aud_object.specs.Logs.{back_at, LeadsBack};
@@ -150,6 +150,26 @@ impl<A: Allocator + Drop> Store<A> {
     {
         match self.states.get(object) {
             Some(state) => Some(state.digest()),
+            None => None,
+        }
+    }
+
+    /// What the object would answer to the operation now, if there is such an object. It does not allocate, and nothing changes.
+    pub fn answer(&self, object: usize, op: Op) -> Option<Answer>
+        ensures { result ≡ option_map (λ s. answer_of s op) (slice_get self.now.now object) }
+    {
+        match self.states.get(object) {
+            Some(state) => Some(state.answer(op)),
+            None => None,
+        }
+    }
+
+    /// The items of the object now, the front first, if there is such an object and it is a queue. It does not allocate.
+    pub fn items(&self, object: usize) -> Option<&[i64]>
+        ensures { option_map (λ items. items.now) result ≡ option_map items_of (slice_get self.now.now object) }
+    {
+        match self.states.get(object) {
+            Some(state) => Some(state.items()),
             None => None,
         }
     }
