@@ -1,6 +1,5 @@
 pub mod Seating
 pub mod Ending
 pub mod Saying
-pub mod Commanding
 pub mod Meshing
 pub mod Crosses

@@ -1,4 +1,5 @@
 pub mod Seats
+pub mod Doings
 pub mod Meshes
 pub mod Searches
 pub mod Lines

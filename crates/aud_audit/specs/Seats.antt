@@ -1,17 +1,10 @@
 -- Nodes, their collectors and their crews, by place.
-use Rattle.std.specs.Prelude.{◌≡◌, ◌<◌, ◌+◌, ◌++◌, ◌∷◌, [], ℕ, Bool, false, List, All, length, slice_index_or, Option, IfSome}
-use Rattle.std.specs.declared.alloc.Global.{Global}
+use Rattle.std.specs.Prelude.{◌≡◌, ◌<◌, ◌+◌, ℕ, Bool, List, length, slice_index_or, Option, IfSome}
 use Rattle.logbook.specs.Pages.{Book}
 use Rattle.aud_event.specs.Meanings.{PlanOf}
-use Rattle.aud_facts.specs.Sets.{FactsOf}
-use Rattle.aud_facts.specs.Shares.{share_of}
-use Rattle.aud_know.specs.Known.{KnowledgeOf, knowing_facts}
-use Rattle.aud_know.specs.declared.item.Item.{Item}
-use Rattle.aud_know.specs.declared.item.Item.TheVariants as item
+use Rattle.aud_know.specs.Known.{KnowledgeOf}
 use Rattle.aud_node.specs.Faults.{HasSeat}
-use Rattle.aud_node.specs.Logs.{state_of}
-use Rattle.aud_node.specs.Meanings.{NodeOf, OpenedOf, PassOf, mine}
-use Rattle.aud_gossip.specs.Deltas.{joined}
+use Rattle.aud_node.specs.Meanings.{NodeOf, OpenedOf, PassOf}
 use Rattle.aud_gossip.specs.Receiving.{GoesFurther}
 use Rattle.aud_pool.specs.Workers.{IsCrew}
 
@@ -74,25 +67,6 @@ pub record IsCrewAt (n : NodeOf) (c : CrewOf) : Type 0 where
   pub count : n.seats ≡ length c.passes + 1
   pub workers : IsCrew (length c.passes)
   pub taken : IsTakenOf n.plan c.taken
-
--- memory was refused to none of them
-abbrev pub AreDone : List CollectorOf → List CrewOf → Type 0
-AreDone collectors crews = All (λ d. d.failed ≡ false) collectors × All (λ c. c.failed ≡ false) crews
-
--- what the first pass of the crew sees was taken to be posted
-abbrev pub HasPosted : PlanOf → CrewOf → CrewOf → Type 0
-HasPosted plan old new = (d : PassOf) → new.taken ≡ joined old.taken (state_of plan (slice_index_or new.passes 0 d).view)
-
--- the item is what is known of these facts alone
-abbrev pub IsOfFacts : FactsOf → Item Global → Type 0
-IsOfFacts facts (item.Fact f) = ⊥
-IsOfFacts facts (item.Finding g) = ⊥
-IsOfFacts facts (item.Known k) = k.value ≡ knowing_facts facts
-
--- the pass offered one item more: what is known of the facts of the node of that number, of so many nodes
-abbrev pub HasOffered : FactsOf → ℕ → ℕ → PassOf → PassOf → Type 0
-HasOffered facts nodes number old new =
-    (i : Item Global) × ((mine new ≡ mine old ++ i ∷ []) × IsOfFacts (record { plan = facts.plan; facts = share_of nodes number facts.facts }) i)
 
 -- # Nodes
 

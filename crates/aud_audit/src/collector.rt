@@ -2,7 +2,8 @@
 
 ghost use Rattle.std.specs.Prelude.{◌≡◌, ◌<◌, false, OnOk};
 ghost use Rattle.aud_node.specs.Meanings.{IsAt};
-ghost use Rattle.aud_audit.specs.Seats.{HasOffered, IsSameSeat};
+ghost use Rattle.aud_audit.specs.Doings.{HasOffered};
+ghost use Rattle.aud_audit.specs.Seats.{IsSameSeat};
 
 use aud_event::OutOfMemory;
 use aud_facts::Facts;

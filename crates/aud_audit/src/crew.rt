@@ -7,7 +7,8 @@ ghost use Rattle.aud_split.specs.Pools.{MayRun};
 ghost use Rattle.aud_gossip.specs.Deltas.{joined};
 ghost use Rattle.aud_gossip.specs.Receiving.{GoesFurther};
 ghost use Rattle.aud_order.specs.Shapes.{plan_of};
-ghost use Rattle.aud_audit.specs.Seats.{AreLater, HasPosted, IsCrewAt, IsTakenOf};
+ghost use Rattle.aud_audit.specs.Doings.{HasPosted};
+ghost use Rattle.aud_audit.specs.Seats.{AreLater, IsCrewAt, IsTakenOf};
 ghost use Rattle.aud_audit.specs.Searches.{IsShare, ShareHasEnded};
 
 use aud_event::{Dup, OutOfMemory};

@@ -3,7 +3,8 @@
 ghost use Rattle.std.specs.Prelude.{◌≡◌, ◌≤◌, ◌<◌, false, IfOk, OnOk, IsTrue, length, vec_len};
 ghost use Rattle.std.specs.List.{HoldsAt};
 ghost use Rattle.aud_order.specs.Shapes.{plan_of};
-ghost use Rattle.aud_audit.specs.Seats.{AreOf, AreCrews, AreCollectors, AreDone, IsCrewAt, IsCollectorAt};
+ghost use Rattle.aud_audit.specs.Doings.{AreDone};
+ghost use Rattle.aud_audit.specs.Seats.{AreOf, AreCrews, AreCollectors, IsCrewAt, IsCollectorAt};
 ghost use Rattle.aud_audit.specs.Searches.{HaveEnded, SearchHasEnded, CrewsHaveEnded, ShareHasEnded};
 ghost use Rattle.aud_audit.specs.Meshes.{IsMesh, IsMeshFor};
 
