@@ -1,5 +1,5 @@
 use Rattle.std.proofs.Common.{rules}
-use Rattle.aud_cli.proofs.Reading.{unread, read_more, read_none, read_all}
+use Rattle.aud_cli.proofs.Consuming.{unread, read_more, read_none, read_all}
 use Rattle.aud_cli.proofs.reading.read_whole.Goals.{in-Ok+else-is_err, in-Err}
 use Rattle.aud_cli.proofs.reading.read_whole.Goals as goal
 
