@@ -148,6 +148,9 @@ fn command_hands_out_its_line(rt: HostRuntime) -> Result<(), Fail> {
     let command = Command::Lines(job(alloc)?);
     let input = Vec::from_slice(alloc, READER_AFTER_COMMIT.as_bytes())?;
     let (line, ended) = run_command(&rt, alloc, &command, input);
-    assert_eq!(rt; (line.as_slice(), ended), (b"opaque 1c 2c\n".as_slice(), Ended::Opaque));
+    assert_eq!(rt;
+        (line.as_slice(), ended),
+        (b"opaque 1c 2c\n".as_slice(), Ended::Opaque)
+    );
     Ok(())
 }

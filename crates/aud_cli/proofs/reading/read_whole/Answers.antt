@@ -11,6 +11,6 @@ returns-in-Ok-eq0-clause-bytes g c = read_all _ _ _ c.read.result c.loop.bytes.i
 
 pub loop-preserved : goal.loop-preserved
 loop-preserved g c = elim c.match-read.branch [
-    | in-Ok+else-is_err w ↦ read_more _ _ _ c.read.result w.in-Ok.count c.loop.bytes.items c.read.new.buf c.match-read.bytes.items c.loop.invariant c.read.ensures.bytes w.in-Ok.is (search rules)
-    | in-Err w ↦ read_none _ _ _ c.read.result w.in-Err.error c.loop.bytes.items c.read.new.buf c.match-read.bytes.items c.loop.invariant c.read.ensures.bytes w.in-Err.is (search rules)
+  | in-Ok+else-is_err w ↦ read_more _ _ _ c.read.result w.in-Ok.count c.loop.bytes.items c.read.new.buf c.match-read.bytes.items c.loop.invariant c.read.ensures.bytes w.in-Ok.is (search rules)
+  | in-Err w ↦ read_none _ _ _ c.read.result w.in-Err.error c.loop.bytes.items c.read.new.buf c.match-read.bytes.items c.loop.invariant c.read.ensures.bytes w.in-Err.is (search rules)
 ]
