@@ -1,4 +1,6 @@
 pub mod Seats
+pub mod Doings
 pub mod Meshes
 pub mod Searches
 pub mod Lines
+pub mod Commands

@@ -1,7 +1,8 @@
 //! What a node's first seat does: it offers facts, and takes in what other nodes post.
 
-ghost use Rattle.std.specs.Prelude.{◌≡◌, ◌<◌};
+ghost use Rattle.std.specs.Prelude.{◌≡◌, ◌<◌, false, OnOk};
 ghost use Rattle.aud_node.specs.Meanings.{IsAt};
+ghost use Rattle.aud_audit.specs.Doings.{HasOffered};
 ghost use Rattle.aud_audit.specs.Seats.{IsSameSeat};
 
 use aud_event::OutOfMemory;
@@ -43,7 +44,8 @@ fn offer_share<J: Fleet, S: Wait + Drop, R: Wait>(
     requires at { IsAt node.now pass.old }
     requires plan { facts.now.plan ≡ node.now.plan }
     requires some { 0 < nodes }
-    ensures { IsSameSeat pass.old pass.new }
+    ensures seat { IsSameSeat pass.old pass.new }
+    ensures offered { OnOk result (HasOffered facts.now nodes node.now.number pass.old pass.new) }
 {
     let share = facts.share(nodes, node.number() as usize)?;
     let known = Arc::new(alloc, Knowledge::of_facts(alloc, share)?)?;
@@ -67,7 +69,8 @@ impl<J: Fleet> Collector<J> {
         requires at { IsAt node.now self.old.pass }
         requires plan { facts.now.plan ≡ node.now.plan }
         requires some { 0 < nodes }
-        ensures { IsSameSeat self.old.pass self.new.pass }
+        ensures seat { IsSameSeat self.old.pass self.new.pass }
+        ensures offered { self.new.failed ≡ false → HasOffered facts.now nodes node.now.number self.old.pass self.new.pass }
     {
         if offer_share(rt, alloc, node, &mut self.pass, facts, nodes).is_err() {
             self.failed = true;

@@ -1,10 +1,13 @@
 //! What the workers of a node do: they search its tasks, and post what the node knows.
 
-ghost use Rattle.std.specs.Prelude.{◌≡◌, ◌<◌, ◌≤◌, true, false, IfOk, vec_len};
+ghost use Rattle.std.specs.Prelude.{◌≡◌, ◌<◌, ◌≤◌, true, false, IfOk, OnOk, vec_len};
+ghost use Rattle.aud_node.specs.Logs.{state_of};
 ghost use Rattle.aud_node.specs.Meanings.{IsAt};
 ghost use Rattle.aud_split.specs.Pools.{MayRun};
+ghost use Rattle.aud_gossip.specs.Deltas.{joined};
 ghost use Rattle.aud_gossip.specs.Receiving.{GoesFurther};
 ghost use Rattle.aud_order.specs.Shapes.{plan_of};
+ghost use Rattle.aud_audit.specs.Doings.{HasPosted};
 ghost use Rattle.aud_audit.specs.Seats.{AreLater, IsCrewAt, IsTakenOf};
 ghost use Rattle.aud_audit.specs.Searches.{IsShare, ShareHasEnded};
 
@@ -117,6 +120,7 @@ fn post_from<J: Fleet, S: Wait + Drop, R: Wait>(
     requires taken { IsTakenOf node.now.plan outbox.old.taken }
     ensures further { GoesFurther pass.old pass.new }
     ensures taken { IsTakenOf node.now.plan outbox.new.taken }
+    ensures posted { OnOk result (outbox.new.taken ≡ joined outbox.old.taken (state_of node.now.plan pass.new.view)) }
 {
     let packet = match node.snapshot(pass) {
         Ok(packet) => packet,
@@ -152,6 +156,7 @@ impl<J: Fleet> Crew<J> {
         ensures crew { IsCrewAt node.now self.new }
         ensures later { AreLater self.old.passes self.new.passes }
         ensures failed { self.new.failed ≡ false → self.old.failed ≡ false }
+        ensures posted { self.new.failed ≡ false → HasPosted node.now.plan self.old self.new }
     {
         let posted = post_from(rt, node, &mut self.passes[0], &mut self.outbox);
         self.failed = self.failed || posted.is_err();

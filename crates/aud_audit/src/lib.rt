@@ -1,8 +1,10 @@
 #![tactic(auto)]
-//! The audit of an input: nodes that took different logs tell each other what they have, and their workers search side by side.
+//! The audit of an input: nodes that took different logs tell each other what they have, and their workers search side by side. And
+//! the run of any command, an audit or another.
 
 mod closing;
 mod collector;
+mod command;
 mod crew;
 mod fault;
 mod gate;
@@ -11,5 +13,6 @@ mod mesh;
 mod run;
 
 pub use aud_pool::Gate;
+pub use command::run_command;
 pub use gate::NoGate;
-pub use run::{audit_said, run_audit};
+pub use run::run_audit;

@@ -1,8 +1,9 @@
 //! What all nodes do at once: they offer what they were given, tell each other, and search.
 
-ghost use Rattle.std.specs.Prelude.{◌≡◌, ◌≤◌, ◌<◌, All, false, IfOk, OnOk, IsTrue, length, vec_len};
+ghost use Rattle.std.specs.Prelude.{◌≡◌, ◌≤◌, ◌<◌, false, IfOk, OnOk, IsTrue, length, vec_len};
 ghost use Rattle.std.specs.List.{HoldsAt};
 ghost use Rattle.aud_order.specs.Shapes.{plan_of};
+ghost use Rattle.aud_audit.specs.Doings.{AreDone};
 ghost use Rattle.aud_audit.specs.Seats.{AreOf, AreCrews, AreCollectors, IsCrewAt, IsCollectorAt};
 ghost use Rattle.aud_audit.specs.Searches.{HaveEnded, SearchHasEnded, CrewsHaveEnded, ShareHasEnded};
 ghost use Rattle.aud_audit.specs.Meshes.{IsMesh, IsMeshFor};
@@ -168,14 +169,14 @@ fn search_each<
 
 /// Whether memory was refused to nobody.
 fn has_all_done<J: Fleet>(collectors: &[Collector<J>], crews: &[Crew<J>]) -> bool
-    ensures { IsTrue result → All (λ c. c.failed ≡ false) crews.now }
+    ensures { IsTrue result → AreDone collectors.now crews.now }
 {
     collectors.iter().all(|collector| !collector.failed) && crews.iter().all(|crew| !crew.failed)
 }
 
 /// What is done, where memory was refused to nobody.
 fn checked<J: Fleet>(collectors: &[Collector<J>], crews: &[Crew<J>]) -> Result<(), OutOfMemory>
-    ensures { OnOk result (All (λ c. c.failed ≡ false) crews.now) }
+    ensures { OnOk result (AreDone collectors.now crews.now) }
 {
     if has_all_done(collectors, crews) {
         Ok(())
@@ -279,6 +280,7 @@ impl<J: Fleet + Send + Sync, S: Wait + Drop + Send> Mesh<J, S> {
         requires few { length self.old.nodes.items ≤ 8 }
         ensures nodes { self.new.nodes ≡ self.old.nodes }
         ensures mesh { OnOk result (IsMesh facts.now.plan self.new.nodes.items self.new.collectors.items self.new.crews.items) }
+        ensures done { OnOk result (AreDone self.new.collectors.items self.new.crews.items) }
     {
         self.offer(rt, alloc, facts);
         let inboxes = self.connect(alloc)?;
@@ -324,6 +326,7 @@ impl<J: Fleet + Send + Sync, S: Wait + Drop + Send> Mesh<J, S> {
         ensures nodes { self.new.nodes ≡ self.old.nodes }
         ensures mesh { OnOk result (IsMeshFor search.now self.new.nodes.items self.new.collectors.items self.new.crews.items) }
         ensures ended { OnOk result (SearchHasEnded search.now self.new.crews.items) }
+        ensures done { OnOk result (AreDone self.new.collectors.items self.new.crews.items) }
     {
         let inboxes = self.connect(alloc)?;
         self.work(rt, alloc, search, shared, gate);

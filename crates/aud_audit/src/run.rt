@@ -271,10 +271,7 @@ fn audit_text<G: Gate<Prefix> + Sync, R: Threads + Wait + Sync>(
 
 /// The line that an audit says of a text, with its line feed, and how the run ends that says it; else what it failed for. All
 /// pools share the gate. It waits until every worker has ended.
-///
-/// It takes memory by the size of the text, for each node; a search takes up to about 1 GiB more for each worker, and half a GiB for
-/// what workers share.
-pub fn audit_said<G: Gate<Prefix> + Sync, R: Threads + Wait + Sync>(
+fn audit_said<G: Gate<Prefix> + Sync, R: Threads + Wait + Sync>(
     rt: &R,
     alloc: Global,
     job: &AuditJob,
@@ -298,7 +295,8 @@ pub fn audit_said<G: Gate<Prefix> + Sync, R: Threads + Wait + Sync>(
 /// Reads all that the source has left, audits it with so many nodes and workers, and writes the one line that the audit says of
 /// it. All pools share the gate.
 ///
-/// Where it fails a beginning of that line went out, and what was read stays read. It takes memory as `audit_said` does.
+/// Where it fails a beginning of that line went out, and what was read stays read. It takes memory by the size of the text, for each
+/// node; a search takes up to about 1 GiB more for each worker, and half a GiB for what workers share.
 pub fn run_audit<G: Gate<Prefix> + Sync, R: Threads + Wait + Sync, I: Source, O: Sink>(
     rt: &R,
     alloc: Global,

@@ -7,3 +7,4 @@ pub mod HistoryLemmas
 pub mod WorkedLines
 pub mod Ends
 pub mod Ranges
+pub mod Consuming

@@ -1,5 +1,5 @@
 -- How a run ends, and what it leaves of its source and its sink.
-use Rattle.std.specs.Prelude.{◌≡◌, ◌+◌, ◌++◌, ℕ, List}
+use Rattle.std.specs.Prelude.{◌≡◌, ◌+◌, ◌++◌, ℕ, List, Result, Ok, Err, codes, ⊤}
 use Rattle.aud_know.specs.declared.verdict.Verdict.{Verdict}
 use Rattle.aud_know.specs.declared.verdict.Verdict.TheVariants as verdict
 use Rattle.aud_report.specs.Devices.{BeginsOnly}
@@ -38,13 +38,32 @@ ended_by (said.Certified cert) = ended.NotOpaque
 abbrev pub IsLine : Job → List ℕ → List ℕ → Ended → Type 0
 IsLine job input line e = (s : Said) × (Line job input s × (line ≡ line_of s) × (ended_by s ≡ e))
 
--- the exit status of the program
+-- the exit status of a run that ends so
 abbrev pub exit_status_of : Ended → ℕ
 exit_status_of ended.Opaque = 0
 exit_status_of ended.NotOpaque = 1
 exit_status_of ended.Unfinished = 2
 exit_status_of ended.Refused = 3
 exit_status_of (ended.Failed cause) = 4
+
+-- and of the program, which may have run nothing
+abbrev pub exit_status : {U : Type 0} → Result Ended U → ℕ
+exit_status (Ok e) = exit_status_of e
+exit_status (Err usage) = 64
+
+-- what standard error has where a run failed
+abbrev pub message : Cause → List ℕ
+message Memory = codes "opaq: out of memory\n"
+message Input = codes "opaq: input failed\n"
+message Output = codes "opaq: output failed\n"
+message Thread = codes "opaq: no thread\n"
+
+-- what reading an input fails for
+abbrev pub IsOfReading : Cause → Type 0
+IsOfReading Memory = ⊤
+IsOfReading Input = ⊤
+IsOfReading Output = ⊥
+IsOfReading Thread = ⊥
 
 -- what is seen of the devices at one moment: how often the source and the sink failed so far, and what the sink holds
 pub record Seen : Type 0 where

@@ -7,12 +7,14 @@ mod ended;
 mod input;
 mod job;
 mod question;
+mod reading;
 mod run;
 mod words;
 
-pub use ended::{Cause, Ended, end_of};
+pub use ended::{Cause, Ended, end_of, exit_status};
 pub use input::{Input, InputFault, read_input};
 pub use job::{AuditJob, Command, Job, Usage};
 pub use question::Question;
-pub use run::{judge_facts, line_said, run_lines};
+pub use reading::read_whole;
+pub use run::{judge_facts, run_lines};
 pub use words::job_of;

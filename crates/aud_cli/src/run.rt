@@ -125,9 +125,7 @@ fn said_of(alloc: Global, job: &Job, text: &[u8]) -> Result<Said, OutOfMemory>
 
 /// The line that the job says of a text, with its line feed, and after it the certificate, if that is asked for; and how the job ends
 /// that says it.
-///
-/// It takes memory by the size of the text; a search takes up to about 1 GiB more, and a certificate as much as it is long.
-pub fn line_said(alloc: Global, job: &Job, text: &[u8]) -> Result<(Vec<u8>, Ended), OutOfMemory>
+fn line_said(alloc: Global, job: &Job, text: &[u8]) -> Result<(Vec<u8>, Ended), OutOfMemory>
     ensures { IfOk result (λ answer. IsLine job.now text.now answer.0.items answer.1) }
 {
     let said = said_of(alloc, job, text)?;
@@ -138,7 +136,8 @@ pub fn line_said(alloc: Global, job: &Job, text: &[u8]) -> Result<(Vec<u8>, Ende
 /// Reads all that the source has left, and writes the line that the job says of it, and after it the certificate, if that is asked
 /// for.
 ///
-/// Where it fails a beginning of that went out, and what was read stays read. It takes memory as `line_said` does.
+/// Where it fails a beginning of that went out, and what was read stays read. It takes memory by the size of the text; a search takes
+/// up to about 1 GiB more, and a certificate as much as it is long.
 pub fn run_lines<R: Source, W: Sink>(
     alloc: Global,
     job: &Job,

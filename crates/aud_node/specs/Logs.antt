@@ -9,6 +9,9 @@ use Rattle.aud_cover.specs.Closings.{IsCovered}
 use Rattle.aud_know.specs.declared.item.Item.{Item}
 use Rattle.aud_know.specs.Items.{item_atoms}
 use Rattle.aud_know.specs.Known.{KnownAtom, KnowledgeOf, knowing, Takes}
+use Rattle.aud_know.specs.Truth.{AreRefutedAt, AreShownBy}
+use Rattle.aud_know.specs.declared.verdict.Verdict.{Verdict}
+use Rattle.aud_know.specs.declared.verdict.Verdict.TheVariants as verdict
 
 -- an offer: the seat that made it, and the item
 abbrev pub Entry : Type 0
@@ -31,6 +34,14 @@ state_of plan log = knowing plan (atoms_in log)
 -- the state of the offers has a refuted list that begins the list
 abbrev pub IsKnownIn : PlanOf → List Entry → List Decision → Type 0
 IsKnownIn plan log list = IsCovered (state_of plan log).held.cover list
+
+-- where the verdict is opaque, the facts of the state are sealed, their history is well-formed, and the order that it carries shows it
+abbrev pub SaysOpaque : {X : Type 0} → KnowledgeOf → Verdict X → Type 0
+SaysOpaque k v = (p : List Decision) → v ≡ verdict.Opaque p → AreShownBy k.plan k.held.facts p
+
+-- and where it is not opaque, no order shows it
+abbrev pub SaysNotOpaque : {X : Type 0} → KnowledgeOf → Verdict X → Type 0
+SaysNotOpaque k v = v ≡ verdict.NotOpaque → AreRefutedAt k.plan k.held.facts []
 
 -- what is known once an item more is taken
 abbrev pub IsWider : KnowledgeOf → Item Global → KnowledgeOf → Type 0

@@ -3,7 +3,7 @@
 ghost use Rattle.std.specs.Prelude.{◌≡◌, ◌↔◌, ◌+◌, ◌<◌, ◌++◌, ◌∷◌, [], map, All, IfOk, IfErr, OnOk, OnErr, IsTrue};
 ghost use Rattle.std.specs.Result.{IsErrOf};
 ghost use Rattle.aud_know.specs.Verdicts.{IsVerdict};
-ghost use Rattle.aud_node.specs.Logs.{state_of, upto, written_of, IsKnownIn, Offered};
+ghost use Rattle.aud_node.specs.Logs.{state_of, upto, written_of, IsKnownIn, Offered, SaysNotOpaque, SaysOpaque};
 ghost use Rattle.aud_node.specs.Meanings.{first_pass, mine, node_of, unseen, Agrees, GoesOn, HasSeen, IsAt, IsExact};
 ghost use Rattle.aud_node.specs.Faults.{IsSeats, IsOfferFault, IsReadFault, IsMeetFault, IsCloseFault, MayClose, MayMeet, MayOffer};
 
@@ -99,6 +99,8 @@ impl<J: Fleet, D: Drop> Node<J, D> {
     pub fn verdict(&self, pass: &mut Pass<J>) -> Result<Verdict, ReadFault>
         ensures view { GoesOn pass.old pass.new }
         ensures verdict { IfOk result (λ v. IsVerdict (state_of self.now.plan pass.new.view) v) }
+        ensures opaque { IfOk result (λ v. SaysOpaque (state_of self.now.plan pass.new.view) v) }
+        ensures not_opaque { IfOk result (λ v. SaysNotOpaque (state_of self.now.plan pass.new.view) v) }
         ensures read { OnOk result (IsAt self.now pass.old) }
         ensures fault { IfErr result (λ e. IsReadFault self.now pass.old e) }
         ensures wrong { IsErrOf result ReadFault.WrongNode → pass.new ≡ pass.old }
@@ -298,6 +300,7 @@ fn finished<R: Wait, J: Fleet, S: Wait + Drop>(
     ensures passes { IfOk result (λ c. All (Agrees (written_of c.offered.items)) passes.now) }
     ensures others { IfOk result (λ c. All (λ e. e.0 < seats) (written_of c.offered.items)) }
     ensures known { IfOk result (λ c. c.known ≡ state_of home.now.plan.value (written_of c.offered.items)) }
+    ensures back { IfErr result (λ d. d ≡ desk) }
 {
     if desk.counts.len() != seats as usize
         || desk.held.latest.front.number() != home.head.number

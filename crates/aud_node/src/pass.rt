@@ -3,7 +3,7 @@
 ghost use Rattle.std.specs.Prelude.{[], ◌≡◌, ◌≢◌, ◌+◌, ◌^◌, ◌<◌, ◌≤◌, ◌↔◌, length, IfOk, IfErr, IsTrue};
 ghost use mathlib.Core.List.{IsPrefix};
 ghost use Rattle.aud_know.specs.Verdicts.{IsVerdict};
-ghost use Rattle.aud_node.specs.Logs.{own, state_of, IsKnownIn};
+ghost use Rattle.aud_node.specs.Logs.{own, state_of, IsKnownIn, SaysNotOpaque, SaysOpaque};
 ghost use Rattle.aud_node.specs.Meanings.{first_pass, GoesOn};
 
 use crate::book::Fleet;
@@ -157,6 +157,8 @@ impl<J: Fleet> Pass<J> {
     pub(crate) fn verdict(&mut self) -> Result<Verdict, OutOfMemory>
         ensures view { GoesOn self.old self.new }
         ensures verdict { IfOk result (λ v. IsVerdict (state_of (J.plan self.new.number) self.new.view) v) }
+        ensures opaque { IfOk result (λ v. SaysOpaque (state_of (J.plan self.new.number) self.new.view) v) }
+        ensures not_opaque { IfOk result (λ v. SaysNotOpaque (state_of (J.plan self.new.number) self.new.view) v) }
     {
         self.look();
         self.held.latest.known.verdict()

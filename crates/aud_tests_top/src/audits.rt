@@ -7,7 +7,7 @@ use crate::drawn::drawn;
 use crate::fixtures::{FIVE_COUNTED, SEEN_REQUEST, TORN_READ, UNSEEN_REQUEST};
 use crate::lines::{said, with_lines};
 use crate::searching::Meeting;
-use aud_audit::{NoGate, audit_said, run_audit};
+use aud_audit::{NoGate, run_audit};
 use aud_cli::{AuditJob, Cause, Ended, Job};
 use aud_report::{ChokingSink, DrippingSource, MemorySink, MemorySource};
 use aud_worked::{
@@ -239,7 +239,9 @@ fn met<R: Threads + Wait + Sync>(rt: &R, alloc: Global, input: &str) -> Option<(
         alone: AtomicU64::new(0),
     };
     let job = audit_by(2, 1, None)?;
-    let (_line, ended) = audit_said(rt, alloc, &job, &gate, input.as_bytes()).ok()?;
+    let mut source = MemorySource::new(Vec::from_slice(alloc, input.as_bytes()).ok()?);
+    let mut sink = MemorySink::new(alloc);
+    let ended = run_audit(rt, alloc, &job, &gate, &mut source, &mut sink);
     Some((
         ended,
         gate.here.load(Ordering::SeqCst),

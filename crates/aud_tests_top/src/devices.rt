@@ -1,9 +1,11 @@
 //! Runs on devices that give and take a byte at a time, and fail.
 
-use aud_cli::{Cause, Ended, Job, run_lines};
+use aud_audit::run_command;
+use aud_cli::{Cause, Command, Ended, Job, read_whole, run_lines};
 use aud_report::{ChokingSink, DrippingSource, MemorySink, MemorySource};
 use aud_worked::READER_AFTER_COMMIT;
 use std::alloc::{AllocError, Global};
+use std::io::{self, ErrorKind, Read};
 use std::test::Fail;
 
 fn job(alloc: Global) -> Result<Job, AllocError> {
@@ -87,5 +89,68 @@ fn sink_chokes(rt: HostRuntime) -> Result<(), Fail> {
             (Ended::Opaque, Some(13))
         );
     }
+    Ok(())
+}
+
+/// Gives a byte a read, without end, and is interrupted at every third read; fails once it was read so many times.
+#[derive(Drop)]
+struct Endless {
+    reads: u64,
+    most: u64,
+}
+
+impl Read for Endless {
+    fn read(&mut self, buf: &mut [u8]) -> io::Result<usize> {
+        self.reads = self.reads.saturating_add(1);
+        if self.reads > self.most {
+            return Err(io::Error::from(ErrorKind::PermissionDenied));
+        }
+        if self.reads % 3 == 0 {
+            return Err(io::Error::from(ErrorKind::Interrupted));
+        }
+        if buf.is_empty() {
+            return Ok(0);
+        }
+        buf[0] = b'x';
+        Ok(1)
+    }
+}
+
+/// What reading it comes to, in at most so many reads, and how often it was read.
+fn read_endless(alloc: Global, most: u64, fails: u64) -> (Option<Cause>, u64) {
+    let mut reader = Endless {
+        reads: 0,
+        most: fails,
+    };
+    let read = read_whole(alloc, &mut reader, most);
+    (read.err(), reader.reads)
+}
+
+#[test]
+fn reading_ends(rt: HostRuntime) -> Result<(), Fail> {
+    let alloc = rt.alloc();
+    for most in 0..10u64 {
+        let read = read_endless(alloc, most, u64::MAX);
+        assert_eq!(rt; read, (Some(Cause::Input), most));
+    }
+    assert_eq!(rt; read_endless(alloc, u64::MAX, 7), (Some(Cause::Input), 8));
+    let mut whole: &[u8] = b"whole";
+    assert_eq!(rt; read_whole(alloc, &mut whole, 1).err(), Some(Cause::Input));
+    let mut whole: &[u8] = b"whole";
+    let read = read_whole(alloc, &mut whole, 2);
+    assert!(rt; matches!(&read, Ok(bytes) if bytes.as_slice() == b"whole".as_slice()));
+    Ok(())
+}
+
+#[test]
+fn command_hands_out_its_line(rt: HostRuntime) -> Result<(), Fail> {
+    let alloc = rt.alloc();
+    let command = Command::Lines(job(alloc)?);
+    let input = Vec::from_slice(alloc, READER_AFTER_COMMIT.as_bytes())?;
+    let (line, ended) = run_command(&rt, alloc, &command, input);
+    assert_eq!(rt;
+        (line.as_slice(), ended),
+        (b"opaque 1c 2c\n".as_slice(), Ended::Opaque)
+    );
     Ok(())
 }

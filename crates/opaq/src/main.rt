@@ -1,19 +1,16 @@
 // Does what the words ask for with standard input, and prints one line.
 #![tactic(auto)]
 
-mod audit;
-mod job;
-mod message;
-
-use aud_cli::{Command, Ended, Usage, job_of};
-use audit::run_audit_job;
-use job::{exit_status, run_job};
-use message::message_of;
+use aud_audit::run_command;
+use aud_cli::{Cause, Ended, Usage, exit_status, job_of, read_whole};
 use std::alloc::Global;
-use std::io::{self, ErrorKind};
+use std::io::{self, ErrorKind, Write};
 use std::process::ExitCode;
 use std::sync::Wait;
 use std::thread::Threads;
+
+/// How often standard input is read before the run gives up.
+const MOST_READS: u64 = 1_000_000_000;
 
 /// What the user reads where a word is no text.
 const NO_TEXT: &str = "error: a word is not UTF-8\n";
@@ -52,15 +49,15 @@ fn answer<T: Threads + Wait + Sync>(
     alloc: Global,
 ) -> Result<Ended, Usage> {
     let words = words_of(rt, alloc)?;
-    match job_of(alloc, words.as_slice())? {
-        Command::Lines(job) => Ok(run_job(alloc, &job, &mut rt.reader(), &mut io::writer(rt))),
-        Command::Audit(job) => Ok(run_audit_job(
-            threads,
-            alloc,
-            &job,
-            &mut rt.reader(),
-            &mut io::writer(rt),
-        )),
+    let command = job_of(alloc, words.as_slice())?;
+    let input = match read_whole(alloc, &mut rt.reader(), MOST_READS) {
+        Ok(input) => input,
+        Err(cause) => return Ok(Ended::Failed(cause)),
+    };
+    let (line, ended) = run_command(threads, alloc, &command, input);
+    match io::writer(rt).write_all(&line) {
+        Ok(()) => Ok(ended),
+        Err(_) => Ok(Ended::Failed(Cause::Output)),
     }
 }
 
@@ -71,7 +68,7 @@ fn main(rt: HostRuntime) -> ExitCode {
             let _ = eprint!(rt; "{}", usage.text());
         }
         Ok(Ended::Failed(cause)) => {
-            let _ = eprint!(rt; "{}", message_of(*cause));
+            let _ = eprint!(rt; "{}", cause.text());
         }
         Ok(_) => {}
     }

@@ -14,4 +14,4 @@ returns-clause-ended g c =
     let ended : SharesHaveEnded s c.args.search.now.budget c.args.search.now.tasks.items new.nodes.items new.crews.items = search rules in
     let mesh : IsMesh (plan_of s) new.nodes.items new.collectors.items new.crews.items = search rules in
     let some : 0 < length new.nodes.items = search rules in
-    on_ok c.checked.result _ _ (λ done. all_ended s c.args.search.now.budget c.args.search.now.tasks.items (plan_of s) new.nodes.items new.collectors.items new.crews.items ended mesh some (subst (λ (l : List CrewOf). All (λ (v : CrewOf). v.failed ≡ false) l) c.deref-3.ensures.value done)) c.checked.ensures
+    on_ok c.checked.result _ _ (λ done. all_ended s c.args.search.now.budget c.args.search.now.tasks.items (plan_of s) new.nodes.items new.collectors.items new.crews.items ended mesh some (subst (λ (l : List CrewOf). All (λ (v : CrewOf). v.failed ≡ false) l) c.deref-3.ensures.value done.1)) c.checked.ensures
