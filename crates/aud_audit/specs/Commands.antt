@@ -1,6 +1,5 @@
 -- What a run of any command says of an input in memory, and how it ends.
 use Rattle.std.specs.Prelude.{ℕ, List, []}
-use Rattle.aud_report.specs.declared.said.Said.{Said}
 use Rattle.aud_cli.specs.Line.{Line}
 use Rattle.aud_cli.specs.Outcomes.{RunOutcome, Seen}
 use Rattle.aud_cli.specs.declared.ended.Ended.{Ended}
