@@ -1,7 +1,7 @@
 //! The rules by which lists are refuted without a search below them, and by which one choice is enough. They come into play once the
 //! search has met dead ends.
 
-ghost use Rattle.std.specs.Prelude.{◌≡◌, ◌<◌, IsTrue, IfOk, length, []};
+ghost use Rattle.std.specs.Prelude.{◌≡◌, ◌<◌, IsTrue, IfOk, MatchOption, length, []};
 ghost use Rattle.aud_history.specs.Table.{table_of};
 ghost use Rattle.aud_order.specs.Cursors.{transaction_at};
 ghost use Rattle.aud_order.specs.Shapes.{history_of, objects_of};
@@ -16,14 +16,14 @@ use aud_order::{Cursor, Shape};
 use std::alloc::{Allocator, Global};
 use std::marker::Model;
 
-/// How many dead ends a search meets before the rules come into play: most runs have their answer before that.
-const PATIENCE: u32 = 16;
+/// How often a search goes on after its first dead end before the rules come into play: most runs have their answer before that.
+const PATIENCE: u32 = 64;
 
-/// What looks ahead of lists, and what tells which choice is enough.
+/// What looks ahead of lists, and what tells which choice is enough, where that is asked for.
 #[derive(Drop)]
 struct Lookout<'a, A: Allocator + Copy> {
     ahead: Ahead<'a, A>,
-    first: First<'a, A>,
+    first: Option<First<'a, A>>,
 }
 
 /// The rules, once the search is stuck.
@@ -31,7 +31,8 @@ struct Lookout<'a, A: Allocator + Copy> {
 pub(crate) struct Rules<'a, A: Allocator + Copy = Global> {
     alloc: A,
     shape: &'a Shape<A>,
-    ends: u32,
+    has_ended: bool,
+    steps: u32,
     lookout: Option<Lookout<'a, A>>,
     is_hopeless: bool,
     unseen: usize,
@@ -46,7 +47,7 @@ impl<'a, A: Allocator + Copy> Model for Rules<'a, A> {
 
     ghost view = { λ r. r.shape.now };
 
-    ghost invariant = { λ r. MatchOption r.lookout (Unit {0}) (λ l. (l.ahead ≡ r.shape.now) × (l.first ≡ r.shape.now))
+    ghost invariant = { λ r. MatchOption r.lookout (Unit {0}) (λ l. (l.ahead ≡ r.shape.now) × MatchOption l.first (Unit {0}) (λ first. first ≡ r.shape.now))
         × (r.is_hopeless ≡ true → Refuted (objects_of r.shape.now) (history_of r.shape.now) []) };
 }
 
@@ -55,13 +56,17 @@ fn lookout_of<'a, A: Allocator + Copy>(
     alloc: A,
     shape: &'a Shape<A>,
 ) -> Result<(Lookout<'a, A>, bool), OutOfMemory>
-    ensures own { IfOk result (λ l. (l.0.ahead ≡ shape.entry.now) × (l.0.first ≡ shape.entry.now)) }
+    ensures own { IfOk result (λ l. (l.0.ahead ≡ shape.entry.now) × MatchOption l.0.first (Unit {0}) (λ first. first ≡ shape.entry.now)) }
     ensures hopeless { IfOk result (λ l. IsTrue l.1 → Refuted (objects_of shape.entry.now) (history_of shape.entry.now) []) }
 {
-    let first = First::of(alloc, shape)?;
     let mut ahead = Ahead::of(alloc, shape)?;
     let root = Cursor::root(alloc, shape)?;
     let is_hopeless = ahead.is_doomed(&root);
+    let first = if is_hopeless {
+        None
+    } else {
+        Some(First::of(alloc, shape)?)
+    };
     Ok((Lookout { ahead, first }, is_hopeless))
 }
 
@@ -73,7 +78,8 @@ impl<'a, A: Allocator + Copy> Rules<'a, A> {
         Rules {
             alloc,
             shape,
-            ends: 0,
+            has_ended: false,
+            steps: 0,
             lookout: None,
             is_hopeless: false,
             unseen: 0,
@@ -90,16 +96,23 @@ impl<'a, A: Allocator + Copy> Rules<'a, A> {
         Ok(())
     }
 
-    /// The search came to an end with so many decisions from where it goes back. Where it did so often, the rules come into play;
-    /// where memory is refused they do not.
-    pub(crate) fn count(&mut self, depth: usize)
+    /// The search came to a dead end.
+    pub(crate) fn end(&mut self)
         ensures { self.new ≡ self.old }
     {
-        if self.ends > PATIENCE {
+        self.has_ended = true;
+    }
+
+    /// The search goes on, with so many decisions. Where it did so often after a dead end, the rules come into play; where memory is
+    /// refused they do not.
+    pub(crate) fn go_on(&mut self, depth: usize)
+        ensures { self.new ≡ self.old }
+    {
+        if !self.has_ended || self.steps > PATIENCE {
             return;
         }
-        self.ends += 1;
-        if self.ends > PATIENCE {
+        self.steps += 1;
+        if self.steps > PATIENCE {
             self.unseen = depth;
             let _ = self.begin();
         }
@@ -152,7 +165,10 @@ impl<'a, A: Allocator + Copy> Rules<'a, A> {
         ensures { IsTrue result → IsEnough cursor.now (transaction_at cursor.now place) }
     {
         match &self.lookout {
-            Some(lookout) => lookout.first.is_enough(cursor, place),
+            Some(lookout) => match &lookout.first {
+                Some(first) => first.is_enough(cursor, place),
+                None => false,
+            },
             None => false,
         }
     }

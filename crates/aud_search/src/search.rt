@@ -260,8 +260,9 @@ fn seek<N: Copy, R: Recorder<N, A>, A: Allocator + Copy>(
     }
     let from = pass_known(memo, cursor, choices, ready, here)?;
     let found = try_from(cursor, choices, ready, from)?;
-    if found.is_none() {
-        rules.count(cursor.prefix().len());
+    match found {
+        Some(_) => rules.go_on(cursor.prefix().len()),
+        None => rules.end(),
     }
     Ok(found)
 }
