@@ -65,12 +65,12 @@ class Memory:
         return f"q{number}", "deq", None, queue.pop(0) if queue else "empty"
 
 
-def scheduled(draw, at_a_time, count):
-    """Which transaction does a step, step by step: `OPERATIONS` and two steps each, so many transactions at a time."""
+def scheduled(draw, at_a_time, count, operations=OPERATIONS):
+    """Which transaction does a step, step by step: a step for each operation and one to commit, so many transactions at a time."""
     steps, running, following = [], [], 0
     while following < count or running:
         while len(running) < at_a_time and following < count:
-            running.append([following, OPERATIONS + 1])
+            running.append([following, operations + 1])
             following += 1
         at = draw.randrange(len(running))
         steps.append(running[at][0])

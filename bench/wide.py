@@ -1,10 +1,10 @@
 #!/usr/bin/env python3
-"""Writes a run of many threads that all run at once: wide.py THREADS STYLE SEED [spoiled] [--transactions N].
+"""Writes a run of many threads that all run at once: wide.py THREADS STYLE SEED [spoiled] [--transactions N] [--maps].
 
 Each transaction takes effect at an instant of its own between its first and its last event: the run is opaque by construction. With
 'spoiled' one answer is changed into another one of its kind; nothing says then whether the run is opaque. STYLE says where the instant
-lies: 'end' (late, as in most memories) or 'any' (anywhere). The seed chooses the objects: registers, counters, sets, queues or all.
-The history is written as opaq reads it, a log a thread.
+lies: 'end' (late, as in most memories) or 'any' (anywhere). The seed chooses the objects: registers, counters, sets, queues or all;
+with --maps, maps alone or beside others, in the second format. The history is written as opaq reads it, a log a thread.
 """
 import json
 import random
@@ -19,9 +19,14 @@ PLANS = [
     [("register", 8), ("counter", 4), ("set", 4), ("queue", 2)],
 ]
 
+MAPS = [
+    [("map", 1)], [("map", 4)], [("map", 16)], [("map", 4), ("queue", 2)], [("map", 4), ("counter", 4)], [("register", 4), ("map", 4)],
+    [("register", 4), ("counter", 4), ("set", 4), ("queue", 2), ("map", 4)],
+]
 
-def objects_of(seed):
-    kinds = [kind for kind, count in PLANS[seed % len(PLANS)] for _ in range(count)]
+
+def objects_of(seed, plans):
+    kinds = [kind for kind, count in plans[seed % len(plans)] for _ in range(count)]
     return [{"kind": kind, "name": f"o{n}", "open": 0} if kind in ("register", "counter") else {"kind": kind, "name": f"o{n}"} for n, kind in enumerate(kinds)]
 
 
@@ -33,6 +38,8 @@ def operation(draw, kind, number):
         return draw.choice([("get", None), ("inc", None), ("dec", None)])
     if kind == "set":
         return (draw.choice(["add", "remove", "contains"]), draw.randrange(8))
+    if kind == "map":
+        return draw.choice([("put", (draw.randrange(8), number)), ("look", draw.randrange(8)), ("look", draw.randrange(8)), ("del", draw.randrange(8))])
     return draw.choice([("enq", number), ("deq", None)])
 
 
@@ -50,6 +57,12 @@ def run(state, kind, word, argument):
         return "done", state + (argument,)
     if word == "deq":
         return (state[0], state[1:]) if state else ("empty", state)
+    if word == "put":
+        return "done", {**state, argument[0]: argument[1]}
+    if word == "look":
+        return state.get(argument, "empty"), state
+    if word == "del":
+        return argument in state, {key: value for key, value in state.items() if key != argument}
     has = argument in state
     if word == "contains":
         return has, state
@@ -75,7 +88,8 @@ def transactions_of(draw, threads, style, count, objects):
 
 
 def answered(made, objects):
-    states = [0 if o["kind"] in ("register", "counter") else frozenset() if o["kind"] == "set" else () for o in objects]
+    opening = {"register": 0, "counter": 0, "set": frozenset(), "queue": (), "map": {}}
+    states = [opening[o["kind"]] for o in objects]
     for transaction in made:
         own, answers = list(states), []
         for ob, word, argument in transaction["ops"]:
@@ -106,7 +120,9 @@ def events_of(transaction, objects):
     times = transaction["times"]
     for k, ((ob, word, argument), answer) in enumerate(zip(transaction["ops"], transaction["answers"])):
         call = {"ev": "inv", "ob": objects[ob]["name"], "op": word}
-        if argument is not None:
+        if isinstance(argument, tuple):
+            call["arg"], call["val"] = argument
+        elif argument is not None:
             call["arg"] = argument
         events.append((times[2 * k], call))
         events.append((times[2 * k + 1], {"ans": answer, "ev": "ret", "ob": objects[ob]["name"], "op": word}))
@@ -118,21 +134,22 @@ def events_of(transaction, objects):
     return events
 
 
-def write(threads, objects, made):
-    print(json.dumps({"format": 1, "logs": threads, "objects": len(objects)}, separators=(",", ":"), sort_keys=True))
+def write(threads, objects, made, number):
+    print(json.dumps({"format": number, "logs": threads, "objects": len(objects)}, separators=(",", ":"), sort_keys=True))
     for entry in objects:
         print(json.dumps(entry, separators=(",", ":"), sort_keys=True))
     all_events = sorted(((time, t["thread"], t["number"], event) for t in made for time, event in events_of(t, objects)), key=lambda e: e[0])
     counts = [0] * threads
-    for stamp, (_, thread, number, event) in enumerate(all_events):
-        print(json.dumps({"at": counts[thread], "log": thread, "stamp": stamp, "tx": number, **event}, separators=(",", ":"), sort_keys=True))
+    for stamp, (_, thread, tx, event) in enumerate(all_events):
+        print(json.dumps({"at": counts[thread], "log": thread, "stamp": stamp, "tx": tx, **event}, separators=(",", ":"), sort_keys=True))
         counts[thread] += 1
     for thread, count in enumerate(counts):
         print(json.dumps({"end": count, "log": thread}, separators=(",", ":"), sort_keys=True))
 
 
 def main(words):
-    count = 400
+    count, maps = 400, "--maps" in words
+    words = [word for word in words if word != "--maps"]
     if "--transactions" in words:
         k = words.index("--transactions")
         count = int(words[k + 1])
@@ -142,12 +159,12 @@ def main(words):
         return 64
     threads, style, seed = int(words[0]), words[1], int(words[2])
     draw = random.Random(f"{threads} {style} {seed}")
-    objects = objects_of(seed)
+    objects = objects_of(seed, MAPS if maps else PLANS)
     made = transactions_of(draw, threads, style, count, objects)
     answered(made, objects)
     if len(words) == 4:
         spoil(draw, made, objects)
-    write(threads, objects, made)
+    write(threads, objects, made, 2 if maps else 1)
     return 0
 
 

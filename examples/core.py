@@ -27,14 +27,14 @@ import sys
 import recorded
 
 OPAQUE, NOT_OPAQUE, UNFINISHED, REFUSED, FAILED, USAGE = 0, 1, 2, 3, 4, 64
-OBSERVING = ("read", "get", "contains")
+OBSERVING = ("read", "get", "contains", "look")
 COUNTING = {"inc": 1, "dec": -1}
 OPENING_MOST = 1 << 62
 CUT_FIRST = 20_000
 SOON = 3_000
 NEVER = float("inf")
 TABLE_MOST = 500
-TRIED_FIRST = ("counter", "queue", "set", "register")
+TRIED_FIRST = ("counter", "queue", "set", "map", "register")
 
 
 class Body:
@@ -76,14 +76,15 @@ class Body:
 class Part:
     """What is left of a run: objects, and transactions that have operations."""
 
-    def __init__(self, objects, bodies):
+    def __init__(self, objects, bodies, form):
+        self.form = form
         self.bodies = [body for body in bodies if body.calls]
         used = {call["ob"] for body in self.bodies for call, _ in body.calls}
         self.objects = [it for it in objects if it["name"] in used]
 
     def kept(self, keeps):
         """The part with those operations."""
-        return Part(self.objects, [body.kept(keeps) for body in self.bodies])
+        return Part(self.objects, [body.kept(keeps) for body in self.bodies], self.form)
 
     def calls(self):
         return [(body, call, answer) for body in self.bodies for call, answer in body.calls]
@@ -109,7 +110,7 @@ class Part:
             lines.append(spelled(record, len(places), log, stamp))
             places.append(stamp)
         marks = [recorded.line(end=len(places), log=log) for log, places in logs.values()] or [recorded.line(end=0, log=0)]
-        header = recorded.line(format=1, logs=max(1, len(logs)), objects=len(self.objects))
+        header = recorded.line(format=self.form, logs=max(1, len(logs)), objects=len(self.objects))
         return "\n".join([header, *(recorded.line(**it) for it in self.objects), *lines, *marks]) + "\n"
 
 
@@ -118,7 +119,8 @@ def spelled(record, place, log, stamp):
     if "words" not in record:
         given = "".join(f'"{key}":{value_text(record[key])},' for key in ("ans", "arg") if key in record)
         called = f'"ob":"{record["ob"]}","op":"{record["op"]}",' if "op" in record else ""
-        record["words"] = (f'{{{given}"at":', f',"ev":"{record["ev"]}","log":', f',{called}"stamp":', f',"tx":{record["tx"]}}}')
+        value = f',"val":{record["val"]}' if "val" in record else ""
+        record["words"] = (f'{{{given}"at":', f',"ev":"{record["ev"]}","log":', f',{called}"stamp":', f',"tx":{record["tx"]}{value}}}')
     at, event, more, tail = record["words"]
     return f"{at}{place}{event}{log}{more}{stamp}{tail}"
 
@@ -136,23 +138,29 @@ def part_of(run):
         if len(ends) == 1 and ends[0]["ev"] == "abort":
             ends = [{key: it.records[-2][key] for key in ("log", "stamp", "tx")} | {"ev": "trya"}, *ends]
         bodies.append(Body(it.number, it.first, calls, ends))
-    return Part(run.objects, bodies)
+    return Part(run.objects, bodies, run.form)
 
 
 def is_counting(call):
-    return call["op"] in COUNTING
+    return call["op"] in COUNTING or call["op"] == "plus"
+
+
+def step_of(call):
+    """By how much it counts."""
+    return call["arg"] if call["op"] == "plus" else COUNTING[call["op"]]
 
 
 def beginning(part, stamp):
     """What was answered up to that stamp, and of what was answered later the changes that such an answer may rest on: writes of a value that was
-    read, all changes of a set or queue that are of a value that was met there, all counting where the count was asked for."""
+    read, all changes of a set or queue that are of a value that was met there, or of a map that are of a key, all counting where the count was
+    asked for."""
     early = [(call, answer) for _, call, answer in part.calls() if answer["stamp"] <= stamp]
     met = {thing_of(call, answer) for call, answer in early if call["op"] != "write" and not is_counting(call)}
     return part.kept(lambda it: it[1]["stamp"] <= stamp or not changes_nothing(*it) and thing_of(*it) in met)
 
 
 def without_transactions(part, numbers):
-    return Part(part.objects, [body for body in part.bodies if body.number not in numbers])
+    return Part(part.objects, [body for body in part.bodies if body.number not in numbers], part.form)
 
 
 def without_objects(part, names):
@@ -160,8 +168,8 @@ def without_objects(part, names):
 
 
 def thing_of(call, answer):
-    """What an operation is about: a value of a register, a set or a queue, or a counter."""
-    if "arg" in call:
+    """What an operation is about: a value of a register, a set or a queue, a key of a map, or a counter."""
+    if "arg" in call and not is_counting(call):
         return call["ob"], call["arg"]
     return call["ob"], None if is_counting(call) or call["op"] == "get" else answer["ans"]
 
@@ -173,7 +181,7 @@ def without_things(part, things):
 
 def without_ends(part, numbers):
     """Has these transactions not end. No other one sees them, so it is the same whether they commit."""
-    return Part(part.objects, [Body(it.number, it.start, it.calls, []) if it.number in numbers else it for it in part.bodies])
+    return Part(part.objects, [Body(it.number, it.start, it.calls, []) if it.number in numbers else it for it in part.bodies], part.form)
 
 
 def without_calls(part, stamps):
@@ -215,7 +223,7 @@ def counted(part):
                 it = it | {"open": it["open"] + more}
                 gone |= stamps
         objects.append(it)
-    return without_calls(Part(objects, part.bodies), gone)
+    return without_calls(Part(objects, part.bodies, part.form), gone)
 
 
 def counted_before(part, name):
@@ -229,7 +237,7 @@ def counted_before(part, name):
     if len(bodies) == 1:
         own = bodies[0][1]
         calls = own[: next(at for at, it in enumerate(own) if it["op"] == "get")]
-    return {it["stamp"] for it in calls}, sum(COUNTING[it["op"]] for it in calls)
+    return {it["stamp"] for it in calls}, sum(step_of(it) for it in calls)
 
 
 def pauses(part):
@@ -253,7 +261,7 @@ def without_late(part, thing, start):
 
 def is_undone(part, thing, start):
     """Whether transactions that began before that stamp put as many of the value into the set or queue as they took out. All of them ended."""
-    if thing[1] is None or any(it["name"] == thing[0] and it["kind"] == "register" for it in part.objects):
+    if thing[1] is None or any(it["name"] == thing[0] and it["kind"] in ("register", "map") for it in part.objects):
         return False
     early = [(body, call, answer) for body, call, answer in part.calls() if body.start < start and thing_of(call, answer) == thing]
     put = sum(body.may_commit for body, call, answer in early if call["op"] == "enq" or call["op"] == "add" and answer["ans"])
@@ -326,7 +334,7 @@ class Search:
         for it in by_kind if len(by_kind) > 1 else []:
             own = calls[it["name"]]
             bodies = [Body(body.number, body.start, own[body.number], body.ends) for body in self.part.bodies if body.number in own]
-            if self.takes(Part([it], bodies)):
+            if self.takes(Part([it], bodies, self.part.form)):
                 return
 
     def cut(self):

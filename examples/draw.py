@@ -88,7 +88,7 @@ def shown(call, answer):
     if op == "write":
         words = f"write {ob} := {call['arg']}"
     else:
-        words = f"{op} {ob}" + (f" {call['arg']}" if "arg" in call else "")
+        words = " ".join([op, ob, *recorded.asked(call)])
     if answer is None:
         return words + " .."
     said = recorded.spelled(answer["ans"])

@@ -3,21 +3,23 @@
 
 A trace is a text with one event a line, in the order in which the events were stamped; what stands after a # is a comment.
 
-    object KIND NAME [OPEN]      declares an object: register, counter, set or queue. One that is not declared is of the kind of
+    object KIND NAME [OPEN]      declares an object: register, counter, set, queue or map. One that is not declared is of the kind of
                                  its first operation, and a register or counter opens at 0
     THREAD begin                 the next transaction of the thread begins. Where the last one has not ended it is aborted
     THREAD OP OBJECT [VALUE..]   an operation that was answered: `read x 0` (the answer), `write x 1` (the argument), `inc c`,
                                  `dec c`, `get c 3`, `add s 5 true` (the argument, then the answer), `remove s 5 false`,
-                                 `contains s 5 true`, `enq q 7`, `deq q 7`, `deq q empty`
-    THREAD call OP OBJECT [ARG]  an operation is invoked, and perhaps never answered
-    THREAD back [ANSWER]         the invoked operation is answered; nothing for `write`, `inc`, `dec` and `enq`
+                                 `contains s 5 true`, `enq q 7`, `deq q 7`, `deq q empty`, `plus c 5`, `put m 4 9` (the key, then the
+                                 value), `look m 4 9`, `look m 4 empty`, `del m 4 true`
+    THREAD call OP OBJECT [ARG..] an operation is invoked, and perhaps never answered
+    THREAD back [ANSWER]         the invoked operation is answered; nothing for `write`, `inc`, `dec`, `plus`, `enq` and `put`
     THREAD try                   the transaction asks to commit
     THREAD commit                it commits; where it has not asked to, it asks just before
     THREAD abort                 it aborts
 
 THREAD is any word, and each thread gets a log. The stamp of `begin` is that of the transaction's first invocation, so `begin` has to
 stand before its effect can start; see docs/RECORDING.md. Transactions are numbered from 0 in the order of their first
-events; one that began and did nothing leaves no record.
+events; one that began and did nothing leaves no record. The run is in the first format where that has all that it needs, else in the
+second, which has maps, `plus`, and transactions up to number 4,095.
 """
 
 import sys
@@ -27,11 +29,13 @@ import recorded
 KINDS = {
     "read": "register", "write": "register", "inc": "counter", "dec": "counter", "get": "counter",
     "add": "set", "remove": "set", "contains": "set", "enq": "queue", "deq": "queue",
+    "plus": "counter", "put": "map", "look": "map", "del": "map",
 }
-HAS_ARGUMENT = {"write", "add", "remove", "contains", "enq"}
-IS_DONE = {"write", "inc", "dec", "enq"}
+ARGUMENTS = {"write": 1, "add": 1, "remove": 1, "contains": 1, "enq": 1, "plus": 1, "put": 2, "look": 1, "del": 1}
+IS_DONE = {"write", "inc", "dec", "enq", "plus", "put"}
+SECOND = {"plus", "put", "look", "del", "map"}
 RECORDS_OF_A_LOG = 4096
-TRANSACTIONS = 1024
+TRANSACTIONS = {1: 1024, 2: 4096}
 
 
 class Refused(Exception):
@@ -62,6 +66,7 @@ class Trace:
         self.records = []
         self.stamp = 0
         self.transactions = 0
+        self.form = 1
 
     def draw(self):
         self.stamp += 1
@@ -78,12 +83,15 @@ class Trace:
         if kind not in KINDS.values() or name in self.objects:
             raise Refused(f"no such kind, or an object declared or used before: {kind} {name}")
         self.objects[name] = {"kind": kind, "name": name}
+        self.form = 2 if kind in SECOND else self.form
         if kind in ("register", "counter"):
             self.objects[name]["open"] = number(opening)
 
     def start(self, thread):
-        if self.transactions == TRANSACTIONS:
-            raise Refused(f"a run has at most {TRANSACTIONS} transactions: cut the trace before this line")
+        if self.transactions == TRANSACTIONS[2]:
+            raise Refused(f"a run has at most {TRANSACTIONS[2]} transactions: cut the trace before this line")
+        if self.transactions == TRANSACTIONS[1]:
+            self.form = 2
         thread.transaction = self.transactions
         self.transactions += 1
 
@@ -92,18 +100,19 @@ class Trace:
             self.abort(thread)
         thread.reserved = self.draw()
 
-    def call(self, thread, operation, name, argument=None):
+    def call(self, thread, operation, name, *arguments):
         if operation not in KINDS:
             raise Refused(f"no such event: {operation}")
-        if (operation in HAS_ARGUMENT) != (argument is not None):
-            raise Refused(f"a {operation} with an argument too many, or with none")
+        if ARGUMENTS.get(operation, 0) != len(arguments):
+            raise Refused(f"a {operation} with an argument too many, or too few")
         if thread.pending:
             raise Refused("the operation before has no answer")
         if thread.transaction is None:
             self.start(thread)
         if name not in self.objects:
             self.declare(KINDS[operation], name)
-        given = {} if argument is None else {"arg": number(argument)}
+        self.form = 2 if operation in SECOND else self.form
+        given = dict(zip(("arg", "val"), map(number, arguments)))
         stamp, thread.reserved = thread.reserved, None
         self.record(thread, "inv", stamp, ob=name, op=operation, **given)
         thread.pending = (operation, name)
@@ -120,9 +129,9 @@ class Trace:
     def operation(self, thread, operation, name, *values):
         if thread.transaction is None and thread.reserved is None:
             raise Refused("no transaction began: a line with `begin` is missing")
-        argument = values[:1] if operation in HAS_ARGUMENT else ()
-        self.call(thread, operation, name, *argument)
-        self.back(thread, *values[len(argument) :])
+        count = ARGUMENTS.get(operation, 0)
+        self.call(thread, operation, name, *values[:count])
+        self.back(thread, *values[count:])
 
     def ask(self, thread):
         if thread.transaction is None:
@@ -160,7 +169,7 @@ class Trace:
 
     def run(self):
         ends = {thread.log: thread.records for thread in self.threads.values()}
-        return recorded.Run(max(1, len(self.threads)), list(self.objects.values()), closed(self.records), ends or {0: 0})
+        return recorded.Run(max(1, len(self.threads)), list(self.objects.values()), closed(self.records), ends or {0: 0}, self.form)
 
 
 def closed(records):

@@ -11,7 +11,7 @@
 #include "opaq.h"
 #include <pthread.h>
 
-enum { THREADS_MAX = 64, OBJECTS_MAX = 256, TRANSACTIONS_MAX = 1024 };
+enum { THREADS_MAX = 64, OBJECTS_MAX = 256, TRANSACTIONS_MAX = 4096 };
 
 static long registers[OBJECTS_MAX];         /* what the transactions share */
 static unsigned objects = 8, wanted = 800;

@@ -52,9 +52,10 @@ class Transaction:
 
 
 class Run:
-    """A plan, records in the order of their stamps, and the end marks: how many records each log has."""
+    """A plan in its format, records in the order of their stamps, and the end marks: how many records each log has."""
 
-    def __init__(self, logs, objects, records, ends):
+    def __init__(self, logs, objects, records, ends, form=1):
+        self.form = form
         self.logs = logs
         self.objects = objects
         self.records = sorted(records, key=lambda record: record["stamp"])
@@ -71,11 +72,11 @@ class Run:
         """The run of the first so many records, by stamps, with end marks of its own."""
         kept = self.records[:count]
         ends = {log: sum(record["log"] == log for record in kept) for log in range(self.logs)}
-        return Run(self.logs, self.objects, kept, ends)
+        return Run(self.logs, self.objects, kept, ends, self.form)
 
     def text(self):
         """The run as opaq reads it."""
-        header = line(format=1, logs=self.logs, objects=len(self.objects))
+        header = line(format=self.form, logs=self.logs, objects=len(self.objects))
         marks = [line(end=count, log=log) for log, count in sorted(self.ends.items())]
         lines = [header, *(line(**it) for it in self.objects), *(line(**it) for it in self.records), *marks]
         return "\n".join(lines) + "\n"
@@ -87,7 +88,7 @@ def read(text):
     objects, facts = rest[: header["objects"]], rest[header["objects"] :]
     records = {(it["log"], it["at"]): it for it in facts if "end" not in it}
     ends = {it["log"]: it["end"] for it in facts if "end" in it}
-    return Run(header["logs"], objects, records.values(), ends)
+    return Run(header["logs"], objects, records.values(), ends, header["format"])
 
 
 def said(record):
@@ -101,8 +102,12 @@ def said(record):
 
 
 def called(record):
-    argument = f" {spelled(record['arg'])}" if "arg" in record else ""
-    return f"{record['op']}{argument} of {record['ob']}"
+    return " ".join([record["op"], *asked(record), "of", record["ob"]])
+
+
+def asked(record):
+    """The arguments of an operation, in words."""
+    return [spelled(record[key]) for key in ("arg", "val") if key in record]
 
 
 def spelled(value):

@@ -30,17 +30,25 @@ class Sentence:
 
 
 class Deeds:
-    """What one transaction did to one cell: a register, or a value of a set. What it saw from outside, and what it left."""
+    """What one transaction did to one cell: a register, a value of a set, or a key of a map. What it saw from outside, and what it left."""
 
     def __init__(self):
         self.looks = []
         self.left = None
         self.wrong = None
+        self.any = None
 
     def look(self, seen, said):
         if self.left is None:
             self.looks.append((seen, said))
         elif self.left != seen:
+            self.wrong = self.wrong or said
+
+    def look_for_any(self, said):
+        """It saw that a key has a value, and not which."""
+        if self.left is None:
+            self.any = self.any or said
+        elif self.left == NOTHING:
             self.wrong = self.wrong or said
 
 
@@ -51,7 +59,7 @@ class Story:
         self.run = run
         self.all = run.transactions()
         self.kinds = {it["name"]: it["kind"] for it in run.objects}
-        self.opens = {it["name"]: it.get("open", False) for it in run.objects}
+        self.opens = {it["name"]: NOTHING if it["kind"] == "map" else it.get("open", False) for it in run.objects}
         self.finish = {tx: it.last for tx, it in self.all.items() if it.end != "live"}
         self.may = {tx for tx, it in self.all.items() if it.records[-1]["ev"] in ("commit", "tryc")}
         self.committed = {tx for tx, it in self.all.items() if it.end == "committed"}
@@ -59,7 +67,7 @@ class Story:
         self.cells = self.deeds()
 
     def deeds(self):
-        """By cell and transaction what was done: of a register by its name, of a set by its name and the value."""
+        """By cell and transaction what was done: of a register by its name, of a set by its name and the value, of a map with the key, too."""
         cells = {}
         for tx, calls in self.calls.items():
             for call, answer in calls:
@@ -68,6 +76,8 @@ class Story:
                     do_register(cells.setdefault((call["ob"],), {}).setdefault(tx, Deeds()), call, answer)
                 elif kind == "set":
                     do_set(cells.setdefault((call["ob"], call["arg"]), {}).setdefault(tx, Deeds()), call, answer)
+                elif kind == "map":
+                    do_map(cells.setdefault((call["ob"], call["arg"], "key"), {}).setdefault(tx, Deeds()), call, answer)
         return cells
 
     def sentences(self, known):
@@ -76,6 +86,7 @@ class Story:
         for cell, deeds in self.cells.items():
             for tx, done in deeds.items():
                 yield from self.by_itself(cell, tx, done)
+                yield from self.by_any(cell, tx, done)
                 for seen, said in done.looks:
                     yield from self.by_cell(known, cell, tx, seen, said)
         for name, kind in self.kinds.items():
@@ -100,6 +111,12 @@ class Story:
         if len(seen) > 1:
             one, other = list(seen.values())[:2]
             yield Sentence(("never",), f"transaction {tx} {one} and {other}, and changed nothing of it between")
+
+    def by_any(self, cell, tx, done):
+        """What was under a key came from some other transaction."""
+        putters = [it for it, other in self.cells[cell].items() if it != tx and it in self.may and other.left not in (None, NOTHING)]
+        if done.any and not putters:
+            yield Sentence(("never",), f"transaction {tx} {done.any}, and nobody else put a value there")
 
     def by_cell(self, known, cell, tx, seen, said):
         """Where the value that a transaction saw came from, and what that says of those that replaced it."""
@@ -164,7 +181,7 @@ class Story:
 
     def by_counter(self, known, name):
         """What a count says of those that counted, by the most and the least that it can be."""
-        steps = {tx: sum(STEP.get(call["op"], 0) for call, _ in calls if call["ob"] == name) for tx, calls in self.calls.items()}
+        steps = {tx: sum(step_of(call) for call, _ in calls if call["ob"] == name) for tx, calls in self.calls.items()}
         for tx, calls in self.calls.items():
             own, seen = 0, set()
             for call, answer in calls:
@@ -172,7 +189,7 @@ class Story:
                     seen.add(answer["ans"] - own)
                     yield from self.by_count(known, name, tx, answer["ans"], own, steps)
                 elif call["ob"] == name:
-                    own += STEP[call["op"]]
+                    own += step_of(call)
             if len(seen) > 1:
                 yield Sentence(("never",), f"transaction {tx} got two counts of {name}, and what it counted itself between is not the difference")
 
@@ -274,6 +291,12 @@ class Story:
 
 
 STEP = {"inc": 1, "dec": -1}
+NOTHING = "nothing"
+
+
+def step_of(call):
+    """By how much it counts."""
+    return call["arg"] if call["op"] == "plus" else STEP.get(call["op"], 0)
 
 
 def is_sum(wanted, steps):
@@ -310,6 +333,20 @@ def do_set(done, call, answer):
         done.left = op == "add"
 
 
+def do_map(done, call, answer):
+    """An operation on a key of a map: a look sees the value under it, a removal whether there is one."""
+    op, said, where = call["op"], answer["ans"], f"under {call['arg']} of {call['ob']}"
+    if op == "put":
+        done.left = call["val"]
+    elif op == "look":
+        done.look(NOTHING if said == "empty" else said, f"found {NOTHING if said == 'empty' else said} {where}")
+    elif said:
+        done.look_for_any(f"removed what was {where}")
+        done.left = NOTHING
+    else:
+        done.look(NOTHING, f"found {NOTHING} {where} to remove")
+
+
 def at_start(cell):
     return f"which {cell[0]} holds only at the start" if len(cell) == 1 else "which is so only at the start"
 
@@ -317,16 +354,22 @@ def at_start(cell):
 def replaced(cell, value):
     if len(cell) == 1:
         return f"replaced it by {value}"
+    if len(cell) == 3:
+        return f"removed {cell[1]}" if value == NOTHING else f"put {value} under {cell[1]}"
     return f"{'added' if value else 'removed'} {cell[1]}"
 
 
 def left_in(cell, value):
+    if len(cell) == 3:
+        return f"{value} under {cell[1]} of {cell[0]}"
     return f"{cell[0]} at {value}" if len(cell) == 1 else f"{cell[1]} {'in' if value else 'out of'} {cell[0]}"
 
 
 def put(cell, value):
     if len(cell) == 1:
         return "wrote"
+    if len(cell) == 3:
+        return "removed" if value == NOTHING else "put there"
     return "added" if value else "removed"
 
 

@@ -6,7 +6,7 @@ use Rattle.std.proofs.Common.{sym, ◌∙◌, ap, subst, inl, inr}
 use Rattle.std.proofs.lemmas.Bool.{eqb-true}
 use Rattle.std.proofs.lemmas.Cmp.{eq_by_cmp_equiv}
 use Rattle.std.proofs.lemmas.Map.Views.{tells_apart}
-use Rattle.aud_event.proofs.Bools.{split}
+use Rattle.aud_base.proofs.Bools.{split}
 use Rattle.aud_witness.specs.declared.decision.Decision.{Decision}
 use Rattle.aud_witness.specs.contracts.decision.DecisionOrd.TheImpl.Laws as laws
 use Rattle.aud_witness.specs.contracts.decision.DecisionPartialEq.TheImpl as decision_equality

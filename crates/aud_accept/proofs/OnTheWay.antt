@@ -2,7 +2,7 @@
 use Rattle.std.specs.Prelude.{◌≡◌, ◌≢◌, ℕ, ◌-◌, ◌<◌, ◌≤◌, Bool, true, false, [], length}
 use Rattle.std.proofs.Common.{sym, ◌∙◌, ap, inl, inr, arith, take}
 use Rattle.std.proofs.lemmas.List.{take_all, take-take, length-take-le}
-use Rattle.aud_event.proofs.Bools.{split}
+use Rattle.aud_base.proofs.Bools.{split}
 use Rattle.aud_order.specs.Cursors.{CursorOf}
 use Rattle.aud_accept.proofs.Placing.{cursor_at}
 

@@ -1,48 +1,59 @@
 -- Executions from states whose cells have what they may have.
-use Rattle.std.specs.Prelude.{◌≡◌, ℕ, ℤ, zero, suc, ◌+◌, ◌<◌, ◌≤◌, Bool, true, false, not, ◌&&◌, ◌||◌, nat_eq, List, [], ◌∷◌, ◌++◌, length, Option, Some, None, slice_get, MatchOption, refl, ◌⊎◌}
+use Rattle.std.specs.Prelude.{◌≡◌, ℕ, ℤ, zero, is_some, suc, ◌+◌, ◌<◌, ◌≤◌, Bool, true, false, not, ◌&&◌, ◌||◌, nat_eq, List, [], ◌∷◌, ◌++◌, length, Option, Some, None, slice_get, MatchOption, refl, ◌⊎◌}
 use Rattle.std.specs.Ordering.{int_eq}
 use Rattle.std.proofs.Common.{sym, ◌∙◌, ap, subst, cond, inl, inr, append_assoc, arith, take, get_or}
 use Rattle.std.proofs.lemmas.List.{append-nil, take_more}
 use Rattle.std.proofs.lemmas.Option.{slice_get-get_or, slice_get_within}
 use Rattle.aud_event.specs.declared.object.Op.{Op}
-use Rattle.aud_event.specs.declared.object.Op.TheVariants.{Read, Write, Inc, Dec, Add, Remove, Contains, Enq, Deq}
+use Rattle.aud_event.specs.declared.object.Op.TheVariants.{Read, Write, Inc, Dec, Add, Remove, Contains, Enq, Deq, Plus, Put, Look, Del}
 use Rattle.aud_event.specs.declared.object.Answer.{Answer}
-use Rattle.aud_event.specs.declared.object.Answer.TheVariants.{Int, Flag}
-use Rattle.aud_event.proofs.Bools.{split, nat_eq-is, nat_eq-refl}
-use Rattle.aud_object.specs.Objects.{ObjState, register, counter, set_of, queue, answer_of, after_op, has_member, with_member, without_member}
+use Rattle.aud_event.specs.declared.object.Answer.TheVariants.{Int, Flag, Empty}
+use Rattle.aud_base.proofs.Bools.{split, nat_eq-is, nat_eq-refl}
+use Rattle.aud_object.specs.Objects.{ObjState, register, counter, set_of, queue, answer_of, after_op, has_member, with_member, without_member, map_of, found}
+use Rattle.aud_object.specs.Entries.{value_at, with_entry, without_entry}
 use Rattle.aud_object.specs.Replayed.{same_answer, answers, answer_at, after_at, executed}
 use Rattle.aud_object.specs.declared.execution.Execution.{Execution}
 use Rattle.aud_object.proofs.Ints.{eq-is, eq-itself}
 use Rattle.aud_object.proofs.Legality.{same_answer-is, answer_at-get, after_at-same, after_at-other}
 use Rattle.aud_ahead.specs.declared.cell.Key.{Key}
-use Rattle.aud_ahead.specs.declared.cell.Key.TheVariants.{Own, Element}
+use Rattle.aud_ahead.specs.declared.cell.Key.TheVariants.{Own, Element, Entry}
 use Rattle.aud_ahead.specs.declared.cell.Cell.{Cell}
 use Rattle.aud_ahead.specs.Ranges.{RunNowhere, StayWithin}
-use Rattle.aud_ahead.specs.Cells.{IsProper, one_if, cell_of, same_key, element, seen_by, told_by, told_of, newer, told, may_hold, may_hold_by, HoldAfter, Hold, may_see, may_answer, TellWithin}
-use Rattle.aud_ahead.proofs.SetLemmas.{has-with, has-without, proper-after}
+use Rattle.aud_ahead.specs.Cells.{IsProper, one_if, cell_of, same_key, same_value, element, entry, seen_by, told_by, told_of, newer, told, may_hold, may_hold_by, HoldAfter, Hold, may_see, may_answer, TellWithin}
+use Rattle.aud_ahead.proofs.SetLemmas.{has-with, has-without, value-with, value-without, proper-after}
 
 -- # Keys
 
 pub same_key-is : (a b : Key) → same_key a b ≡ true → a ≡ b
 same_key-is Own Own e = refl
 same_key-is (Element a) (Element b) e = ap Element (eq-is a b e)
-same_key-is Own (Element b) e = absurd (cc)
-same_key-is (Element a) Own e = absurd (cc)
+same_key-is (Entry a) (Entry b) e = ap Entry (eq-is a b e)
+same_key-is _ _ e = absurd (cc)
 
 pub same_key-itself : (k : Key) → same_key k k ≡ true
 same_key-itself Own = refl
 same_key-itself (Element e) = eq-itself e
+same_key-itself (Entry k) = eq-itself k
+
+pub same_value-is : (o p : Option ℤ) → same_value o p ≡ true → o ≡ p
+same_value-is None None e = refl
+same_value-is (Some a) (Some b) e = ap (λ v. Some v) (eq-is a b e)
+same_value-is _ _ e = absurd (cc)
+
+pub same_value-itself : (o : Option ℤ) → same_value o o ≡ true
+same_value-itself None = refl
+same_value-itself (Some v) = eq-itself v
 
 -- # What is told
 
-pub told-push : (known : Option ℤ) (xs : List Execution) (x : Execution) (ob : ℕ) (key : Key) → told known (xs ++ x ∷ []) ob key ≡ newer (told known xs ob key) x ob key
+pub told-push : (known : Option (Option ℤ)) (xs : List Execution) (x : Execution) (ob : ℕ) (key : Key) → told known (xs ++ x ∷ []) ob key ≡ newer (told known xs ob key) x ob key
 told-push known [] x ob key = refl
 told-push known (y ∷ xs) x ob key = told-push (newer known y ob key) xs x ob key
 
-pub newer-other : (known : Option ℤ) (x : Execution) (ob : ℕ) (key : Key) → nat_eq x.object ob ≡ false → newer known x ob key ≡ known
+pub newer-other : (known : Option (Option ℤ)) (x : Execution) (ob : ℕ) (key : Key) → nat_eq x.object ob ≡ false → newer known x ob key ≡ known
 newer-other known x ob key off = ap (λ k. cond k (told_of key known (told_by x.op x.answer)) known) off
 
-pub newer-same : (known : Option ℤ) (x : Execution) (ob : ℕ) (key : Key) → nat_eq x.object ob ≡ true → newer known x ob key ≡ told_of key known (told_by x.op x.answer)
+pub newer-same : (known : Option (Option ℤ)) (x : Execution) (ob : ℕ) (key : Key) → nat_eq x.object ob ≡ true → newer known x ob key ≡ told_of key known (told_by x.op x.answer)
 newer-same known x ob key on = ap (λ k. cond k (told_of key known (told_by x.op x.answer)) known) on
 
 -- # One operation
@@ -56,8 +67,25 @@ twice false = refl
 
 flagged : (s : List ℤ) (e : ℤ) (b was : Bool) (c : Cell) → was ≡ b → was ≡ has_member s e → element e b ≡ Some c → cell_of (set_of s) c.key ≡ Some c.value
 flagged s e b was c is has seen =
-    let own : record { key = Element e; value = one_if b } ≡ c = cc in
-    subst (λ (d : Cell). cell_of (set_of s) d.key ≡ Some d.value) own (ap (λ k. Some (one_if k)) (sym has ∙ is))
+    let own : record { key = Element e; value = Some (one_if b) } ≡ c = cc in
+    subst (λ (d : Cell). cell_of (set_of s) d.key ≡ Some d.value) own (ap (λ k. Some (Some (one_if k))) (sym has ∙ is))
+
+looked : (m : List (ℤ × ℤ)) (k : ℤ) (o : Option ℤ) (c : Cell) → value_at m k ≡ o → entry k o ≡ Some c → cell_of (map_of m) c.key ≡ Some c.value
+looked m k o c is seen =
+    let own : record { key = Entry k; value = o } ≡ c = cc in
+    subst (λ (d : Cell). cell_of (map_of m) d.key ≡ Some d.value) own (ap (λ p. Some p) is)
+
+found-some : (o : Option ℤ) (v : ℤ) → found o ≡ Int v → o ≡ Some v
+found-some None v e = absurd (cc)
+found-some (Some u) v e = cc
+
+found-none : (o : Option ℤ) → found o ≡ Empty → o ≡ None
+found-none None e = refl
+found-none (Some u) e = absurd (cc)
+
+gone-none : (o : Option ℤ) → is_some o ≡ false → o ≡ None
+gone-none None e = refl
+gone-none (Some u) e = absurd (cc)
 
 -- what an operation was answered tells the value of the cell before it
 pub seen-is : (s : ObjState) (op : Op) (answer : Answer) (c : Cell) → answer_of s op ≡ answer → seen_by op answer ≡ Some c → cell_of s c.key ≡ Some c.value
@@ -65,18 +93,37 @@ seen-is (register v) Read (Int w) c right seen = cc
 seen-is (counter n) Read (Int w) c right seen = absurd (cc)
 seen-is (set_of s) Read (Int w) c right seen = absurd (cc)
 seen-is (queue q) Read (Int w) c right seen = absurd (cc)
+seen-is (map_of m) Read (Int w) c right seen = absurd (cc)
 seen-is (set_of s) (Add e) (Flag b) c right seen = flagged s e (not b) (not (not (has_member s e))) c (ap not (unflag right)) (twice (has_member s e)) seen
 seen-is (register v) (Add e) (Flag b) c right seen = absurd (cc)
 seen-is (counter n) (Add e) (Flag b) c right seen = absurd (cc)
 seen-is (queue q) (Add e) (Flag b) c right seen = absurd (cc)
+seen-is (map_of m) (Add e) (Flag b) c right seen = absurd (cc)
 seen-is (set_of s) (Remove e) (Flag b) c right seen = flagged s e b (has_member s e) c (unflag right) refl seen
 seen-is (register v) (Remove e) (Flag b) c right seen = absurd (cc)
 seen-is (counter n) (Remove e) (Flag b) c right seen = absurd (cc)
 seen-is (queue q) (Remove e) (Flag b) c right seen = absurd (cc)
+seen-is (map_of m) (Remove e) (Flag b) c right seen = absurd (cc)
 seen-is (set_of s) (Contains e) (Flag b) c right seen = flagged s e b (has_member s e) c (unflag right) refl seen
 seen-is (register v) (Contains e) (Flag b) c right seen = absurd (cc)
 seen-is (counter n) (Contains e) (Flag b) c right seen = absurd (cc)
 seen-is (queue q) (Contains e) (Flag b) c right seen = absurd (cc)
+seen-is (map_of m) (Contains e) (Flag b) c right seen = absurd (cc)
+seen-is (map_of m) (Look k) (Int v) c right seen = looked m k (Some v) c (found-some (value_at m k) v right) seen
+seen-is (register x) (Look k) (Int v) c right seen = absurd (cc)
+seen-is (counter x) (Look k) (Int v) c right seen = absurd (cc)
+seen-is (set_of x) (Look k) (Int v) c right seen = absurd (cc)
+seen-is (queue x) (Look k) (Int v) c right seen = absurd (cc)
+seen-is (map_of m) (Look k) Empty c right seen = looked m k None c (found-none (value_at m k) right) seen
+seen-is (register x) (Look k) Empty c right seen = absurd (cc)
+seen-is (counter x) (Look k) Empty c right seen = absurd (cc)
+seen-is (set_of x) (Look k) Empty c right seen = absurd (cc)
+seen-is (queue x) (Look k) Empty c right seen = absurd (cc)
+seen-is (map_of m) (Del k) (Flag false) c right seen = looked m k None c (gone-none (value_at m k) (unflag right)) seen
+seen-is (register x) (Del k) (Flag false) c right seen = absurd (cc)
+seen-is (counter x) (Del k) (Flag false) c right seen = absurd (cc)
+seen-is (set_of x) (Del k) (Flag false) c right seen = absurd (cc)
+seen-is (queue x) (Del k) (Flag false) c right seen = absurd (cc)
 seen-is s _ _ c right seen = absurd (cc)
 
 other-way : (a b : ℤ) → int_eq a b ≡ false → int_eq b a ≡ false
@@ -87,37 +134,79 @@ other-way a b e =
     ]
 
 -- an operation leaves the value that it tells, and in other cells what they had
-abbrev Leaves : ObjState → Key → ℤ → Option Cell → Type 0
+abbrev Leaves : ObjState → Key → Option ℤ → Option Cell → Type 0
 Leaves s key v told = MatchOption told (cell_of s key ≡ Some v) (λ c. (same_key c.key key ≡ true → v ≡ c.value) × (same_key c.key key ≡ false → cell_of s key ≡ Some v))
 
-leaves : (s : ObjState) (op : Op) (key : Key) (v : ℤ) → IsProper s → cell_of (after_op s op) key ≡ Some v → Leaves s key v (told_by op (answer_of s op))
+leaves : (s : ObjState) (op : Op) (key : Key) (v : Option ℤ) → IsProper s → cell_of (after_op s op) key ≡ Some v → Leaves s key v (told_by op (answer_of s op))
 leaves (register u) Read Own v p h = (λ same. cc, λ other. absurd (cc))
 leaves (register u) (Write w) Own v p h = (λ same. cc, λ other. absurd (cc))
 leaves (register u) (Add e) Own v p h = (λ same. absurd (cc), λ other. h)
 leaves (register u) (Remove e) Own v p h = (λ same. absurd (cc), λ other. h)
+leaves (register u) (Put k w) Own v p h = (λ same. absurd (cc), λ other. h)
+leaves (register u) (Del k) Own v p h = (λ same. absurd (cc), λ other. h)
 leaves (register u) _ Own v p h = h
 leaves (register u) (Write w) (Element k) v p h = absurd (cc)
 leaves (register u) _ (Element k) v p h = absurd (cc)
+leaves (register u) (Write w) (Entry k) v p h = absurd (cc)
+leaves (register u) _ (Entry k) v p h = absurd (cc)
 leaves (set_of s) (Add e) Own v p h = absurd (cc)
 leaves (set_of s) (Remove e) Own v p h = absurd (cc)
 leaves (set_of s) _ Own v p h = absurd (cc)
-leaves (set_of s) (Add e) (Element k) v p h = (λ same. added same (eq-is e k same), λ other. ap (λ b. Some (one_if b)) (sym (has-with s e k ∙ ap (λ b. b || has_member s k) (other-way e k other))) ∙ h)
+leaves (set_of s) (Add e) (Entry k) v p h = absurd (cc)
+leaves (set_of s) (Remove e) (Entry k) v p h = absurd (cc)
+leaves (set_of s) _ (Entry k) v p h = absurd (cc)
+leaves (set_of s) (Add e) (Element k) v p h = (λ same. added same (eq-is e k same), λ other. ap (λ b. Some (Some (one_if b))) (sym (has-with s e k ∙ ap (λ b. b || has_member s k) (other-way e k other))) ∙ h)
   where
-    added : int_eq e k ≡ true → e ≡ k → v ≡ one_if true
+    added : int_eq e k ≡ true → e ≡ k → v ≡ Some (one_if true)
     added same is = let has : has_member (with_member s e) k ≡ true = has-with s e k ∙ ap (λ b. b || has_member s k) (subst (λ x. int_eq k x ≡ true) (sym is) (eq-itself k)) in cc
-leaves (set_of s) (Remove e) (Element k) v p h = (λ same. removed same (eq-is e k same), λ other. ap (λ b. Some (one_if b)) (sym (has-without s e k p ∙ ap (λ b. not b && has_member s k) (other-way e k other))) ∙ h)
+leaves (set_of s) (Remove e) (Element k) v p h = (λ same. removed same (eq-is e k same), λ other. ap (λ b. Some (Some (one_if b))) (sym (has-without s e k p ∙ ap (λ b. not b && has_member s k) (other-way e k other))) ∙ h)
   where
-    removed : int_eq e k ≡ true → e ≡ k → v ≡ one_if false
+    removed : int_eq e k ≡ true → e ≡ k → v ≡ Some (one_if false)
     removed same is = let has : has_member (without_member s e) k ≡ false = has-without s e k p ∙ ap (λ b. not b && has_member s k) (subst (λ x. int_eq k x ≡ true) (sym is) (eq-itself k)) in cc
-leaves (set_of s) (Contains e) (Element k) v p h = (λ same. let is : e ≡ k = eq-is e k same in let at : one_if (has_member s k) ≡ v = cc in sym at ∙ ap (λ x. one_if (has_member s x)) (sym is), λ other. h)
+leaves (set_of s) (Contains e) (Element k) v p h = (λ same. let is : e ≡ k = eq-is e k same in let at : Some (one_if (has_member s k)) ≡ v = cc in sym at ∙ ap (λ x. Some (one_if (has_member s x))) (sym is), λ other. h)
 leaves (set_of s) (Write w) (Element k) v p h = (λ same. absurd (cc), λ other. h)
+leaves (set_of s) (Put j w) (Element k) v p h = (λ same. absurd (cc), λ other. h)
+leaves (set_of s) (Del j) (Element k) v p h = (λ same. absurd (cc), λ other. h)
 leaves (set_of s) _ (Element k) v p h = h
 leaves (counter n) Inc key v p h = absurd (cc)
 leaves (counter n) Dec key v p h = absurd (cc)
+leaves (counter n) (Plus k) key v p h = absurd (cc)
 leaves (counter n) _ key v p h = absurd (cc)
 leaves (queue q) (Enq w) key v p h = absurd (cc)
 leaves (queue q) Deq key v p h = absurd (cc)
 leaves (queue q) _ key v p h = absurd (cc)
+leaves (map_of m) (Put k w) Own v p h = absurd (cc)
+leaves (map_of m) (Del k) Own v p h = absurd (cc)
+leaves (map_of m) _ Own v p h = absurd (cc)
+leaves (map_of m) (Put k w) (Element j) v p h = absurd (cc)
+leaves (map_of m) (Del k) (Element j) v p h = absurd (cc)
+leaves (map_of m) _ (Element j) v p h = absurd (cc)
+leaves (map_of m) (Put k w) (Entry j) v p h = (λ same. there same, λ other. ap (λ o. Some o) (sym (value-with m k j w ∙ ap (λ b. cond b (Some w) (value_at m j)) (other-way k j other))) ∙ h)
+  where
+    there : int_eq k j ≡ true → v ≡ Some w
+    there same =
+        let is : value_at (with_entry m k w) j ≡ v = cc in
+        sym is ∙ value-with m k j w ∙ ap (λ b. cond b (Some w) (value_at m j)) (subst (λ x. int_eq j x ≡ true) (sym (eq-is k j same)) (eq-itself j))
+leaves (map_of m) (Del k) (Entry j) v p h = (λ same. gone same, λ other. ap (λ o. Some o) (sym (value-without m k j p ∙ ap (λ b. cond b None (value_at m j)) (other-way k j other))) ∙ h)
+  where
+    gone : int_eq k j ≡ true → v ≡ None
+    gone same =
+        let is : value_at (without_entry m k) j ≡ v = cc in
+        sym is ∙ value-without m k j p ∙ ap (λ b. cond b None (value_at m j)) (subst (λ x. int_eq j x ≡ true) (sym (eq-is k j same)) (eq-itself j))
+leaves (map_of m) (Look k) (Entry j) v p h = seen (value_at m k) refl
+  where
+    here : (o : Option ℤ) → value_at m k ≡ o → int_eq k j ≡ true → v ≡ o
+    here o is same =
+        let at : value_at m j ≡ v = cc in
+        sym at ∙ ap (value_at m) (sym (eq-is k j same)) ∙ is
+
+    seen : (o : Option ℤ) → value_at m k ≡ o → Leaves (map_of m) (Entry j) v (told_by (Look k) (found o))
+    seen (Some u) is = (λ same. here (Some u) is same, λ other. h)
+    seen None is = (λ same. here None is same, λ other. h)
+leaves (map_of m) (Write w) (Entry j) v p h = (λ same. absurd (cc), λ other. h)
+leaves (map_of m) (Add e) (Entry j) v p h = (λ same. absurd (cc), λ other. h)
+leaves (map_of m) (Remove e) (Entry j) v p h = (λ same. absurd (cc), λ other. h)
+leaves (map_of m) _ (Entry j) v p h = h
 
 -- # Executions of an object
 
@@ -161,7 +250,7 @@ ran-first states after x xs = go (answers (answer_at states x.object x.op) x.ans
     go false is e = absurd (cc)
 
 -- what is told was told by one of them of the cell
-told-by_one : (known : Option ℤ) (xs : List Execution) (ob : ℕ) (key : Key) (v : ℤ) → told known xs ob key ≡ Some v →
+told-by_one : (known : Option (Option ℤ)) (xs : List Execution) (ob : ℕ) (key : Key) (v : Option ℤ) → told known xs ob key ≡ Some v →
     (known ≡ Some v) ⊎ ((k : ℕ) × ((x : Execution) × ((c : Cell) × ((slice_get xs k ≡ Some x) × (x.object ≡ ob) × (told_by x.op x.answer ≡ Some c) × (same_key c.key key ≡ true)))))
 told-by_one known [] ob key v e = inl e
 told-by_one known (x ∷ xs) ob key v e =
@@ -184,19 +273,19 @@ told-by_one known (x ∷ xs) ob key v e =
         ]
 
 module _ (now : List ObjState) (loose : List (List Cell)) where
-  abbrev May : ℕ → Key → Option ℤ → ℤ → Type 0
+  abbrev May : ℕ → Key → Option (Option ℤ) → Option ℤ → Type 0
   May ob key known v = may_hold_by now loose ob key known v ≡ true
 
-  after-told : (ob : ℕ) (s : ObjState) (key : Key) (known : Option ℤ) (v : ℤ) (told : Option Cell) → Leaves s key v told → (cell_of s key ≡ Some v → May ob key known v) → May ob key (told_of key known told) v
+  after-told : (ob : ℕ) (s : ObjState) (key : Key) (known : Option (Option ℤ)) (v : Option ℤ) (told : Option Cell) → Leaves s key v told → (cell_of s key ≡ Some v → May ob key known v) → May ob key (told_of key known told) v
   after-told ob s key known v None left held = held left
   after-told ob s key known v (Some c) left held =
       elim (split (same_key c.key key)) as (λ _. May ob key (told_of key known (Some c)) v) [
-        | inl same ↦ subst (λ (o : Option ℤ). May ob key o v) (sym (ap (λ b. cond b (Some c.value) known) same)) (subst (λ w. int_eq v w ≡ true) (left.0 same) (eq-itself v))
-        | inr other ↦ subst (λ (o : Option ℤ). May ob key o v) (sym (ap (λ b. cond b (Some c.value) known) other)) (held (left.1 other))
+        | inl same ↦ subst (λ (o : Option (Option ℤ)). May ob key o v) (sym (ap (λ b. cond b (Some c.value) known) same)) (subst (λ w. same_value v w ≡ true) (left.0 same) (same_value-itself v))
+        | inr other ↦ subst (λ (o : Option (Option ℤ)). May ob key o v) (sym (ap (λ b. cond b (Some c.value) known) other)) (held (left.1 other))
       ]
 
   sees : (before : List Execution) (ob : ℕ) (s : ObjState) (seen : Option Cell) → ((c : Cell) → seen ≡ Some c → cell_of s c.key ≡ Some c.value) →
-      ((key : Key) (v : ℤ) → cell_of s key ≡ Some v → May ob key (told None before ob key) v) → may_see now loose before ob seen ≡ true
+      ((key : Key) (v : Option ℤ) → cell_of s key ≡ Some v → May ob key (told None before ob key) v) → may_see now loose before ob seen ≡ true
   sees before ob s None is held = refl
   sees before ob s (Some c) is held = held c.key c.value (is c refl)
 
@@ -229,10 +318,10 @@ module _ (now : List ObjState) (loose : List (List Cell)) where
                   subst (λ a. Leaves s key v (told_by x.op a)) is (leaves s x.op key v (hold.proper x.object s here) (subst (λ q. cell_of q key ≡ Some v) (sym own) cell)) in
                   let at_ob : slice_get states ob ≡ Some s = subst (λ k. slice_get states k ≡ Some s) e here in
                   let on : nat_eq x.object ob ≡ true = subst (λ k. nat_eq x.object k ≡ true) e (nat_eq-refl x.object) in
-                  subst (λ (o : Option ℤ). May ob key o v) (sym (told-push None before x ob key ∙ newer-same (told None before ob key) x ob key on))
+                  subst (λ (o : Option (Option ℤ)). May ob key o v) (sym (told-push None before x ob key ∙ newer-same (told None before ob key) x ob key on))
                   (after-told ob s key (told None before ob key) v (told_by x.op x.answer) left (λ was. hold.held ob s key v at_ob was))
               | inr n ↦
-                  subst (λ (o : Option ℤ). May ob key o v) (sym (told-push None before x ob key ∙ newer-other (told None before ob key) x ob key (differs x.object ob n)))
+                  subst (λ (o : Option (Option ℤ)). May ob key o v) (sym (told-push None before x ob key ∙ newer-other (told None before ob key) x ob key (differs x.object ob n)))
                   (hold.held ob z key v (sym (after_at-other states x.object ob x.op n) ∙ at) cell)
             ];
       }
@@ -277,14 +366,14 @@ module _ (now : List ObjState) (loose : List (List Cell)) where
       let ran_hold = ran-holds [] xs states after hold ran in
       record { proper = ran_hold.proper; held = λ ob s key v at cell. by ob key v (told None xs ob key) refl (ran_hold.held ob s key v at cell) }
     where
-      by : (ob : ℕ) (key : Key) (v : ℤ) (o : Option ℤ) → told None xs ob key ≡ o → May ob key o v → may_hold now loose ob key v ≡ true
+      by : (ob : ℕ) (key : Key) (v : Option ℤ) (o : Option (Option ℤ)) → told None xs ob key ≡ o → May ob key o v → may_hold now loose ob key v ≡ true
       by ob key v None is held = held
-      by ob key v (Some w) is held = subst (λ z. may_hold now loose ob key z ≡ true) (sym (eq-is v w held)) (tell ob key w is)
+      by ob key v (Some w) is held = subst (λ z. may_hold now loose ob key z ≡ true) (sym (same_value-is v w held)) (tell ob key w is)
 
   -- # What executions tell
 
   pub tell-within : (xs : List Execution) →
-      ((k : ℕ) (x : Execution) (c : Cell) (v : ℤ) → slice_get xs k ≡ Some x → told_by x.op x.answer ≡ Some c → told None xs x.object c.key ≡ Some v → may_hold now loose x.object c.key v ≡ true) →
+      ((k : ℕ) (x : Execution) (c : Cell) (v : Option ℤ) → slice_get xs k ≡ Some x → told_by x.op x.answer ≡ Some c → told None xs x.object c.key ≡ Some v → may_hold now loose x.object c.key v ≡ true) →
       TellWithin now loose xs
   tell-within xs each ob key v e =
       elim (told-by_one None xs ob key v e) [
@@ -296,13 +385,13 @@ module _ (now : List ObjState) (loose : List (List Cell)) where
       ]
 
   pub stay-within_all : (xs : List Execution) (n : ℕ) → length xs ≤ n →
-      ((k : ℕ) (x : Execution) (c : Cell) (v : ℤ) → k < n → slice_get xs k ≡ Some x → told_by x.op x.answer ≡ Some c → told None xs x.object c.key ≡ Some v → may_hold now loose x.object c.key v ≡ true) →
+      ((k : ℕ) (x : Execution) (c : Cell) (v : Option ℤ) → k < n → slice_get xs k ≡ Some x → told_by x.op x.answer ≡ Some c → told None xs x.object c.key ≡ Some v → may_hold now loose x.object c.key v ≡ true) →
       StayWithin (Hold now loose) xs
   stay-within_all xs n whole each = stay-within xs (tell-within xs (λ k x c v at tells e. each k x c v (omega (arith, slice_get_within xs k x at, whole)) at tells e))
 
 -- # Loops over executions
 
-pub told-grown : (xs : List Execution) (k : ℕ) (d : Execution) (ob : ℕ) (key : Key) (known new : Option ℤ) → k < length xs → known ≡ told None (take k xs) ob key →
+pub told-grown : (xs : List Execution) (k : ℕ) (d : Execution) (ob : ℕ) (key : Key) (known new : Option (Option ℤ)) → k < length xs → known ≡ told None (take k xs) ob key →
     new ≡ newer known (get_or xs k d) ob key → new ≡ told None (take (k + 1) xs) ob key
 told-grown xs k d ob key known new inside so_far is =
     is ∙ ap (λ o. newer o (get_or xs k d) ob key) so_far ∙ sym (told-push None (take k xs) (get_or xs k d) ob key) ∙ ap (λ l. told None l ob key) (sym (take_more xs k d inside))

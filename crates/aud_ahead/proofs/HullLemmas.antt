@@ -3,7 +3,7 @@ use Rattle.std.specs.Prelude.{◌≡◌, ℕ, true, false, nat_eq, List, [], ◌
 use Rattle.std.proofs.Common.{◌||◌, sym, ◌∙◌, ap, subst, inl, inr, append_assoc}
 use Rattle.std.proofs.lemmas.List.{append-nil}
 use Rattle.aud_event.specs.Meanings.{PlanOf}
-use Rattle.aud_event.proofs.Bools.{or_false, is_false}
+use Rattle.aud_base.proofs.Bools.{or_false, is_false}
 use Rattle.aud_object.specs.Objects.{ObjState}
 use Rattle.aud_object.specs.Replayed.{replayed}
 use Rattle.aud_history.specs.Histories.{History, is_in, is_before}

@@ -6,7 +6,7 @@ use Rattle.std.proofs.Math.ListN.{length-map}
 use Rattle.std.proofs.lemmas.Bool.Decides.{nat_tests}
 use Rattle.std.proofs.lemmas.Option.{slice_get_read}
 use Rattle.aud_event.specs.Meanings.{PlanOf}
-use Rattle.aud_event.proofs.Bools.{true_and, not_false, split, nat_eq-is}
+use Rattle.aud_base.proofs.Bools.{true_and, not_false, split, nat_eq-is}
 use Rattle.aud_object.specs.Objects.{ObjState}
 use Rattle.aud_history.specs.Histories.{History, events_of, is_in, is_completed}
 use Rattle.aud_history.specs.WellFormed.{IsWellFormed}

@@ -1,16 +1,15 @@
--- What may be of cells and of counters, together; and that what is now may be.
+-- What may be of cells, of counters and of queues, together; and that what is now may be.
 use Rattle.std.specs.Prelude.{◌≡◌, ℕ, ℤ, zero, suc, Bool, true, false, ◌||◌, List, [], ◌∷◌, map, Option, Some, None, slice_get, slice_index_or, refl}
 use Rattle.std.specs.List.{list_any}
-use Rattle.std.specs.Ordering.{int_eq}
-use Rattle.std.proofs.Common.{sym, ◌∙◌, ap, subst}
+use Rattle.std.proofs.Common.{sym, ◌∙◌, ap, subst, arith}
+use Rattle.std.proofs.lemmas.List.{append-nil}
 use Rattle.aud_event.specs.declared.fact.Event.{Event}
 use Rattle.aud_event.specs.declared.fact.Event.TheVariants.{Inv, Ret, TryC, TryA, Commit, Abort}
 use Rattle.aud_event.specs.Meanings.{Declared}
-use Rattle.aud_object.specs.Objects.{ObjState, opening_of, after_op, on_object}
+use Rattle.aud_object.specs.Objects.{ObjState, opening_of, after_op, on_object, items_of}
 use Rattle.aud_object.specs.Executions.{state_after, states_after_from}
 use Rattle.aud_object.specs.Replayed.{executed}
 use Rattle.aud_object.specs.declared.execution.Execution.{Execution}
-use Rattle.aud_object.proofs.Ints.{eq-itself}
 use Rattle.aud_history.specs.Histories.{History}
 use Rattle.aud_witness.specs.declared.decision.Decision.{Decision}
 use Rattle.aud_witness.specs.Orders.{kept}
@@ -18,11 +17,12 @@ use Rattle.aud_ahead.specs.declared.cell.Key.{Key}
 use Rattle.aud_ahead.specs.declared.cell.Cell.{Cell}
 use Rattle.aud_ahead.specs.Hulls.{reached}
 use Rattle.aud_ahead.specs.Ranges.{RunNowhere, StayWithin}
-use Rattle.aud_ahead.specs.Cells.{IsProper, cell_of, is_now, is_cell, Hold}
+use Rattle.aud_ahead.specs.Cells.{IsProper, cell_of, same_value, is_now, is_cell, Hold}
 use Rattle.aud_ahead.specs.Spans.{AreWithin}
+use Rattle.aud_ahead.specs.Queues.{QueuesOf, gone_of, come_of, is_among, IsLeft, AreLeft}
 use Rattle.aud_ahead.specs.Outlooks.{OutlookOf, MayBe}
 use Rattle.aud_ahead.proofs.SetLemmas.{proper-after, proper-opening}
-use Rattle.aud_ahead.proofs.CellLemmas.{unsome}
+use Rattle.aud_ahead.proofs.CellLemmas.{unsome, same_value-itself}
 
 -- # States that are reached are proper
 
@@ -59,8 +59,8 @@ proper-reached objects h p = proper-from 0 (map opening_of objects) (kept h p) (
 
 -- # What is now may be
 
-has-now : (s : ObjState) (key : Key) (v : ℤ) → cell_of s key ≡ Some v → is_now (Some s) key v ≡ true
-has-now s key v cell = ap (λ (o : Option ℤ). elim o as (λ _. Bool) [ Some w ↦ int_eq v w | None ↦ false ]) cell ∙ eq-itself v
+has-now : (s : ObjState) (key : Key) (v : Option ℤ) → cell_of s key ≡ Some v → is_now (Some s) key v ≡ true
+has-now s key v cell = ap (λ (o : Option (Option ℤ)). elim o as (λ _. Bool) [ Some w ↦ same_value v w | None ↦ false ]) cell ∙ same_value-itself v
 
 now-holds : (states : List ObjState) (loose : List (List Cell)) → AreProper states → Hold states loose states
 now-holds states loose proper = record {
@@ -69,14 +69,20 @@ now-holds states loose proper = record {
       ap (λ b. b || list_any (is_cell key v) (slice_index_or loose ob [])) (ap (λ (o : Option ObjState). is_now o key v) at ∙ has-now s key v cell);
 }
 
+now-left : (states : List ObjState) (queues : QueuesOf) → AreLeft states queues states
+now-left states queues ob n s own at =
+    subst (λ q. IsLeft (items_of n) (gone_of queues ob) (is_among (come_of queues ob)) (items_of q)) (unsome (sym own ∙ at))
+    (record { front = []; left = items_of n; added = []; parts = refl; few = omega arith; is = sym (append-nil (items_of n)); all_such = tt })
+
 pub may-be-now : (outlook : OutlookOf) (objects : List Declared) (h : History) (p : List Decision) → outlook.now ≡ reached objects h p → AreWithin outlook.spans outlook.now →
     MayBe outlook (reached objects h p)
 may-be-now outlook objects h p is within = record {
   cells = subst (λ z. Hold outlook.now outlook.loose z) is (now-holds outlook.now outlook.loose (subst AreProper (sym is) (proper-reached objects h p)));
   counters = subst (λ z. AreWithin outlook.spans z) is within;
+  lines = subst (λ z. AreLeft outlook.now outlook.queues z) is (now-left outlook.now outlook.queues);
 }
 
--- # Both parts
+-- # All parts
 
 pub nowhere_cells : (outlook : OutlookOf) (xs : List Execution) → RunNowhere (Hold outlook.now outlook.loose) xs → RunNowhere (MayBe outlook) xs
 nowhere_cells outlook xs nowhere states may = nowhere states may.cells
@@ -84,8 +90,16 @@ nowhere_cells outlook xs nowhere states may = nowhere states may.cells
 pub nowhere_counters : (outlook : OutlookOf) (xs : List Execution) → RunNowhere (AreWithin outlook.spans) xs → RunNowhere (MayBe outlook) xs
 nowhere_counters outlook xs nowhere states may = nowhere states may.counters
 
+pub nowhere_queues : (outlook : OutlookOf) (xs : List Execution) → RunNowhere (AreLeft outlook.now outlook.queues) xs → RunNowhere (MayBe outlook) xs
+nowhere_queues outlook xs nowhere states may = nowhere states may.lines
+
 pub nowhere-stays : (outlook : OutlookOf) (xs : List Execution) → RunNowhere (MayBe outlook) xs → StayWithin (MayBe outlook) xs
 nowhere-stays outlook xs nowhere states after may ran = absurd (let none : executed states xs ≡ None = nowhere states may in cc)
 
-pub both-stay : (outlook : OutlookOf) (xs : List Execution) → StayWithin (Hold outlook.now outlook.loose) xs → StayWithin (AreWithin outlook.spans) xs → StayWithin (MayBe outlook) xs
-both-stay outlook xs cells counters states after may ran = record { cells = cells states after may.cells ran; counters = counters states after may.counters ran }
+pub all-stay : (outlook : OutlookOf) (xs : List Execution) → StayWithin (Hold outlook.now outlook.loose) xs → StayWithin (AreWithin outlook.spans) xs → StayWithin (AreLeft outlook.now outlook.queues) xs →
+    StayWithin (MayBe outlook) xs
+all-stay outlook xs cells counters queues states after may ran = record {
+  cells = cells states after may.cells ran;
+  counters = counters states after may.counters ran;
+  lines = queues states after may.lines ran;
+}

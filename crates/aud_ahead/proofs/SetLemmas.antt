@@ -1,15 +1,17 @@
--- Members of sets that ascend.
-use Rattle.std.specs.Prelude.{◌≡◌, ℤ, true, false, not, ◌&&◌, ◌||◌, int_lt, List, [], ◌∷◌, refl}
+-- Members of sets that ascend, and keys of maps.
+use Rattle.std.specs.Prelude.{◌≡◌, ℤ, Bool, true, false, not, ◌&&◌, ◌||◌, int_lt, List, [], ◌∷◌, Some, None, refl}
 use Rattle.std.specs.Ordering.{int_eq}
-use Rattle.std.proofs.Common.{arith}
+use Rattle.std.proofs.Common.{cond, arith}
 use Rattle.std.proofs.lemmas.Grind.{common_steps}
-use Rattle.aud_object.specs.Objects.{ObjState, register, counter, set_of, queue, has_member, with_member, without_member, after_op, opens_at, opening_of}
+use Rattle.aud_object.specs.Objects.{ObjState, register, counter, set_of, queue, has_member, with_member, without_member, after_op, opens_at, opening_of, map_of}
 use Rattle.aud_event.specs.declared.object.Op.{Op}
-use Rattle.aud_event.specs.declared.object.Op.TheVariants.{Write, Inc, Dec, Add, Remove, Enq, Deq}
+use Rattle.aud_event.specs.declared.object.Op.TheVariants.{Write, Inc, Dec, Add, Remove, Enq, Deq, Put, Del}
 use Rattle.aud_event.specs.declared.object.ObjKind.{ObjKind}
 use Rattle.aud_event.specs.declared.object.ObjKind.TheVariants as kind
 use Rattle.aud_event.specs.Meanings.{Declared}
-use Rattle.aud_object.proofs.Ints.{lt-not_eq, eq-is, lt-trans}
+use Rattle.aud_object.proofs.Ints.{lt-not_eq, eq-is, lt-trans, above}
+use Rattle.aud_object.proofs.Keeping.{AreAbove-trans, value-below, Ascend-without}
+use Rattle.aud_object.specs.Entries.{value_at, with_entry, without_entry, AreAbove, Ascend as KeysAscend}
 use Rattle.aud_ahead.specs.Cells.{IsBelow, Ascend, IsProper}
 
 pub has-with : (s : List ℤ) (e k : ℤ) → has_member (with_member s e) k ≡ (int_eq k e || has_member s k)
@@ -44,6 +46,36 @@ ascend-without : (s : List ℤ) (e : ℤ) → Ascend s → Ascend (without_membe
 ascend-without [] e h = tt
 ascend-without (x ∷ s) e h = grind (arith, common_steps, ascend-without s e h.1, below-without x e s h.0, h.0, h.1)
 
+-- # Keys of maps that ascend
+
+pub value-with : {X : Type 0} (es : List (ℤ × X)) (k j : ℤ) (v : X) → value_at (with_entry es k v) j ≡ cond (int_eq j k) (Some v) (value_at es j)
+value-with [] k j v = refl
+value-with (e ∷ es) k j v = grind (arith, common_steps, value-with es k j v, eq-is k e.0, eq-is j k, eq-is j e.0)
+
+pub value-without : {X : Type 0} (es : List (ℤ × X)) (k j : ℤ) → KeysAscend es → value_at (without_entry es k) j ≡ cond (int_eq j k) None (value_at es j)
+value-without [] k j h = grind (arith, common_steps)
+value-without (e ∷ es) k j h = grind (arith, common_steps, value-without es k j h.1, value-below e.0 es h.0, eq-is k e.0, eq-is j k, eq-is j e.0)
+
+above-with : {X : Type 0} (j k : ℤ) (es : List (ℤ × X)) (v : X) → int_lt j k ≡ true → AreAbove j es → AreAbove j (with_entry es k v)
+above-with j k [] v l h = (l, tt)
+above-with j k (e ∷ es) v l h = go (above-with j k es v l h.1) (int_lt k e.0) (int_eq k e.0)
+  where
+    go : AreAbove j (with_entry es k v) → (a b : Bool) → AreAbove j (cond a ((k, v) ∷ e ∷ es) (cond b ((e.0, v) ∷ es) (e ∷ with_entry es k v)))
+    go more true b = (l, h)
+    go more false true = h
+    go more false false = (h.0, more)
+
+keys-with : {X : Type 0} (es : List (ℤ × X)) (k : ℤ) (v : X) → KeysAscend es → KeysAscend (with_entry es k v)
+keys-with [] k v h = (tt, tt)
+keys-with (e ∷ es) k v h = go (keys-with es k v h.1) (int_lt k e.0) refl (int_eq k e.0) refl
+  where
+    go : KeysAscend (with_entry es k v) → (a : Bool) → int_lt k e.0 ≡ a → (b : Bool) → int_eq k e.0 ≡ b → KeysAscend (cond a ((k, v) ∷ e ∷ es) (cond b ((e.0, v) ∷ es) (e ∷ with_entry es k v)))
+    go more true less b is = ((less, AreAbove-trans k e.0 es less h.0), h)
+    go more false less true is = h
+    go more false less false is = (above-with e.0 k es v (above k e.0 less (let flip : int_eq e.0 k ≡ false = grind (arith, common_steps, is) in flip)) h.0, more)
+
+-- # Every operation
+
 pub proper-after : (s : ObjState) (op : Op) → IsProper s → IsProper (after_op s op)
 proper-after (set_of s) (Add v) h = ascend-with s v h
 proper-after (set_of s) (Remove v) h = ascend-without s v h
@@ -56,6 +88,9 @@ proper-after (counter n) _ h = tt
 proper-after (queue q) (Enq v) h = tt
 proper-after (queue q) Deq h = tt
 proper-after (queue q) _ h = tt
+proper-after (map_of m) (Put k v) h = keys-with m k v h
+proper-after (map_of m) (Del k) h = Ascend-without m k h
+proper-after (map_of m) _ h = h
 
 pub proper-opening : (d : Declared) → IsProper (opening_of d)
 proper-opening d = go d.kind
@@ -65,3 +100,4 @@ proper-opening d = go d.kind
     go kind.Counter = tt
     go kind.SetOf = tt
     go kind.Queue = tt
+    go kind.MapOf = tt

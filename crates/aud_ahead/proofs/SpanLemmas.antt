@@ -1,20 +1,21 @@
 -- Executions from states whose counters are within their spans.
-use Rattle.std.specs.Prelude.{◌≡◌, ℕ, ℤ, suc, ◌<◌, ◌≤◌, Bool, true, false, not, ◌&&◌, int_lt, nat_eq, List, [], ◌∷◌, length, Option, Some, None, slice_get, refl, ◌⊎◌}
+use Rattle.std.specs.Prelude.{◌≡◌, ℕ, ℤ, ◌+ℤ◌, int_le, suc, ◌<◌, ◌≤◌, Bool, true, false, not, ◌&&◌, int_lt, nat_eq, List, [], ◌∷◌, length, Option, Some, None, slice_get, refl, ◌⊎◌}
 use Rattle.std.proofs.Common.{sym, ◌∙◌, ap, subst, cond, inl, inr, arith}
 use Rattle.std.proofs.lemmas.Option.{slice_get_within}
 use Rattle.std.proofs.lemmas.Grind.{common_steps}
 use Rattle.aud_event.specs.declared.object.Op.{Op}
-use Rattle.aud_event.specs.declared.object.Op.TheVariants.{Write, Inc, Dec, Get, Add, Remove, Enq, Deq}
+use Rattle.aud_event.specs.declared.object.Op.TheVariants.{Write, Inc, Dec, Get, Add, Remove, Enq, Deq, Plus, Put, Del}
 use Rattle.aud_event.specs.declared.object.Answer.{Answer}
-use Rattle.aud_event.proofs.Bools.{split, nat_eq-is, nat_eq-refl}
-use Rattle.aud_object.specs.Objects.{ObjState, register, counter, set_of, queue, answer_of, after_op, greatest, least}
+use Rattle.aud_base.proofs.Bools.{split, and_true, true_and, nat_eq-is, nat_eq-refl}
+use Rattle.std.specs.Int.{int_min, int_max}
+use Rattle.aud_object.specs.Objects.{ObjState, register, counter, set_of, queue, answer_of, after_op, greatest, least, map_of, plus_or_stay, is_within as is_i64}
 use Rattle.aud_object.specs.Replayed.{answers, answer_at, after_at, executed}
 use Rattle.aud_object.specs.declared.execution.Execution.{Execution}
 use Rattle.aud_object.proofs.Ints.{eq-is}
 use Rattle.aud_object.proofs.Legality.{after_at-same, after_at-other}
 use Rattle.aud_ahead.specs.declared.span.Span.{Span}
 use Rattle.aud_ahead.specs.Ranges.{RunNowhere, StayWithin}
-use Rattle.aud_ahead.specs.Spans.{is_within, up, down, exactly, moved, moved_at, span_after, fits, AreWithin, is_counting, is_inside, AreInside}
+use Rattle.aud_ahead.specs.Spans.{is_within, up, down, widened, between, shifted, exactly, moved, moved_at, span_after, fits, AreWithin, is_counting, is_inside, AreInside}
 use Rattle.aud_ahead.proofs.CellLemmas.{same_or, differs, unsome, answered-by, ran-first}
 
 -- # Counts
@@ -42,6 +43,64 @@ within-up span n h = let (low, high) = parts (int_lt n span.low) (int_lt span.hi
 within-down : (span : Span) (n : ℤ) → is_within span n ≡ true → is_within (record { low = down span.low; high = down span.high }) (down n) ≡ true
 within-down span n h = let (low, high) = parts (int_lt n span.low) (int_lt span.high n) h in both (int_lt (down n) (down span.low)) (int_lt (down span.high) (down n)) (down-more span.low n low) (down-more n span.high high)
 
+-- what is no less than either of two is no less than the less of them
+over-less : (x a l : ℤ) → (int_lt x l ≡ false) ⊎ (int_lt x a ≡ false) → int_lt x (int_min a l) ≡ false
+over-less x a l h = go (int_lt l a) refl h
+  where
+    go : (b : Bool) → int_lt l a ≡ b → (int_lt x l ≡ false) ⊎ (int_lt x a ≡ false) → int_lt x (cond b l a) ≡ false
+    go true is (inl e) = e
+    go true is (inr e) = grind (arith, is, e)
+    go false is (inl e) = grind (arith, is, e)
+    go false is (inr e) = e
+
+-- what is no greater than either is no greater than the greater
+under-greater : (x a g : ℤ) → (int_lt g x ≡ false) ⊎ (int_lt a x ≡ false) → int_lt (int_max a g) x ≡ false
+under-greater x a g h = go (int_lt g a) refl h
+  where
+    go : (b : Bool) → int_lt g a ≡ b → (int_lt g x ≡ false) ⊎ (int_lt a x ≡ false) → int_lt (cond b a g) x ≡ false
+    go true is (inl e) = grind (arith, is, e)
+    go true is (inr e) = e
+    go false is (inl e) = e
+    go false is (inr e) = grind (arith, is, e)
+
+-- an i64 or a count of the span is within the widened span
+within-widened : (span : Span) (n k : ℤ) → is_within span n ≡ true → is_within (widened span) (plus_or_stay n k) ≡ true
+within-widened span n k h = go (is_i64 (n +ℤ k)) refl
+  where
+    go : (b : Bool) → is_i64 (n +ℤ k) ≡ b → is_within (widened span) (cond b (n +ℤ k) n) ≡ true
+    go true is =
+        let (low, high) = and_true (int_le least (n +ℤ k)) (int_le (n +ℤ k) greatest) is in
+        both (int_lt (n +ℤ k) (int_min span.low least)) (int_lt (int_max span.high greatest) (n +ℤ k))
+        (over-less (n +ℤ k) span.low least (inl (grind (arith, low)))) (under-greater (n +ℤ k) span.high greatest (inl (grind (arith, high))))
+    go false is =
+        let (low, high) = parts (int_lt n span.low) (int_lt span.high n) h in
+        both (int_lt n (int_min span.low least)) (int_lt (int_max span.high greatest) n) (over-less n span.low least (inr low)) (under-greater n span.high greatest (inr high))
+
+-- between two i64 there are i64 alone
+i64-between : (a x b : ℤ) → is_i64 a ≡ true → is_i64 b ≡ true → int_lt x a ≡ false → int_lt b x ≡ false → is_i64 x ≡ true
+i64-between a x b low high above below =
+    let (la, _) = and_true (int_le least a) (int_le a greatest) low in
+    let (_, gb) = and_true (int_le least b) (int_le b greatest) high in
+    true_and (int_le least x) (int_le x greatest) (grind (arith, la, above)) (grind (arith, gb, below))
+
+shift-up : (a b k : ℤ) → int_lt a b ≡ false → int_lt (a +ℤ k) (b +ℤ k) ≡ false
+shift-up a b k h = grind (arith, h)
+
+within-shifted : (span : Span) (n k : ℤ) → is_within span n ≡ true → is_within (shifted span k) (plus_or_stay n k) ≡ true
+within-shifted span n k h = go (is_i64 (span.low +ℤ k)) (is_i64 (span.high +ℤ k)) refl refl
+  where
+    go : (a b : Bool) → is_i64 (span.low +ℤ k) ≡ a → is_i64 (span.high +ℤ k) ≡ b →
+        is_within (between span (cond a (Some (span.low +ℤ k)) None) (cond b (Some (span.high +ℤ k)) None)) (plus_or_stay n k) ≡ true
+    go true true is_low is_high =
+        let (low, high) = parts (int_lt n span.low) (int_lt span.high n) h in
+        let above = shift-up n span.low k low in
+        let below = shift-up span.high n k high in
+        let inside = i64-between (span.low +ℤ k) (n +ℤ k) (span.high +ℤ k) is_low is_high above below in
+        subst (λ c. is_within (record { low = span.low +ℤ k; high = span.high +ℤ k }) (cond c (n +ℤ k) n) ≡ true) (sym inside)
+        (both (int_lt (n +ℤ k) (span.low +ℤ k)) (int_lt (span.high +ℤ k) (n +ℤ k)) above below)
+    go true false is_low is_high = within-widened span n k h
+    go false b is_low is_high = within-widened span n k h
+
 lt-over : (a b c : ℤ) → int_lt b a ≡ false → int_lt c b ≡ false → int_lt c a ≡ false
 lt-over a b c x y = grind (arith, x, y)
 
@@ -56,6 +115,7 @@ inside-fits one other (counter n) i f = inside-within one other n i f
 inside-fits one other (register v) i f = refl
 inside-fits one other (set_of s) i f = refl
 inside-fits one other (queue q) i f = refl
+inside-fits one other (map_of m) i f = refl
 
 -- # One operation
 
@@ -64,21 +124,31 @@ moves : (span : Span) (s : ObjState) (op : Op) → fits span s ≡ true → (t :
 moves span (counter n) Inc f = (record { low = up span.low; high = up span.high }, (refl, within-up span n f))
 moves span (counter n) Dec f = (record { low = down span.low; high = down span.high }, (refl, within-down span n f))
 moves span (counter n) Get f = (exactly n, (ap (λ b. cond b (Some (exactly n)) None) f, both (int_lt n n) (int_lt n n) (lt-self n) (lt-self n)))
+moves span (counter n) (Plus k) f = (shifted span k, (refl, within-shifted span n k f))
 moves span (counter n) _ f = (span, (refl, f))
 moves span (register v) Inc f = (record { low = up span.low; high = up span.high }, (refl, refl))
 moves span (register v) Dec f = (record { low = down span.low; high = down span.high }, (refl, refl))
+moves span (register v) (Plus k) f = (shifted span k, (refl, refl))
 moves span (register v) (Write w) f = (span, (refl, refl))
 moves span (register v) _ f = (span, (refl, refl))
 moves span (set_of s) Inc f = (record { low = up span.low; high = up span.high }, (refl, refl))
 moves span (set_of s) Dec f = (record { low = down span.low; high = down span.high }, (refl, refl))
+moves span (set_of s) (Plus k) f = (shifted span k, (refl, refl))
 moves span (set_of s) (Add v) f = (span, (refl, refl))
 moves span (set_of s) (Remove v) f = (span, (refl, refl))
 moves span (set_of s) _ f = (span, (refl, refl))
 moves span (queue q) Inc f = (record { low = up span.low; high = up span.high }, (refl, refl))
 moves span (queue q) Dec f = (record { low = down span.low; high = down span.high }, (refl, refl))
+moves span (queue q) (Plus k) f = (shifted span k, (refl, refl))
 moves span (queue q) (Enq v) f = (span, (refl, refl))
 moves span (queue q) Deq f = (span, (refl, refl))
 moves span (queue q) _ f = (span, (refl, refl))
+moves span (map_of m) Inc f = (record { low = up span.low; high = up span.high }, (refl, refl))
+moves span (map_of m) Dec f = (record { low = down span.low; high = down span.high }, (refl, refl))
+moves span (map_of m) (Plus k) f = (shifted span k, (refl, refl))
+moves span (map_of m) (Put k v) f = (span, (refl, refl))
+moves span (map_of m) (Del k) f = (span, (refl, refl))
+moves span (map_of m) _ f = (span, (refl, refl))
 
 -- # Executions in turn
 
@@ -132,6 +202,7 @@ counted (x ∷ xs) span ob =
     unmoved Inc answer e = absurd (cc)
     unmoved Dec answer e = absurd (cc)
     unmoved Get answer e = absurd (cc)
+    unmoved (Plus k) answer e = absurd (cc)
     unmoved _ answer e = refl
 
     later : moved_at span ob x ≡ Some span → (span_after span xs ob ≡ Some span) ⊎ ((k : ℕ) × ((y : Execution) × ((slice_get xs k ≡ Some y) × (y.object ≡ ob) × (is_counting y.op ≡ true)))) →

@@ -1,16 +1,17 @@
--- Registers and sets as cells with a value each: a register has one of its own, a set one for each value, with 1 where that is a
--- member and 0 where it is none.
+-- Registers, sets and maps as cells with a value each: a register has one of its own, a set one for each value, with 1 where that is a
+-- member and 0 where it is none, a map one for each key, with what is under it or nothing.
 use Rattle.std.specs.Prelude.{◌≡◌, ℕ, ℤ, pos, Bool, true, false, not, ◌||◌, ◌&&◌, if◌then◌else◌, int_lt, nat_eq, List, [], ◌∷◌, Option, Some, None, slice_get, slice_index_or}
 use Rattle.std.specs.List.{list_any}
 use Rattle.std.specs.Ordering.{int_eq}
 use Rattle.aud_event.specs.declared.object.Op.{Op}
-use Rattle.aud_event.specs.declared.object.Op.TheVariants.{Read, Write, Add, Remove, Contains}
+use Rattle.aud_event.specs.declared.object.Op.TheVariants.{Read, Write, Add, Remove, Contains, Put, Look, Del}
 use Rattle.aud_event.specs.declared.object.Answer.{Answer}
-use Rattle.aud_event.specs.declared.object.Answer.TheVariants.{Int, Flag}
-use Rattle.aud_object.specs.Objects.{ObjState, register, set_of, has_member}
+use Rattle.aud_event.specs.declared.object.Answer.TheVariants.{Int, Flag, Empty}
+use Rattle.aud_object.specs.Objects.{ObjState, register, set_of, map_of, has_member}
+use Rattle.aud_object.specs.Entries.{value_at, Ascend as KeysAscend}
 use Rattle.aud_object.specs.declared.execution.Execution.{Execution}
 use Rattle.aud_ahead.specs.declared.cell.Key.{Key}
-use Rattle.aud_ahead.specs.declared.cell.Key.TheVariants.{Own, Element}
+use Rattle.aud_ahead.specs.declared.cell.Key.TheVariants.{Own, Element, Entry}
 use Rattle.aud_ahead.specs.declared.cell.Cell.{Cell}
 
 -- # States
@@ -25,9 +26,10 @@ abbrev pub Ascend : List ℤ → Type 0
 Ascend [] = Unit {0}
 Ascend (x ∷ s) = IsBelow x s × Ascend s
 
--- the members of a set ascend
+-- the members of a set ascend, and the keys of a map
 abbrev pub IsProper : ObjState → Type 0
 IsProper (set_of s) = Ascend s
+IsProper (map_of m) = KeysAscend m
 IsProper _ = Unit {0}
 
 -- 1 for true, 0 for false
@@ -35,26 +37,37 @@ abbrev pub one_if : Bool → ℤ
 one_if true = pos 1
 one_if false = pos 0
 
--- the value of the object's cell, if it has this one
-abbrev pub cell_of : ObjState → Key → Option ℤ
-cell_of (register v) Own = Some v
-cell_of (set_of s) (Element e) = Some (one_if (has_member s e))
+-- what the object's cell has, if it has this one: a value or nothing
+abbrev pub cell_of : ObjState → Key → Option (Option ℤ)
+cell_of (register v) Own = Some (Some v)
+cell_of (set_of s) (Element e) = Some (Some (one_if (has_member s e)))
+cell_of (map_of m) (Entry k) = Some (value_at m k)
 cell_of _ _ = None
 
 -- whether two keys are one
 abbrev pub same_key : Key → Key → Bool
 same_key Own Own = true
 same_key (Element a) (Element b) = int_eq a b
+same_key (Entry a) (Entry b) = int_eq a b
 same_key _ _ = false
+
+-- whether two cells have the same
+abbrev pub same_value : Option ℤ → Option ℤ → Bool
+same_value None None = true
+same_value (Some a) (Some b) = int_eq a b
+same_value _ _ = false
 
 -- # What executions tell
 
--- the cell of an object with a value
+-- the cell of an object with a value, or with nothing
 abbrev pub own : ℤ → Option Cell
-own v = Some (record { key = Own; value = v })
+own v = Some (record { key = Own; value = Some v })
 
 abbrev pub element : ℤ → Bool → Option Cell
-element e b = Some (record { key = Element e; value = one_if b })
+element e b = Some (record { key = Element e; value = Some (one_if b) })
+
+abbrev pub entry : ℤ → Option ℤ → Option Cell
+entry k o = Some (record { key = Entry k; value = o })
 
 -- of which cell an operation and its answer tell the value before it, and which
 abbrev pub seen_by : Op → Answer → Option Cell
@@ -62,6 +75,9 @@ seen_by Read (Int v) = own v
 seen_by (Add e) (Flag b) = element e (not b)
 seen_by (Remove e) (Flag b) = element e b
 seen_by (Contains e) (Flag b) = element e b
+seen_by (Look k) (Int v) = entry k (Some v)
+seen_by (Look k) Empty = entry k None
+seen_by (Del k) (Flag false) = entry k None
 seen_by _ _ = None
 
 -- the same of the value after it
@@ -71,45 +87,49 @@ told_by (Write v) answer = own v
 told_by (Add e) answer = element e true
 told_by (Remove e) answer = element e false
 told_by (Contains e) (Flag b) = element e b
+told_by (Put k v) answer = entry k (Some v)
+told_by (Look k) (Int v) = entry k (Some v)
+told_by (Look k) Empty = entry k None
+told_by (Del k) answer = entry k None
 told_by _ _ = None
 
 -- what is known of a cell, once this was told
-abbrev pub told_of : Key → Option ℤ → Option Cell → Option ℤ
+abbrev pub told_of : Key → Option (Option ℤ) → Option Cell → Option (Option ℤ)
 told_of key known None = known
 told_of key known (Some c) = if same_key c.key key then Some c.value else known
 
 -- what is known of a cell of an object, once an execution more ran
-abbrev pub newer : Option ℤ → Execution → ℕ → Key → Option ℤ
+abbrev pub newer : Option (Option ℤ) → Execution → ℕ → Key → Option (Option ℤ)
 newer known x ob key = if nat_eq x.object ob then told_of key known (told_by x.op x.answer) else known
 
 -- what executions tell of the cell last
-abbrev pub told : Option ℤ → List Execution → ℕ → Key → Option ℤ
+abbrev pub told : Option (Option ℤ) → List Execution → ℕ → Key → Option (Option ℤ)
 told known [] ob key = known
 told known (x ∷ xs) ob key = told (newer known x ob key) xs ob key
 
 -- # What may be
 
 -- the object's cell has the value
-abbrev pub is_now : Option ObjState → Key → ℤ → Bool
+abbrev pub is_now : Option ObjState → Key → Option ℤ → Bool
 is_now None key v = false
-is_now (Some s) key v = elim (cell_of s key) [ Some w ↦ int_eq v w | None ↦ false ]
+is_now (Some s) key v = elim (cell_of s key) [ Some w ↦ same_value v w | None ↦ false ]
 
-abbrev pub is_cell : Key → ℤ → Cell → Bool
-is_cell key v c = same_key c.key key && int_eq v c.value
+abbrev pub is_cell : Key → Option ℤ → Cell → Bool
+is_cell key v c = same_key c.key key && same_value v c.value
 
 -- the cell has the value now, or it is among those that it may have, too
-abbrev pub may_hold : List ObjState → List (List Cell) → ℕ → Key → ℤ → Bool
+abbrev pub may_hold : List ObjState → List (List Cell) → ℕ → Key → Option ℤ → Bool
 may_hold now loose ob key v = is_now (slice_get now ob) key v || list_any (is_cell key v) (slice_index_or loose ob [])
 
 -- the same where it is known what was told of the cell
-abbrev pub may_hold_by : List ObjState → List (List Cell) → ℕ → Key → Option ℤ → ℤ → Bool
+abbrev pub may_hold_by : List ObjState → List (List Cell) → ℕ → Key → Option (Option ℤ) → Option ℤ → Bool
 may_hold_by now loose ob key None v = may_hold now loose ob key v
-may_hold_by now loose ob key (Some w) v = int_eq v w
+may_hold_by now loose ob key (Some w) v = same_value v w
 
 -- the states are proper, and each cell has after executions what it may have
 pub record HoldAfter (now : List ObjState) (loose : List (List Cell)) (xs : List Execution) (states : List ObjState) : Type 0 where
   pub proper : (ob : ℕ) (s : ObjState) → slice_get states ob ≡ Some s → IsProper s
-  pub held : (ob : ℕ) (s : ObjState) (key : Key) (v : ℤ) → slice_get states ob ≡ Some s → cell_of s key ≡ Some v →
+  pub held : (ob : ℕ) (s : ObjState) (key : Key) (v : Option ℤ) → slice_get states ob ≡ Some s → cell_of s key ≡ Some v →
       may_hold_by now loose ob key (told None xs ob key) v ≡ true
 
 -- each cell has what it may have
@@ -126,4 +146,4 @@ may_answer now loose before x = may_see now loose before x.object (seen_by x.op 
 
 -- what the executions tell last of each cell is among what it may have
 abbrev pub TellWithin : List ObjState → List (List Cell) → List Execution → Type 0
-TellWithin now loose xs = (ob : ℕ) (key : Key) (v : ℤ) → told None xs ob key ≡ Some v → may_hold now loose ob key v ≡ true
+TellWithin now loose xs = (ob : ℕ) (key : Key) (v : Option ℤ) → told None xs ob key ≡ Some v → may_hold now loose ob key v ≡ true

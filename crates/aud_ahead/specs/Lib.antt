@@ -2,4 +2,5 @@ pub mod Hulls
 pub mod Ranges
 pub mod Cells
 pub mod Spans
+pub mod Queues
 pub mod Outlooks

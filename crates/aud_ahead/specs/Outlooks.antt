@@ -12,17 +12,20 @@ use Rattle.aud_ahead.specs.declared.span.Span.{Span}
 use Rattle.aud_ahead.specs.Cells.{Hold}
 use Rattle.aud_ahead.specs.Ranges.{StayWithin}
 use Rattle.aud_ahead.specs.Spans.{AreWithin}
+use Rattle.aud_ahead.specs.Queues.{QueuesOf, AreLeft}
 
--- what may be: the values that cells may have beside those of now, and the spans of counters
+-- what may be: the values that cells may have beside those of now, the spans of counters, and what queues may have lost and got
 pub record OutlookOf : Type 0 where
   pub now : List ObjState
   pub loose : List (List Cell)
   pub spans : List Span
+  pub queues : QueuesOf
 
 -- the states may be
 pub record MayBe (outlook : OutlookOf) (states : List ObjState) : Type 0 where
   pub cells : Hold outlook.now outlook.loose states
   pub counters : AreWithin outlook.spans states
+  pub lines : AreLeft outlook.now outlook.queues states
 
 -- the second row's transaction may commit, and the first row's has not ended before it
 abbrev pub may_come : RowOf → RowOf → Bool

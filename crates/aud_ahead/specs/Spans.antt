@@ -2,10 +2,11 @@
 use Rattle.std.specs.Prelude.{◌≡◌, ℕ, ℤ, pos, ◌+ℤ◌, ◌-ℤ◌, Bool, true, false, not, ◌&&◌, if◌then◌else◌, int_lt, nat_eq, List, [], ◌∷◌, Option, Some, None, slice_get}
 use Rattle.std.specs.Ordering.{int_eq}
 use Rattle.aud_event.specs.declared.object.Op.{Op}
-use Rattle.aud_event.specs.declared.object.Op.TheVariants.{Inc, Dec, Get}
+use Rattle.aud_event.specs.declared.object.Op.TheVariants.{Inc, Dec, Get, Plus}
 use Rattle.aud_event.specs.declared.object.Answer.{Answer}
 use Rattle.aud_event.specs.declared.object.Answer.TheVariants.{Int}
-use Rattle.aud_object.specs.Objects.{ObjState, counter, greatest, least}
+use Rattle.std.specs.Int.{int_min, int_max}
+use Rattle.aud_object.specs.Objects.{ObjState, counter, greatest, least, is_within as is_i64}
 use Rattle.aud_object.specs.declared.execution.Execution.{Execution}
 use Rattle.aud_ahead.specs.declared.span.Span.{Span}
 
@@ -20,6 +21,24 @@ up n = if int_eq n greatest then n else n +ℤ pos 1
 abbrev pub down : ℤ → ℤ
 down n = if int_eq n least then n else n -ℤ pos 1
 
+-- from the least i64 to the greatest, and what was there
+abbrev pub widened : Span → Span
+widened span = record { low = int_min span.low least; high = int_max span.high greatest }
+
+-- the sum, where it is an i64
+abbrev pub sum_of : ℤ → ℤ → Option ℤ
+sum_of n k = if is_i64 (n +ℤ k) then Some (n +ℤ k) else None
+
+-- from the one end to the other, where both are there
+abbrev pub between : Span → Option ℤ → Option ℤ → Span
+between span None high = widened span
+between span (Some low) None = widened span
+between span (Some low) (Some high) = record { low = low; high = high }
+
+-- a number more at both ends
+abbrev pub shifted : Span → ℤ → Span
+shifted span k = between span (sum_of span.low k) (sum_of span.high k)
+
 abbrev pub exactly : ℤ → Span
 exactly v = record { low = v; high = v }
 
@@ -27,6 +46,7 @@ exactly v = record { low = v; high = v }
 abbrev pub moved : Span → Op → Answer → Option Span
 moved span Inc answer = Some (record { low = up span.low; high = up span.high })
 moved span Dec answer = Some (record { low = down span.low; high = down span.high })
+moved span (Plus k) answer = Some (shifted span k)
 moved span Get (Int v) = if is_within span v then Some (exactly v) else None
 moved span op answer = Some span
 
@@ -53,6 +73,7 @@ abbrev pub is_counting : Op → Bool
 is_counting Inc = true
 is_counting Dec = true
 is_counting Get = true
+is_counting (Plus _) = true
 is_counting _ = false
 
 -- the first span is within the second

@@ -26,7 +26,7 @@ const LOOKS: usize = 24;
 const NEAREST: usize = 64;
 
 /// Tells lists of which it is plain that none that begins with them shows the history: the block of some transaction runs in none of the
-/// states that may be in front of it. It knows what may be of registers, sets and counters; a queue may be anything.
+/// states that may be in front of it. It knows what may be of registers, sets, maps, counters and queues.
 #[derive(Drop)]
 pub struct Ahead<'a, A: Allocator + Copy = Global> {
     alloc: A,
@@ -72,7 +72,9 @@ impl<'a, A: Allocator + Copy> Ahead<'a, A> {
         let urgent = urgent_of(alloc, &briefs)?;
         let wants = Wants::of(alloc, slots.list.len(), &briefs)?;
         let objects = shape.plan().objects().len();
-        let sight = Sight::new(alloc, slots.list.len(), objects, briefs.len())?;
+        let is_queueing = briefs.iter().any(|brief| !brief.draws.is_empty());
+        let lines = if is_queueing { objects } else { 0 };
+        let sight = Sight::new(alloc, slots.list.len(), objects, lines, briefs.len())?;
         Ok(Ahead {
             alloc,
             shape,
@@ -117,10 +119,11 @@ impl<'a, A: Allocator + Copy> Ahead<'a, A> {
         let objects = cursor.store().len();
         let loose = self.sight.loose(self.alloc, objects, &self.slots.list)?;
         let spans = self.sight.spans(self.alloc, cursor.store())?;
+        let queues = self.sight.queues(self.alloc)?;
         if place >= self.shape.table().rows().len() {
             return Ok(false);
         }
-        Ok(is_stuck(self.shape, cursor, &loose, &spans, place))
+        Ok(is_stuck(self.shape, cursor, &loose, &spans, &queues, place))
     }
 
     /// A row that needs what no row that is not placed may bring any more, once the row at the place was placed.

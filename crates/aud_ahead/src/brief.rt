@@ -1,8 +1,9 @@
-//! What a transaction's block needs of cells and counters, and what it leaves there. None of this is proved: it only says where to
+//! What a transaction's block needs of cells, counters and queues, and what it leaves there. None of this is proved: it only says where to
 //! look.
 
 use crate::cell::{Cell, Key, seen_by, told_by};
 use crate::judge::has_ended;
+use crate::line::Draw;
 use aud_event::{Answer, Op, OutOfMemory};
 use aud_history::TxRow;
 use aud_object::Execution;
@@ -22,8 +23,8 @@ pub(crate) struct Slot {
 #[derive(Clone, Copy)]
 pub(crate) struct Touch {
     pub slot: usize,
-    pub needs: Option<i64>,
-    pub leaves: Option<i64>,
+    pub needs: Option<Option<i64>>,
+    pub leaves: Option<Option<i64>>,
 }
 
 /// What a block needs of a counter, and how far it moves it.
@@ -45,6 +46,7 @@ pub(crate) struct Brief<A: Allocator + Copy> {
     pub runs: bool,
     pub touches: Vec<Touch, A>,
     pub moves: Vec<Move, A>,
+    pub draws: Vec<Draw<A>, A>,
 }
 
 /// The cells that a history touches, with their places.
@@ -116,6 +118,7 @@ impl<A: Allocator + Copy> Brief<A> {
             runs: true,
             touches: Vec::new(alloc),
             moves: Vec::new(alloc),
+            draws: Vec::new(alloc),
         }
     }
 
@@ -168,7 +171,19 @@ impl<A: Allocator + Copy> Brief<A> {
         Ok(())
     }
 
-    fn add(&mut self, slots: &mut Slots<A>, x: &Execution) -> Result<(), OutOfMemory> {
+    fn draw(&mut self, alloc: A, x: &Execution) -> Result<(), OutOfMemory> {
+        for kept in self.draws.iter_mut() {
+            if kept.object == x.object {
+                return kept.add(x);
+            }
+        }
+        let mut draw = Draw::new(alloc, x.object);
+        draw.add(x)?;
+        self.draws.push(draw)?;
+        Ok(())
+    }
+
+    fn add(&mut self, alloc: A, slots: &mut Slots<A>, x: &Execution) -> Result<(), OutOfMemory> {
         let (seen, told) = (seen_by(x.op, x.answer), told_by(x.op, x.answer));
         if let Some(cell) = told {
             let slot = slots.place(Slot {
@@ -180,7 +195,9 @@ impl<A: Allocator + Copy> Brief<A> {
         match (x.op, x.answer) {
             (Op::Inc, _) => self.count(x.object, None, 1),
             (Op::Dec, _) => self.count(x.object, None, -1),
+            (Op::Plus(by), _) => self.count(x.object, None, by),
             (Op::Get, Answer::Int(count)) => self.count(x.object, Some(count), 0),
+            (Op::Enq(_), _) | (Op::Deq, _) => self.draw(alloc, x),
             _ => Ok(()),
         }
     }
@@ -188,7 +205,7 @@ impl<A: Allocator + Copy> Brief<A> {
     fn of(alloc: A, slots: &mut Slots<A>, row: &TxRow<A>) -> Result<Brief<A>, OutOfMemory> {
         let mut brief = Brief::new(alloc, row);
         for x in row.block().executions() {
-            brief.add(slots, x)?;
+            brief.add(alloc, slots, x)?;
         }
         for touch in brief.touches.iter_mut() {
             if touch.leaves == touch.needs {

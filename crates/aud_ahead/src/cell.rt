@@ -1,7 +1,7 @@
-//! Registers and sets as cells, and what an operation with its answer tells of one.
+//! Registers, sets and maps as cells, and what an operation with its answer tells of one.
 
 ghost use Rattle.std.specs.Prelude.{◌≡◌};
-ghost use Rattle.aud_ahead.specs.Cells.{element, one_if, own, same_key, seen_by, told_by};
+ghost use Rattle.aud_ahead.specs.Cells.{element, entry, one_if, own, same_key, same_value, seen_by, told_by};
 
 use aud_event::{Answer, Op};
 
@@ -12,13 +12,15 @@ pub enum Key {
     Own,
     /// A set's, of the value: 1 where it is a member, 0 where it is none.
     Element(i64),
+    /// A map's, under the key: what is there, or nothing.
+    Entry(i64),
 }
 
-/// A cell of an object with a value.
+/// A cell of an object with a value, or with nothing.
 #[derive(Clone, Copy, Debug, PartialEq, Eq, PartialOrd, Ord)]
 pub struct Cell {
     pub key: Key,
-    pub value: i64,
+    pub value: Option<i64>,
 }
 
 /// Whether the two keys are one.
@@ -28,8 +30,19 @@ pub(crate) fn same_key(one: Key, other: Key) -> bool
     match (one, other) {
         (Key::Own, Key::Own) => true,
         (Key::Element(a), Key::Element(b)) => a == b,
-        (Key::Own, Key::Element(_)) => false,
-        (Key::Element(_), Key::Own) => false,
+        (Key::Entry(a), Key::Entry(b)) => a == b,
+        _ => false,
+    }
+}
+
+/// Whether two cells have the same.
+pub(crate) fn same_value(one: Option<i64>, other: Option<i64>) -> bool
+    ensures { result ≡ same_value one other }
+{
+    match (one, other) {
+        (None, None) => true,
+        (Some(a), Some(b)) => a == b,
+        _ => false,
     }
 }
 
@@ -45,7 +58,7 @@ fn element(value: i64, flag: bool) -> Option<Cell>
 {
     Some(Cell {
         key: Key::Element(value),
-        value: one_if(flag),
+        value: Some(one_if(flag)),
     })
 }
 
@@ -55,6 +68,16 @@ fn own(value: i64) -> Option<Cell>
 {
     Some(Cell {
         key: Key::Own,
+        value: Some(value),
+    })
+}
+
+/// A map's cell.
+fn entry(key: i64, value: Option<i64>) -> Option<Cell>
+    ensures { result ≡ entry key value }
+{
+    Some(Cell {
+        key: Key::Entry(key),
         value,
     })
 }
@@ -68,6 +91,9 @@ pub(crate) fn seen_by(op: Op, answer: Answer) -> Option<Cell>
         (Op::Add(value), Answer::Flag(flag)) => element(value, !flag),
         (Op::Remove(value), Answer::Flag(flag)) => element(value, flag),
         (Op::Contains(value), Answer::Flag(flag)) => element(value, flag),
+        (Op::Look(key), Answer::Int(value)) => entry(key, Some(value)),
+        (Op::Look(key), Answer::Empty) => entry(key, None),
+        (Op::Del(key), Answer::Flag(false)) => entry(key, None),
         _ => None,
     }
 }
@@ -82,6 +108,10 @@ pub(crate) fn told_by(op: Op, answer: Answer) -> Option<Cell>
         (Op::Add(value), _) => element(value, true),
         (Op::Remove(value), _) => element(value, false),
         (Op::Contains(value), Answer::Flag(flag)) => element(value, flag),
+        (Op::Look(key), Answer::Int(value)) => entry(key, Some(value)),
+        (Op::Look(key), Answer::Empty) => entry(key, None),
+        (Op::Put(key, value), _) => entry(key, Some(value)),
+        (Op::Del(key), _) => entry(key, None),
         _ => None,
     }
 }

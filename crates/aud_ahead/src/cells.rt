@@ -1,19 +1,19 @@
-//! What the cells of registers and sets may have.
+//! What the cells of registers, sets and maps may have.
 
-ghost use Rattle.std.specs.Prelude.{◌≡◌, ℤ, IsTrue, true, false, None, Some, slice_get, slice_index_or, []};
+ghost use Rattle.std.specs.Prelude.{◌≡◌, ℤ, Option, IsTrue, true, false, None, Some, slice_get, slice_index_or, []};
 ghost use Rattle.std.specs.List.{list_any};
 ghost use Rattle.aud_ahead.specs.Cells.{is_cell, is_now, may_answer, may_hold, may_hold_by, may_see, newer, told, told_by, told_of, Hold, TellWithin};
 ghost use Rattle.aud_ahead.specs.declared.cell.Cell.{Cell};
 ghost use Rattle.aud_ahead.specs.Ranges.{RunNowhere, StayWithin};
 
-use crate::cell::{Cell, Key, one_if, same_key, seen_by, told_by};
+use crate::cell::{Cell, Key, one_if, same_key, same_value, seen_by, told_by};
 use aud_event::{Answer, Op, OutOfMemory};
 use aud_object::{Execution, Store};
 use std::alloc::{Allocator, Global};
 use std::marker::Model;
 
 /// What is known of a cell, once this was told.
-fn told_of(key: Key, known: Option<i64>, cell: Option<Cell>) -> Option<i64>
+fn told_of(key: Key, known: Option<Option<i64>>, cell: Option<Cell>) -> Option<Option<i64>>
     ensures { result ≡ told_of key known cell }
 {
     match cell {
@@ -29,7 +29,7 @@ fn told_of(key: Key, known: Option<i64>, cell: Option<Cell>) -> Option<i64>
 }
 
 /// What is known of a cell of an object, once an execution more ran.
-fn newer(known: Option<i64>, x: &Execution, object: u16, key: Key) -> Option<i64>
+fn newer(known: Option<Option<i64>>, x: &Execution, object: u16, key: Key) -> Option<Option<i64>>
     ensures { result ≡ newer known x.now object key }
 {
     if x.object == object {
@@ -40,7 +40,7 @@ fn newer(known: Option<i64>, x: &Execution, object: u16, key: Key) -> Option<i64
 }
 
 /// What the executions tell of the cell last.
-fn told(executions: &[Execution], object: u16, key: Key) -> Option<i64>
+fn told(executions: &[Execution], object: u16, key: Key) -> Option<Option<i64>>
     ensures { result ≡ told None executions.now object key }
 {
     let mut known = None;
@@ -51,27 +51,40 @@ fn told(executions: &[Execution], object: u16, key: Key) -> Option<i64>
 }
 
 /// Whether the object's cell has the value now.
-fn is_now<A: Allocator + Drop>(store: &Store<A>, object: usize, key: Key, value: i64) -> bool
+fn is_now<A: Allocator + Drop>(
+    store: &Store<A>,
+    object: usize,
+    key: Key,
+    value: Option<i64>,
+) -> bool
     ensures { result ≡ is_now (slice_get store.now.now object) key value }
 {
     match key {
-        Key::Own => store.answer(object, Op::Read) == Some(Answer::Int(value)),
+        Key::Own => match store.answer(object, Op::Read) {
+            Some(Answer::Int(found)) => same_value(value, Some(found)),
+            _ => false,
+        },
         Key::Element(element) => match store.answer(object, Op::Contains(element)) {
-            Some(Answer::Flag(flag)) => value == one_if(flag),
+            Some(Answer::Flag(flag)) => same_value(value, Some(one_if(flag))),
+            _ => false,
+        },
+        Key::Entry(key) => match store.answer(object, Op::Look(key)) {
+            Some(Answer::Int(found)) => same_value(value, Some(found)),
+            Some(Answer::Empty) => same_value(value, None),
             _ => false,
         },
     }
 }
 
 /// Whether the cell is of the key and has the value.
-fn is_cell(key: Key, value: i64, cell: &Cell) -> bool
+fn is_cell(key: Key, value: Option<i64>, cell: &Cell) -> bool
     ensures { result ≡ is_cell key value cell.now }
 {
-    same_key(cell.key, key) && value == cell.value
+    same_key(cell.key, key) && same_value(value, cell.value)
 }
 
 /// Whether one of the cells is of the key and has the value.
-fn has_cell(cells: &[Cell], key: Key, value: i64) -> bool
+fn has_cell(cells: &[Cell], key: Key, value: Option<i64>) -> bool
     ensures { result ≡ list_any (is_cell key value) cells.now }
 {
     cells.iter().any(|cell| is_cell(key, value, cell))
@@ -116,7 +129,7 @@ impl<A: Allocator + Copy> Loose<A> {
     }
 
     /// Whether the object's cell may have the value.
-    fn has(&self, store: &Store<A>, object: usize, key: Key, value: i64) -> bool
+    fn has(&self, store: &Store<A>, object: usize, key: Key, value: Option<i64>) -> bool
         ensures { result ≡ may_hold store.now.now self.now object key value }
     {
         is_now(store, object, key, value)
@@ -132,14 +145,14 @@ impl<A: Allocator + Copy> Loose<A> {
         store: &Store<A>,
         object: usize,
         key: Key,
-        known: Option<i64>,
-        value: i64,
+        known: Option<Option<i64>>,
+        value: Option<i64>,
     ) -> bool
         ensures { result ≡ may_hold_by store.now.now self.now object key known value }
     {
         match known {
             None => self.has(store, object, key, value),
-            Some(only) => value == only,
+            Some(only) => same_value(value, only),
         }
     }
 
@@ -183,7 +196,7 @@ impl<A: Allocator + Copy> Loose<A> {
 
     /// Whether what the executions tell last of the cell is among what it may have.
     fn has_told(&self, store: &Store<A>, executions: &[Execution], object: u16, key: Key) -> bool
-        ensures { IsTrue result → (v : ℤ) → told None executions.now object key ≡ Some v → may_hold store.now.now self.now object key v ≡ true }
+        ensures { IsTrue result → (v : Option ℤ) → told None executions.now object key ≡ Some v → may_hold store.now.now self.now object key v ≡ true }
     {
         match told(executions, object, key) {
             Some(value) => self.has(store, object as usize, key, value),
@@ -193,7 +206,7 @@ impl<A: Allocator + Copy> Loose<A> {
 
     /// The same of the cell of which the execution tells, if it does of one.
     fn has_told_by(&self, store: &Store<A>, executions: &[Execution], x: &Execution) -> bool
-        ensures { IsTrue result → (c : Cell) (v : ℤ) → told_by x.now.op x.now.answer ≡ Some c → told None executions.now x.now.object c.key ≡ Some v →
+        ensures { IsTrue result → (c : Cell) (v : Option ℤ) → told_by x.now.op x.now.answer ≡ Some c → told None executions.now x.now.object c.key ≡ Some v →
             may_hold store.now.now self.now x.now.object c.key v ≡ true }
     {
         match told_by(x.op, x.answer) {

@@ -9,6 +9,7 @@ ghost use Rattle.aud_ahead.specs.Outlooks.{may_come, IsClosed, IsDoomed, MayBe};
 
 use crate::cells::Loose;
 use crate::outlook::Outlook;
+use crate::queues::Queues;
 use crate::span::Spans;
 use aud_history::{Status, TxRow};
 use aud_marks::Marks;
@@ -69,6 +70,7 @@ pub(crate) fn is_stuck<A: Allocator + Copy>(
     cursor: &Cursor<A>,
     loose: &Loose<A>,
     spans: &Spans<A>,
+    queues: &Queues<A>,
     place: usize,
 ) -> bool
     requires shape { cursor.now.shape ≡ shape.now }
@@ -84,6 +86,7 @@ pub(crate) fn is_stuck<A: Allocator + Copy>(
         store: cursor.store(),
         loose,
         spans,
+        queues,
     };
     if placed.has(place) || outlook.may_run(row.block().executions()) {
         return false;

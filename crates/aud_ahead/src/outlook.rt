@@ -6,6 +6,7 @@ ghost use Rattle.aud_ahead.specs.Ranges.{RunNowhere, StayWithin};
 ghost use Rattle.aud_ahead.specs.Spans.{AreWithin};
 
 use crate::cells::Loose;
+use crate::queues::Queues;
 use crate::span::Spans;
 use aud_object::{Execution, Store};
 use std::alloc::{Allocator, Global};
@@ -17,6 +18,7 @@ pub(crate) struct Outlook<'a, A: Allocator + Copy = Global> {
     pub store: &'a Store<A>,
     pub loose: &'a Loose<A>,
     pub spans: &'a Spans<A>,
+    pub queues: &'a Queues<A>,
 }
 
 impl<'a, A: Allocator + Copy> Model for Outlook<'a, A> {
@@ -24,7 +26,7 @@ impl<'a, A: Allocator + Copy> Model for Outlook<'a, A> {
 
     ghost Value = { OutlookOf };
 
-    ghost view = { λ o. record { now = o.store.now.now; loose = o.loose.now; spans = o.spans.now } };
+    ghost view = { λ o. record { now = o.store.now.now; loose = o.loose.now; spans = o.spans.now; queues = o.queues.now } };
 }
 
 impl<'a, A: Allocator + Copy> Outlook<'a, A> {
@@ -45,6 +47,9 @@ impl<'a, A: Allocator + Copy> Outlook<'a, A> {
         if !self.spans.may_run(executions) {
             return false;
         }
+        if !self.queues.may_run(self.store, executions) {
+            return false;
+        }
         true
     }
 
@@ -55,6 +60,8 @@ impl<'a, A: Allocator + Copy> Outlook<'a, A> {
         if !self.may_run(executions) {
             return true;
         }
-        self.loose.stays(self.store, executions) && self.spans.stays(executions)
+        self.loose.stays(self.store, executions)
+            && self.spans.stays(executions)
+            && self.queues.stays(self.store, executions)
     }
 }

@@ -3,6 +3,8 @@
 use crate::brief::{Brief, Move, Slot, Touch};
 use crate::cell::{Cell, Key, one_if};
 use crate::cells::Loose;
+use crate::line::{Draw, Line};
+use crate::queues::Queues;
 use crate::span::{Span, Spans};
 use aud_event::{Answer, Op, OutOfMemory};
 use aud_marks::Marks;
@@ -13,8 +15,8 @@ use std::alloc::Allocator;
 #[derive(Drop)]
 struct Values<A: Allocator + Copy> {
     round: u32,
-    now: Option<i64>,
-    more: Vec<i64, A>,
+    now: Option<Option<i64>>,
+    more: Vec<Option<i64>, A>,
 }
 
 /// From where to where a counter may be in a round.
@@ -24,26 +26,33 @@ struct Range {
     span: Span,
 }
 
-/// What may be, of all cells and counters, for one list after the other: each has a round of its own.
+/// What may be, of all cells, counters and queues, for one list after the other: each has a round of its own.
 #[derive(Drop)]
 pub(crate) struct Sight<A: Allocator + Copy> {
     round: u32,
     values: Vec<Values<A>, A>,
     ranges: Vec<Range, A>,
+    /// None, where no block is on a queue.
+    lines: Vec<Line<A>, A>,
     active: Vec<u32, A>,
     pool: Vec<usize, A>,
 }
 
-/// What the cell has now.
-pub(crate) fn cell_now<A: Allocator + Drop>(store: &Store<A>, slot: Slot) -> Option<i64> {
+/// What the cell has now: a value or nothing, if the object has such a cell.
+pub(crate) fn cell_now<A: Allocator + Drop>(store: &Store<A>, slot: Slot) -> Option<Option<i64>> {
     let object = slot.object as usize;
     match slot.key {
         Key::Own => match store.answer(object, Op::Read) {
-            Some(Answer::Int(value)) => Some(value),
+            Some(Answer::Int(value)) => Some(Some(value)),
             _ => None,
         },
         Key::Element(element) => match store.answer(object, Op::Contains(element)) {
-            Some(Answer::Flag(flag)) => Some(one_if(flag)),
+            Some(Answer::Flag(flag)) => Some(Some(one_if(flag))),
+            _ => None,
+        },
+        Key::Entry(key) => match store.answer(object, Op::Look(key)) {
+            Some(Answer::Int(value)) => Some(Some(value)),
+            Some(Answer::Empty) => Some(None),
             _ => None,
         },
     }
@@ -61,7 +70,7 @@ fn range_now<A: Allocator + Drop>(store: &Store<A>, object: u16) -> Span {
 }
 
 impl<A: Allocator + Copy> Values<A> {
-    fn has(&self, value: i64) -> bool {
+    fn has(&self, value: Option<i64>) -> bool {
         self.now == Some(value) || self.more.iter().any(|kept| *kept == value)
     }
 }
@@ -88,6 +97,7 @@ impl<A: Allocator + Copy> Sight<A> {
         alloc: A,
         slots: usize,
         objects: usize,
+        lines: usize,
         rows: usize,
     ) -> Result<Sight<A>, OutOfMemory> {
         let mut values = Vec::new(alloc);
@@ -98,6 +108,10 @@ impl<A: Allocator + Copy> Sight<A> {
                 more: Vec::new(alloc),
             })?;
         }
+        let mut all = Vec::new(alloc);
+        for _ in 0..lines {
+            all.push(Line::new(alloc))?;
+        }
         let none = Range {
             round: 0,
             span: Span::ALL,
@@ -106,6 +120,7 @@ impl<A: Allocator + Copy> Sight<A> {
             round: 0,
             values,
             ranges: vec![in alloc; none; objects]?,
+            lines: all,
             active: vec![in alloc; 0u32; rows]?,
             pool: Vec::new(alloc),
         })
@@ -177,6 +192,20 @@ impl<A: Allocator + Copy> Sight<A> {
         }
     }
 
+    /// What a queue may be in this round.
+    fn line(&mut self, object: u16) -> Option<&mut Line<A>> {
+        let line = self.lines.get_mut(object as usize)?;
+        line.begin(self.round);
+        Some(line)
+    }
+
+    fn may_draw(&mut self, store: &Store<A>, draw: &Draw<A>) -> bool {
+        match (store.items(draw.object as usize), self.line(draw.object)) {
+            (Some(items), Some(line)) => line.may_run(items, draw),
+            _ => true,
+        }
+    }
+
     /// Whether the block may run.
     fn may_run(&mut self, store: &Store<A>, slots: &[Slot], brief: &Brief<A>) -> bool {
         if !brief.runs {
@@ -189,6 +218,11 @@ impl<A: Allocator + Copy> Sight<A> {
         }
         for step in &brief.moves {
             if !self.may_move(store, *step) {
+                return false;
+            }
+        }
+        for draw in &brief.draws {
+            if !self.may_draw(store, draw) {
                 return false;
             }
         }
@@ -214,6 +248,13 @@ impl<A: Allocator + Copy> Sight<A> {
         for step in &brief.moves {
             if let Some(range) = self.range(store, step.object) {
                 range.span = reached(range.span, *step);
+            }
+        }
+        for draw in &brief.draws {
+            if let Some(items) = store.items(draw.object as usize) {
+                if let Some(line) = self.line(draw.object) {
+                    line.learn(items, draw)?;
+                }
             }
         }
         Ok(())
@@ -297,6 +338,20 @@ impl<A: Allocator + Copy> Sight<A> {
             }
         }
         Ok(spans)
+    }
+
+    /// What queues may be.
+    pub(crate) fn queues(&self, alloc: A) -> Result<Queues<A>, OutOfMemory> {
+        let mut queues = Queues::none(alloc, self.lines.len())?;
+        for (object, line) in self.lines.iter().enumerate() {
+            if line.round == self.round {
+                queues.take(object, line.gone);
+                for value in &line.come {
+                    queues.add(object, *value)?;
+                }
+            }
+        }
+        Ok(queues)
     }
 }
 

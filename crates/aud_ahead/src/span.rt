@@ -1,7 +1,7 @@
 //! What counters may be.
 
 ghost use Rattle.std.specs.Prelude.{◌≡◌, IsTrue, false, None, Some, slice_get};
-ghost use Rattle.aud_ahead.specs.Spans.{down, exactly, is_counting, is_inside, is_within, moved, moved_at, span_after, up, AreInside, AreWithin};
+ghost use Rattle.aud_ahead.specs.Spans.{down, exactly, is_counting, is_inside, is_within, moved, moved_at, between, shifted, span_after, sum_of, up, widened, AreInside, AreWithin};
 ghost use Rattle.aud_ahead.specs.Ranges.{RunNowhere, StayWithin};
 
 use aud_event::{Answer, Op, OutOfMemory};
@@ -52,6 +52,43 @@ fn down(count: i64) -> i64
     if count == i64::MIN { count } else { count - 1 }
 }
 
+/// From the least i64 to the greatest, and what was there.
+fn widened(span: Span) -> Span
+    ensures { result ≡ widened span }
+{
+    Span {
+        low: span.low.min(i64::MIN),
+        high: span.high.max(i64::MAX),
+    }
+}
+
+/// The sum, where it is an i64.
+fn sum_of(count: i64, by: i64) -> Option<i64>
+    ensures { result ≡ sum_of count by }
+{
+    count.checked_add(by)
+}
+
+/// From the one end to the other, where both are there; else of every count.
+fn between(span: Span, low: Option<i64>, high: Option<i64>) -> Span
+    ensures { result ≡ between span low high }
+{
+    match low {
+        None => widened(span),
+        Some(low) => match high {
+            None => widened(span),
+            Some(high) => Span { low, high },
+        },
+    }
+}
+
+/// The span once a number is added at both ends; of every count, where an end leaves the range.
+fn shifted(span: Span, by: i64) -> Span
+    ensures { result ≡ shifted span by }
+{
+    between(span, sum_of(span.low, by), sum_of(span.high, by))
+}
+
 /// The span of one count.
 fn exactly(count: i64) -> Span
     ensures { result ≡ exactly count }
@@ -75,6 +112,7 @@ fn moved(span: Span, op: Op, answer: Answer) -> Option<Span>
             low: down(span.low),
             high: down(span.high),
         }),
+        (Op::Plus(by), _) => Some(shifted(span, by)),
         (Op::Get, Answer::Int(count)) => {
             if is_within(span, count) {
                 Some(exactly(count))
@@ -120,14 +158,8 @@ fn is_counting(op: Op) -> bool
     ensures { result ≡ is_counting op }
 {
     match op {
-        Op::Inc | Op::Dec | Op::Get => true,
-        Op::Read
-        | Op::Write(_)
-        | Op::Add(_)
-        | Op::Remove(_)
-        | Op::Contains(_)
-        | Op::Enq(_)
-        | Op::Deq => { false }
+        Op::Inc | Op::Dec | Op::Get | Op::Plus(_) => true,
+        _ => false,
     }
 }
 

@@ -13,7 +13,7 @@ use std::collections::BTreeMap;
 struct Wanter {
     last: u32,
     place: usize,
-    value: i64,
+    value: Option<i64>,
     bringers: usize,
 }
 
@@ -28,7 +28,7 @@ struct Bringer {
 #[derive(Clone, Copy, PartialEq, Eq, PartialOrd, Ord)]
 struct Content {
     slot: usize,
-    value: i64,
+    value: Option<i64>,
 }
 
 /// The rows that need a value of a cell, those first that end first, and for each value the rows that may bring it, those first that

@@ -3,7 +3,7 @@ use Rattle.std.proofs.Common.{◌≡◌, ◌<◌, ◌%◌, ◌++◌, ◌⊎◌, 
 use Rattle.std.proofs.lemmas.List.Elements.{All-contains, Contains-append_left, Contains-append_right, Contains-get_or, Contains-push_cases}
 use Rattle.std.specs.List.Sorted.{IsPermutation}
 use mathlib.Core.List.{IsPrefix}
-use Rattle.aud_event.proofs.Bools.{nat_eq-is}
+use Rattle.aud_base.proofs.Bools.{nat_eq-is}
 use Rattle.aud_event.specs.Meanings.{PlanOf}
 use Rattle.aud_facts.specs.Sets.{FactsOf}
 use Rattle.aud_witness.specs.declared.decision.Decision.{Decision}

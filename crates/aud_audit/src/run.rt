@@ -296,7 +296,7 @@ fn audit_said<G: Gate<Prefix> + Sync, R: Threads + Wait + Sync>(
 /// it. All pools share the gate.
 ///
 /// Where it fails a beginning of that line went out, and what was read stays read. It takes memory by the size of the text, for each
-/// node; a search takes up to about 1 GiB more for each worker, and half a GiB for what workers share.
+/// node and each worker; what all workers keep of what they refuted takes up to about 1 GiB more.
 pub fn run_audit<G: Gate<Prefix> + Sync, R: Threads + Wait + Sync, I: Source, O: Sink>(
     rt: &R,
     alloc: Global,

@@ -45,14 +45,14 @@ letter-plain : (f : Fate) → IsPlainByte (fate_letter f)
 letter-plain C = plain-byte 99 (omega arith) (omega arith) (λ e. omega (arith, e)) (λ e. omega (arith, e))
 letter-plain A = plain-byte 97 (omega arith) (omega arith) (λ e. omega (arith, e)) (λ e. omega (arith, e))
 
-pub decision-plain : (d : Decision) → d.tx < 1024 → ArePlain (decision_text d)
+pub decision-plain : (d : Decision) → d.tx < 4096 → ArePlain (decision_text d)
 decision-plain d h = All-push IsPlainByte (decimal d.tx) (fate_letter d.fate) (decimal-plain d.tx (omega arith)) (letter-plain d.fate)
 
 space-plain : IsPlainByte 32
 space-plain = plain-byte 32 (omega arith) (omega arith) (λ e. omega (arith, e)) (λ e. omega (arith, e))
 
 abbrev Low : Decision → Type 0
-Low d = d.tx < 1024
+Low d = d.tx < 4096
 
 more-plain : (ds : List Decision) → All Low ds → ArePlain (flat_map (λ e. 32 ∷ decision_text e) ds)
 more-plain [] h = All-nil IsPlainByte

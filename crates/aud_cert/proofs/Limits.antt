@@ -6,7 +6,8 @@ use Rattle.std.proofs.lemmas.Fmt.{length-decimal-le}
 use Rattle.std.proofs.lemmas.List.Elements.{All-head, All-tail, All-cons, All-nil, Contains-push_cases}
 use Rattle.std.proofs.lemmas.Map.Steps.{length-le_from_distinct_below}
 use Rattle.aud_event.specs.Meanings.{PlanOf}
-use Rattle.aud_event.proofs.Bools.{or_true, or_false, and_true, not_true, nat_eq-is}
+use Rattle.aud_event.proofs.Rows.{below_most}
+use Rattle.aud_base.proofs.Bools.{or_true, or_false, and_true, not_true, nat_eq-is}
 use Rattle.aud_history.specs.Histories.{History, is_in}
 use Rattle.aud_history.specs.FirstFault.{FitsPlan, IsWithinLimits}
 use Rattle.aud_history.specs.Table.{transactions}
@@ -24,7 +25,7 @@ use Rattle.aud_cert.specs.Laws.{AcceptedReadsBack}
 use Rattle.aud_cert.proofs.Back.{certificates-read-back}
 
 abbrev Low : Decision → Type 0
-Low d = d.tx < 1024
+Low d = d.tx < 4096
 
 -- # How long texts are
 
@@ -48,12 +49,12 @@ order-length (d ∷ ds) low =
     let rest = more-length ds (All-tail Low d ds low) in
     subst (λ t. length t ≤ 6 * length (d ∷ ds) + 4) (join-more d ds) (omega (arith, here, rest, length-append (decision_text d) more))
 
--- each id is in range, and the text is no longer than 1,024 decisions need
+-- each id is in range, and the text is no longer than 4,096 decisions need
 record IsSmall (p : List Decision) : Type 0 where
   ids : All Low p
-  text : length (order_text p) ≤ 6148
+  text : length (order_text p) ≤ 24580
 
-small-from_few : (p : List Decision) → All Low p → length p ≤ 1024 → IsSmall p
+small-from_few : (p : List Decision) → All Low p → length p ≤ 4096 → IsSmall p
 small-from_few p low few = let long = order-length p low in record { ids = low; text = omega (arith, few, long) }
 
 short-from_small : (p : List Decision) → IsSmall p → IsShort p
@@ -63,7 +64,7 @@ short-from_small p small = let text = small.text in record { ids = small.ids; te
 small-one : (d : Decision) → Low d → IsSmall (d ∷ [])
 small-one d low = small-from_few (d ∷ []) (All-cons Low d [] low (All-nil Low)) (omega arith)
 
-prefix-length : (p : List Decision) → IsSmall p → length (prefix_text p) ≤ 6160
+prefix-length : (p : List Decision) → IsSmall p → length (prefix_text p) ≤ 24592
 prefix-length p small = let text = small.text in omega (arith, text, length-append (order_text p) (codes "\"}"))
 
 -- # Lines of small lists
@@ -95,11 +96,11 @@ within-small (Same p q) (small, other) =
 -- # How many transactions there are
 
 -- those of a history within the limits are in range
-low-in : (plan : PlanOf) (h : History) (t : ℕ) → All (FitsPlan plan) h → is_in h t ≡ true → t < 1024
+low-in : (plan : PlanOf) (h : History) (t : ℕ) → All (FitsPlan plan) h → is_in h t ≡ true → t < 4096
 low-in plan [] t fits there = absurd (cc)
 low-in plan (e ∷ h) t fits there =
     elim (or_true (nat_eq e.0 t) (is_in h t) there) [
-      | inl same ↦ subst (λ n. n < 1024) (nat_eq-is e.0 t same) (All-head (FitsPlan plan) e h fits).0
+      | inl same ↦ subst (λ n. n < 4096) (nat_eq-is e.0 t same) (below_most plan.format e.0 (All-head (FitsPlan plan) e h fits).0)
       | inr later ↦ low-in plan h t (All-tail (FitsPlan plan) e h fits) later
     ]
 
@@ -114,9 +115,9 @@ distinct (t ∷ ts) differ =
     let both = and_true (not (list_any (nat_eq t) ts)) (are_different ts) differ in
     (apart t ts (not_true (list_any (nat_eq t) ts) both.0), distinct ts both.1)
 
-few-transactions : (plan : PlanOf) (h : History) → All (FitsPlan plan) h → length (transactions h) ≤ 1024
+few-transactions : (plan : PlanOf) (h : History) → All (FitsPlan plan) h → length (transactions h) ≤ 4096
 few-transactions plan h fits =
-    length-le_from_distinct_below (transactions h) 1024 (distinct (transactions h) (different-transactions h))
+    length-le_from_distinct_below (transactions h) 4096 (distinct (transactions h) (different-transactions h))
     (λ t there. low-in plan h t fits (sym (any-transactions h t) ∙ there))
 
 -- # Accepted lines

@@ -12,7 +12,7 @@ use Rattle.aud_accept.specs.declared.cert.CertLine.TheVariants.{Kids, Silent, Sa
 use Rattle.aud_cert.specs.LineText.{Line}
 use Rattle.aud_cert.specs.Written.{line_text, header_text, IsShort, HasShort}
 use Rattle.aud_cert.proofs.Bytes.{IsPlainByte, ArePlain, decimal-plain, order-plain}
-use Rattle.aud_event.proofs.Bools.{and_true}
+use Rattle.aud_base.proofs.Bools.{and_true}
 
 abbrev is_text : ℕ → Bool
 is_text b = nat_le 32 b && nat_lt b 128

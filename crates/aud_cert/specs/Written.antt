@@ -1,7 +1,7 @@
 -- The text that is written of a certificate.
 use Rattle.std.specs.Prelude.{ℕ, ◌≡◌, ◌<◌, ◌≤◌, ◌^◌, Ok, List, [], ◌∷◌, ◌++◌, All, flat_map, length, codes, decimal}
 use Rattle.aud_witness.specs.declared.decision.Decision.{Decision}
-use Rattle.aud_event.specs.Limits.{transactions}
+use Rattle.aud_event.specs.Limits.{most_transactions}
 use Rattle.aud_text.specs.Orders.{order_text, decision_text}
 use Rattle.aud_cert.specs.LineText.{Line}
 use Rattle.aud_cert.specs.CertText.{cert_read}
@@ -39,9 +39,9 @@ cert_text lines = ended (header_text (length lines)) ++ flat_map (λ l. ended (l
 
 -- ---- the limits
 
--- each id is below 1,024, and the order text is not too long
+-- each id is below 4,096, and the order text is not too long
 pub record IsShort (p : List Decision) : Type 0 where
-  pub ids : All (λ d. d.tx < transactions) p
+  pub ids : All (λ d. d.tx < most_transactions) p
   pub text : length (order_text p) ≤ 32768
 
 abbrev pub HasShort : {X : Type 0} → CertLine X → Type 0

@@ -1,7 +1,7 @@
 //! Reading a list of decisions where it stands in a line, in one pass and up to the byte after it.
 
 ghost use Rattle.std.specs.Prelude.{◌≡◌, ◌<◌, ◌≤◌, ◌++◌, ◌∷◌, ◌+◌, All, IfSome, decimal, length};
-ghost use Rattle.aud_event.specs.Limits.{transactions};
+ghost use Rattle.aud_event.specs.Limits.{most_transactions};
 ghost use Rattle.aud_text.specs.Orders.{decision_text, fate_letter, order_text};
 ghost use Rattle.aud_cert.specs.Written.{IsShort};
 
@@ -25,7 +25,7 @@ fn digit_at(text: &[u8]) -> Option<(u32, &[u8])>
 /// The number of a transaction, which has no zero before another digit.
 fn number_at(text: &[u8]) -> Option<(u32, &[u8])>
     ensures spelled { IfSome result (λ r. text.now ≡ decimal r.0 ++ r.1.now) }
-    ensures low { IfSome result (λ r. r.0 < transactions) }
+    ensures low { IfSome result (λ r. r.0 < most_transactions) }
 {
     let (mut number, mut rest) = digit_at(text)?;
     if number == 0 {
@@ -53,7 +53,7 @@ fn fate_of(letter: u8) -> Option<Fate>
 
 fn decision_at(text: &[u8]) -> Option<(Decision, &[u8])>
     ensures spelled { IfSome result (λ r. text.now ≡ decision_text r.0 ++ r.1.now) }
-    ensures low { IfSome result (λ r. r.0.tx < transactions) }
+    ensures low { IfSome result (λ r. r.0.tx < most_transactions) }
 {
     let (tx, ended) = number_at(text)?;
     let (letter, rest) = ended.split_first()?;
@@ -64,7 +64,7 @@ fn decision_at(text: &[u8]) -> Option<(Decision, &[u8])>
 /// A decision after a space.
 fn next_at(text: &[u8]) -> Option<(Decision, &[u8])>
     ensures spelled { IfSome result (λ r. text.now ≡ 32 ∷ decision_text r.0 ++ r.1.now) }
-    ensures low { IfSome result (λ r. r.0.tx < transactions) }
+    ensures low { IfSome result (λ r. r.0.tx < most_transactions) }
 {
     let (byte, rest) = text.split_first()?;
     if *byte == b' ' {
@@ -77,7 +77,7 @@ fn next_at(text: &[u8]) -> Option<(Decision, &[u8])>
 /// Puts the decisions that a text begins with into the list, in the place of what it had, and answers what stands after them.
 fn list_at<'l>(text: &'l [u8], list: &mut Vec<Decision>) -> Option<&'l [u8]>
     ensures spelled { IfSome result (λ rest. text.now ≡ order_text list.new.items ++ rest.now) }
-    ensures low { IfSome result (λ rest. All (λ d. d.tx < transactions) list.new.items) }
+    ensures low { IfSome result (λ rest. All (λ d. d.tx < most_transactions) list.new.items) }
 {
     list.clear();
     if let Some(rest) = after(text, "none") {

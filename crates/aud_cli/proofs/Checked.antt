@@ -27,7 +27,7 @@ module _ (plan : PlanOf) (g : Fact) where
   by_members : (d : Data) (o : Option Members) → judged_members plan d o ≡ Ok g → first_fact_fault plan g ≡ None
   by_members d None e = absurd (cc)
   by_members d (Some ms) e =
-      by_word (fact_of plan d (shape_of d)) (if_so (types_fit d) _ _ (if_so (has_only (allowed (shape_of d)) ms) _ _ (if_so (has_all (required (shape_of d)) d) _ _ e)))
+      by_word (fact_of plan d (shape_of plan.format d)) (if_so (types_fit d) _ _ (if_so (has_only (allowed plan.format (shape_of plan.format d)) ms) _ _ (if_so (has_all (required (shape_of plan.format d)) d) _ _ e)))
 
   by_json : (r : Result Data TextFault) → judged_json plan r ≡ Ok g → first_fact_fault plan g ≡ None
   by_json (Err x) e = absurd (cc)

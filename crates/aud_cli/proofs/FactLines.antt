@@ -6,13 +6,18 @@ use Rattle.std.proofs.lemmas.Map.Lookups.{exact_bytes}
 use Rattle.serde_json.specs.Data.{Data, null, boolean, number, string, array, object, Members, no_members, member}
 use Rattle.serde_json.specs.Find.{as_object, get_member}
 use Rattle.aud_event.specs.Meanings.{PlanOf}
-use Rattle.aud_event.specs.Words.{op_of_word}
+use Rattle.aud_event.specs.Objects.{signature_of}
+use Rattle.aud_event.specs.Words.{op_of_word_in}
+use Rattle.aud_event.specs.declared.signature.Format.{Format}
+use Rattle.aud_event.specs.declared.signature.Format.TheVariants.{One, Two}
+use Rattle.aud_event.specs.declared.signature.Takes.{Takes}
+use Rattle.aud_event.specs.declared.signature.Takes.TheVariants as takes
 use Rattle.aud_event.specs.declared.object.OpName.{OpName}
 use Rattle.aud_event.specs.declared.fact.Fact.{Fact}
-use Rattle.aud_event.proofs.Bools.{and_true}
+use Rattle.aud_base.proofs.Bools.{and_true}
 use Rattle.aud_text.specs.declared.fault.TextFault.{TextFault}
 use Rattle.aud_text.specs.Json.{Key, json_read, has, has_all, has_only, is_one_of, word_at}
-use Rattle.aud_text.specs.FactText.{fact_read, judged_json, judged_members, judged_as, shape_of, shape_of_ev, shape_of_event, takes_argument, required, allowed}
+use Rattle.aud_text.specs.FactText.{fact_read, judged_json, judged_members, judged_as, shape_of, shape_of_ev, shape_of_event, argument_keys, operation_keys, all_keys, required, allowed}
 use Rattle.aud_cli.specs.Certificates.{has_cert, begins_certificate}
 
 module _ (x : Key) (ks : List Key) (other : is_one_of ks x ≡ false) where
@@ -40,34 +45,44 @@ either p false x y first second = second
 abbrev lacks : List Key → Bool
 lacks ks = is_one_of ks (codes "cert")
 
-module _ (d : Data) where
-  of_op : (o : Option OpName) → option_and_then op_of_word (word_at (codes "op") d) ≡ o → lacks (allowed (shape_of_event d (codes "inv"))) ≡ false
-  of_op None is = rw is refl
-  of_op (Some o) is = rw is (either lacks (takes_argument o) _ _ refl refl)
+module _ (format : Format) (d : Data) where
+  of_takes : (t : Takes) → lacks (argument_keys t operation_keys) ≡ false
+  of_takes takes.Nothing = refl
+  of_takes takes.Number = refl
+  of_takes takes.Addend = refl
+  of_takes takes.Pair = refl
 
-  of_event : (w : List ℕ) → lacks (allowed (shape_of_event d w)) ≡ false
+  of_all : (f : Format) → lacks (all_keys f) ≡ false
+  of_all One = refl
+  of_all Two = refl
+
+  of_op : (o : Option OpName) → option_and_then (op_of_word_in format) (word_at (codes "op") d) ≡ o → lacks (allowed format (shape_of_event format d (codes "inv"))) ≡ false
+  of_op None is = rw is (of_all format)
+  of_op (Some o) is = rw is (of_takes (signature_of o).takes)
+
+  of_event : (w : List ℕ) → lacks (allowed format (shape_of_event format d w)) ≡ false
   of_event w =
-      either (λ s. lacks (allowed s)) (bytes_eq w (codes "inv")) _ _ (of_op (option_and_then op_of_word (word_at (codes "op") d)) refl)
-      (either (λ s. lacks (allowed s)) (bytes_eq w (codes "ret")) _ _ refl
-      (either (λ s. lacks (allowed s)) (bytes_eq w (codes "tryc")) _ _ refl
-      (either (λ s. lacks (allowed s)) (bytes_eq w (codes "trya")) _ _ refl
-      (either (λ s. lacks (allowed s)) (bytes_eq w (codes "commit")) _ _ refl
-      (either (λ s. lacks (allowed s)) (bytes_eq w (codes "abort")) _ _ refl refl)))))
+      either (λ s. lacks (allowed format s)) (bytes_eq w (codes "inv")) _ _ (of_op (option_and_then (op_of_word_in format) (word_at (codes "op") d)) refl)
+      (either (λ s. lacks (allowed format s)) (bytes_eq w (codes "ret")) _ _ refl
+      (either (λ s. lacks (allowed format s)) (bytes_eq w (codes "tryc")) _ _ refl
+      (either (λ s. lacks (allowed format s)) (bytes_eq w (codes "trya")) _ _ refl
+      (either (λ s. lacks (allowed format s)) (bytes_eq w (codes "commit")) _ _ refl
+      (either (λ s. lacks (allowed format s)) (bytes_eq w (codes "abort")) _ _ refl (of_all format))))))
 
-  of_word : (o : Option (List ℕ)) → lacks (allowed (shape_of_ev d o)) ≡ false
-  of_word None = refl
+  of_word : (o : Option (List ℕ)) → lacks (allowed format (shape_of_ev format d o)) ≡ false
+  of_word None = of_all format
   of_word (Some w) = of_event w
 
-  not_allowed : lacks (allowed (shape_of d)) ≡ false
-  not_allowed = either (λ s. lacks (allowed s)) (has (codes "end") d) _ _ refl (of_word (word_at (codes "ev") d))
+  not_allowed : lacks (allowed format (shape_of format d)) ≡ false
+  not_allowed = either (λ s. lacks (allowed format s)) (has (codes "end") d) _ _ refl (of_word (word_at (codes "ev") d))
 
 module _ (plan : PlanOf) (f : Fact) where
   held : (b : Bool) (r : Result Fact TextFault) (x : TextFault) → cond b r (Err x) ≡ Ok f → (b ≡ true) × (r ≡ Ok f)
   held true r x e = (refl, e)
   held false r x e = absurd (cc)
 
-  only : (d : Data) (ms : Members) → judged_as plan d ms (shape_of d) ≡ Ok f → has_only (allowed (shape_of d)) ms ≡ true
-  only d ms e = (held (has_only (allowed (shape_of d)) ms) _ _ (held (has_all (required (shape_of d)) d) _ _ e).1).0
+  only : (d : Data) (ms : Members) → judged_as plan d ms (shape_of plan.format d) ≡ Ok f → has_only (allowed plan.format (shape_of plan.format d)) ms ≡ true
+  only d ms e = (held (has_only (allowed plan.format (shape_of plan.format d)) ms) _ _ (held (has_all (required (shape_of plan.format d)) d) _ _ e).1).0
 
   by_data : (d : Data) → judged_members plan d (as_object d) ≡ Ok f → has_cert (Ok d) ≡ false
   by_data null e = refl
@@ -75,7 +90,7 @@ module _ (plan : PlanOf) (f : Fact) where
   by_data (number n) e = refl
   by_data (string s) e = refl
   by_data (array ds) e = refl
-  by_data (object ms) e = absent (codes "cert") (allowed (shape_of (object ms))) (not_allowed (object ms)) ms (only (object ms) ms e)
+  by_data (object ms) e = absent (codes "cert") (allowed plan.format (shape_of plan.format (object ms))) (not_allowed plan.format (object ms)) ms (only (object ms) ms e)
 
   by_json : (r : Result Data TextFault) → judged_json plan r ≡ Ok f → has_cert r ≡ false
   by_json (Err x) e = refl

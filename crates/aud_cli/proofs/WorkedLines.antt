@@ -12,5 +12,5 @@ no_plan = refl
 no_order : OrderSays (order_read []) [] (OrderTextRefused fault.UnknownWord)
 no_order = refl
 
-too_great : OrderSays (order_read (codes "x 1024c")) [] (OrderTextRefused fault.TypeOrRange)
+too_great : OrderSays (order_read (codes "x 4096c")) [] (OrderTextRefused fault.TypeOrRange)
 too_great = refl

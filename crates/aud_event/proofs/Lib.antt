@@ -1,3 +1,2 @@
-pub mod Bools
 pub mod Names
-pub mod Results
+pub mod Rows

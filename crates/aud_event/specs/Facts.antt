@@ -1,6 +1,7 @@
 -- Which fault is reported of a fact that does not fit its plan.
-use Rattle.std.specs.Prelude.{ℕ, Bool, if◌then◌else◌, List, Option, Some, None, nat_lt, nat_le, slice_get}
+use Rattle.std.specs.Prelude.{ℕ, Bool, ◌&&◌, if◌then◌else◌, List, Option, Some, None, nat_lt, nat_le, slice_get}
 use Rattle.aud_event.specs.declared.object.OpName.{OpName}
+use Rattle.aud_event.specs.declared.signature.Format.{Format}
 use Rattle.aud_event.specs.declared.fact.Event.{Event}
 use Rattle.aud_event.specs.declared.fact.Event.TheVariants.{Inv, Ret, TryC, TryA, Commit, Abort}
 use Rattle.aud_event.specs.declared.fact.Record.{Record}
@@ -8,30 +9,35 @@ use Rattle.aud_event.specs.declared.fact.EndMark.{EndMark}
 use Rattle.aud_event.specs.declared.fact.Fact.{Fact}
 use Rattle.aud_event.specs.declared.fact.Fact.TheVariants.{Rec, End}
 use Rattle.aud_event.specs.declared.fact.FactFault.{FactFault}
-use Rattle.aud_event.specs.declared.fact.FactFault.TheVariants.{LogRange, AtRange, StampRange, TxRange, NoObject, OpKind, AnswerKind}
+use Rattle.aud_event.specs.declared.fact.FactFault.TheVariants.{LogRange, AtRange, StampRange, TxRange, NoObject, OpKind, AnswerKind, ArgRange}
 use Rattle.aud_event.specs.Limits.{places, stamps, transactions}
 use Rattle.aud_event.specs.Meanings.{Declared, PlanOf}
-use Rattle.aud_event.specs.Objects.{name_of, is_of_kind, is_answer_of}
+use Rattle.aud_event.specs.Objects.{name_of, is_of_kind, is_in_format, is_answer_of, has_fitting_args}
+
+-- whether objects of the declared kind have the operation in the format
+abbrev pub has_operation : Format → Declared → OpName → Bool
+has_operation format d name = is_of_kind d.kind name && is_in_format format name
 
 -- the first fault of an operation on what stands at an object's number
-abbrev pub first_use_fault : Option Declared → OpName → Option FactFault
-first_use_fault None name = Some NoObject
-first_use_fault (Some d) name = if is_of_kind d.kind name then None else Some OpKind
+abbrev pub first_use_fault : Format → Option Declared → OpName → Option FactFault
+first_use_fault format None name = Some NoObject
+first_use_fault format (Some d) name = if has_operation format d name then None else Some OpKind
 
--- an answer is looked at where nothing else is wrong
-abbrev pub first_answer_fault : Option FactFault → Bool → Option FactFault
-first_answer_fault (Some fault) fits = Some fault
-first_answer_fault None fits = if fits then None else Some AnswerKind
+-- a further fault is looked at where nothing else is wrong
+abbrev pub or_else_fault : Option FactFault → Bool → FactFault → Option FactFault
+or_else_fault (Some fault) fits last = Some fault
+or_else_fault None fits last = if fits then None else Some last
 
 -- the first fault of an event, whoever recorded it
-abbrev pub first_event_fault : List Declared → Event → Option FactFault
-first_event_fault objects (Inv ob op) = first_use_fault (slice_get objects ob) (name_of op)
-first_event_fault objects (Ret ob name answer) =
-    first_answer_fault (first_use_fault (slice_get objects ob) name) (is_answer_of name answer)
-first_event_fault objects TryC = None
-first_event_fault objects TryA = None
-first_event_fault objects Commit = None
-first_event_fault objects Abort = None
+abbrev pub first_event_fault : PlanOf → Event → Option FactFault
+first_event_fault plan (Inv ob op) =
+    or_else_fault (first_use_fault plan.format (slice_get plan.objects ob) (name_of op)) (has_fitting_args op) ArgRange
+first_event_fault plan (Ret ob name answer) =
+    or_else_fault (first_use_fault plan.format (slice_get plan.objects ob) name) (is_answer_of name answer) AnswerKind
+first_event_fault plan TryC = None
+first_event_fault plan TryA = None
+first_event_fault plan Commit = None
+first_event_fault plan Abort = None
 
 -- the first fault of a record, in the order of their numbers
 abbrev pub first_record_fault : PlanOf → Record → Option FactFault
@@ -39,8 +45,8 @@ first_record_fault plan r =
     if nat_le plan.logs r.log then Some LogRange
     else (if nat_le places r.at then Some AtRange
     else (if nat_le stamps r.stamp then Some StampRange
-    else (if nat_le transactions r.tx then Some TxRange
-    else first_event_fault plan.objects r.event)))
+    else (if nat_le (transactions plan.format) r.tx then Some TxRange
+    else first_event_fault plan r.event)))
 
 -- the first fault of an end mark
 abbrev pub first_end_mark_fault : PlanOf → EndMark → Option FactFault
@@ -61,3 +67,4 @@ fact_fault_number TxRange = 4
 fact_fault_number NoObject = 5
 fact_fault_number OpKind = 6
 fact_fault_number AnswerKind = 7
+fact_fault_number ArgRange = 8

@@ -2,7 +2,7 @@ pub mod Objects
 pub mod Meanings
 pub mod Plans
 pub mod Facts
-pub mod Exact
+pub mod FactRank
 pub mod Exactness
 pub mod Laws
 pub mod Limits

@@ -1,15 +1,68 @@
--- Kinds of objects, their operations and the answers that each can have.
-use Rattle.std.specs.Prelude.{Bool, true, false}
+-- Kinds of objects, their operations and the answers that each can have: two tables, and what follows from their rows.
+use Rattle.std.specs.Prelude.{ℤ, Bool, true, false, ◌&&◌, Option, Some, None, int_le}
 use Rattle.aud_event.specs.declared.object.ObjKind.{ObjKind}
-use Rattle.aud_event.specs.declared.object.ObjKind.TheVariants.{Register, Counter, SetOf, Queue}
+use Rattle.aud_event.specs.declared.object.ObjKind.TheVariants.{Register, Counter, SetOf, Queue, MapOf}
 use Rattle.aud_event.specs.declared.object.Op.{Op}
 use Rattle.aud_event.specs.declared.object.Op.TheVariants as op
 use Rattle.aud_event.specs.declared.object.OpName.{OpName}
 use Rattle.aud_event.specs.declared.object.OpName.TheVariants as word
 use Rattle.aud_event.specs.declared.object.Answer.{Answer}
 use Rattle.aud_event.specs.declared.object.Answer.TheVariants.{Done, Int, Flag, Empty}
+use Rattle.aud_event.specs.declared.signature.Args.{Args}
+use Rattle.aud_event.specs.declared.signature.Args.TheVariants as args
+use Rattle.aud_event.specs.declared.signature.Format.{Format}
+use Rattle.aud_event.specs.declared.signature.Format.TheVariants.{One, Two}
+use Rattle.aud_event.specs.declared.signature.Gives.{Gives}
+use Rattle.aud_event.specs.declared.signature.Gives.TheVariants as gives
+use Rattle.aud_event.specs.declared.signature.KindRow.{KindRow}
+use Rattle.aud_event.specs.declared.signature.Opens.{Opens}
+use Rattle.aud_event.specs.declared.signature.Opens.TheVariants as opens
+use Rattle.aud_event.specs.declared.signature.Signature.{Signature}
+use Rattle.aud_event.specs.declared.signature.Takes.{Takes}
+use Rattle.aud_event.specs.declared.signature.Takes.TheVariants as takes
+use Rattle.aud_event.specs.Limits.{least_addend, greatest_addend}
 
--- an operation without its argument
+-- ---- the tables
+
+abbrev pub row : ObjKind → Takes → Gives → Bool → Format → Signature
+row kind takes gives observes since = record { kind = kind; takes = takes; gives = gives; observes = observes; since = since }
+
+abbrev pub observing : Bool
+observing = true
+
+abbrev pub changing : Bool
+changing = false
+
+-- an operation: its kind, what it takes and gives, whether it observes, and the first format that has it
+abbrev pub signature_of : OpName → Signature
+signature_of word.Read = row Register takes.Nothing gives.Int observing One
+signature_of word.Write = row Register takes.Number gives.Done changing One
+signature_of word.Inc = row Counter takes.Nothing gives.Done changing One
+signature_of word.Dec = row Counter takes.Nothing gives.Done changing One
+signature_of word.Get = row Counter takes.Nothing gives.Int observing One
+signature_of word.Add = row SetOf takes.Number gives.Flag changing One
+signature_of word.Remove = row SetOf takes.Number gives.Flag changing One
+signature_of word.Contains = row SetOf takes.Number gives.Flag observing One
+signature_of word.Enq = row Queue takes.Number gives.Done changing One
+signature_of word.Deq = row Queue takes.Nothing gives.IntOrEmpty changing One
+signature_of word.Plus = row Counter takes.Addend gives.Done changing Two
+signature_of word.Put = row MapOf takes.Pair gives.Done changing Two
+signature_of word.Look = row MapOf takes.Number gives.IntOrEmpty observing Two
+signature_of word.Del = row MapOf takes.Number gives.Flag changing Two
+
+abbrev pub kind_row : Opens → Format → KindRow
+kind_row opens since = record { opens = opens; since = since }
+
+-- a kind: where its objects open, and the first format that has it
+abbrev pub row_of_kind : ObjKind → KindRow
+row_of_kind Register = kind_row opens.Anywhere One
+row_of_kind Counter = kind_row opens.InRange One
+row_of_kind SetOf = kind_row opens.Empty One
+row_of_kind Queue = kind_row opens.Empty One
+row_of_kind MapOf = kind_row opens.Empty Two
+
+-- ---- an operation is its name and its arguments
+
 abbrev pub name_of : Op → OpName
 name_of op.Read = word.Read
 name_of (op.Write _) = word.Write
@@ -21,32 +74,105 @@ name_of (op.Remove _) = word.Remove
 name_of (op.Contains _) = word.Contains
 name_of (op.Enq _) = word.Enq
 name_of op.Deq = word.Deq
+name_of (op.Plus _) = word.Plus
+name_of (op.Put _ _) = word.Put
+name_of (op.Look _) = word.Look
+name_of (op.Del _) = word.Del
+
+abbrev pub args_of : Op → Args
+args_of op.Read = args.Nothing
+args_of (op.Write v) = args.Number v
+args_of op.Inc = args.Nothing
+args_of op.Dec = args.Nothing
+args_of op.Get = args.Nothing
+args_of (op.Add v) = args.Number v
+args_of (op.Remove v) = args.Number v
+args_of (op.Contains v) = args.Number v
+args_of (op.Enq v) = args.Number v
+args_of op.Deq = args.Nothing
+args_of (op.Plus v) = args.Number v
+args_of (op.Put key value) = args.Pair key value
+args_of (op.Look key) = args.Number key
+args_of (op.Del key) = args.Number key
+
+-- the operation of a name with arguments, if it takes such
+abbrev pub op_with : OpName → Args → Option Op
+op_with word.Read args.Nothing = Some op.Read
+op_with word.Write (args.Number v) = Some (op.Write v)
+op_with word.Inc args.Nothing = Some op.Inc
+op_with word.Dec args.Nothing = Some op.Dec
+op_with word.Get args.Nothing = Some op.Get
+op_with word.Add (args.Number v) = Some (op.Add v)
+op_with word.Remove (args.Number v) = Some (op.Remove v)
+op_with word.Contains (args.Number v) = Some (op.Contains v)
+op_with word.Enq (args.Number v) = Some (op.Enq v)
+op_with word.Deq args.Nothing = Some op.Deq
+op_with word.Plus (args.Number v) = Some (op.Plus v)
+op_with word.Put (args.Pair key value) = Some (op.Put key value)
+op_with word.Look (args.Number key) = Some (op.Look key)
+op_with word.Del (args.Number key) = Some (op.Del key)
+op_with _ _ = None
+
+-- ---- what follows from the rows
+
+-- whether a format has what came with another
+abbrev pub has_since : Format → Format → Bool
+has_since One One = true
+has_since One Two = false
+has_since Two One = true
+has_since Two Two = true
+
+-- whether a format has the operation
+abbrev pub is_in_format : Format → OpName → Bool
+is_in_format format name = has_since format (signature_of name).since
+
+abbrev pub same_kind : ObjKind → ObjKind → Bool
+same_kind Register Register = true
+same_kind Counter Counter = true
+same_kind SetOf SetOf = true
+same_kind Queue Queue = true
+same_kind MapOf MapOf = true
+same_kind _ _ = false
 
 -- the operations that objects of a kind have
 abbrev pub is_of_kind : ObjKind → OpName → Bool
-is_of_kind Register word.Read = true
-is_of_kind Register word.Write = true
-is_of_kind Counter word.Inc = true
-is_of_kind Counter word.Dec = true
-is_of_kind Counter word.Get = true
-is_of_kind SetOf word.Add = true
-is_of_kind SetOf word.Remove = true
-is_of_kind SetOf word.Contains = true
-is_of_kind Queue word.Enq = true
-is_of_kind Queue word.Deq = true
-is_of_kind _ _ = false
+is_of_kind kind name = same_kind (signature_of name).kind kind
+
+abbrev pub gives_answer : Gives → Answer → Bool
+gives_answer gives.Done Done = true
+gives_answer gives.Int (Int _) = true
+gives_answer gives.Flag (Flag _) = true
+gives_answer gives.IntOrEmpty (Int _) = true
+gives_answer gives.IntOrEmpty Empty = true
+gives_answer _ _ = false
 
 -- the answers that an operation can have
 abbrev pub is_answer_of : OpName → Answer → Bool
-is_answer_of word.Read (Int _) = true
-is_answer_of word.Write Done = true
-is_answer_of word.Inc Done = true
-is_answer_of word.Dec Done = true
-is_answer_of word.Get (Int _) = true
-is_answer_of word.Add (Flag _) = true
-is_answer_of word.Remove (Flag _) = true
-is_answer_of word.Contains (Flag _) = true
-is_answer_of word.Enq Done = true
-is_answer_of word.Deq (Int _) = true
-is_answer_of word.Deq Empty = true
-is_answer_of _ _ = false
+is_answer_of name answer = gives_answer (signature_of name).gives answer
+
+-- the operations that leave every state as it is
+abbrev pub observes : OpName → Bool
+observes name = (signature_of name).observes
+
+abbrev pub is_observing : Op → Bool
+is_observing o = observes (name_of o)
+
+-- whether what takes such takes as many arguments, whatever their range
+abbrev pub takes_kind : Takes → Args → Bool
+takes_kind takes.Nothing args.Nothing = true
+takes_kind takes.Number (args.Number _) = true
+takes_kind takes.Addend (args.Number _) = true
+takes_kind takes.Pair (args.Pair _ _) = true
+takes_kind _ _ = false
+
+-- whether what takes such takes these arguments
+abbrev pub args_fit : Takes → Args → Bool
+args_fit takes.Nothing args.Nothing = true
+args_fit takes.Number (args.Number _) = true
+args_fit takes.Addend (args.Number v) = int_le least_addend v && int_le v greatest_addend
+args_fit takes.Pair (args.Pair _ _) = true
+args_fit _ _ = false
+
+-- whether the operation's arguments are such as it takes
+abbrev pub has_fitting_args : Op → Bool
+has_fitting_args o = args_fit (signature_of (name_of o)).takes (args_of o)

@@ -9,13 +9,13 @@ mod fact;
 mod key;
 pub mod laws;
 pub mod limits;
-mod memory;
 mod object;
 mod plan;
+mod signature;
 mod words;
 
+pub use aud_base::{Dup, Key, OutOfMemory, Rank};
 pub use fact::{EndMark, Event, Fact, FactFault, Record};
-pub use key::Key;
-pub use memory::{Dup, OutOfMemory};
 pub use object::{Answer, ObjKind, Op, OpName};
 pub use plan::{ObjDecl, Plan, PlanFault};
+pub use signature::{Args, Format, Gives, KindRow, Opens, Signature, Takes};

@@ -2,11 +2,13 @@
 
 ghost use Rattle.std.specs.Prelude.{◌≡◌, ◌≤◌, ◌↔◌, IfOk, IsTrue, slice_get, None, Some, true, false, length, option_copied};
 ghost use Rattle.std.specs.List.{list_all};
-ghost use Rattle.aud_event.specs.Plans.{is_name, is_name_byte, is_opening, first_plan_fault, first_value_fault, plan_fault_number, number_of, IsIndex, NumbersNames, JudgesParts};
+ghost use Rattle.aud_event.specs.declared.signature.Format.TheVariants.{One};
+ghost use Rattle.aud_event.specs.Plans.{is_name, is_name_byte, is_opening, is_kind_in, plan_of, first_plan_fault, first_value_fault, plan_fault_number, number_of, IsIndex, NumbersNames, JudgesParts};
 
 use crate::limits::{COUNTER_MAX, COUNTER_MIN, LOGS_MAX, NAME_MAX, OBJECTS_MAX};
-use crate::memory::{Dup, OutOfMemory};
 use crate::object::ObjKind;
+use crate::signature::{Format, Opens};
+use aud_base::{Dup, OutOfMemory};
 use std::alloc::{Allocator, Global};
 use std::collections::BTreeMap;
 use std::marker::Model;
@@ -14,7 +16,7 @@ use thiserror::Error;
 
 /// An object of a plan: its name, its kind, and the value that it opens at.
 ///
-/// `opening` is the value of a register, or the count of a counter. A set and a queue open empty, and have 0 here.
+/// `opening` is the value of a register, or the count of a counter. The other kinds open empty, and have 0 here.
 #[derive(Debug, Drop)]
 pub struct ObjDecl<A: Allocator = Global> {
     pub name: String<A>,
@@ -42,7 +44,7 @@ impl<A: Allocator> ObjDecl<A> {
     }
 }
 
-/// Why no plan was made, in the order in which the causes are looked for.
+/// Why no plan was made, in the order in which the causes are looked for; `KindFormat` comes after `BadName`.
 #[derive(Clone, Copy, Debug, PartialEq, Eq, Error)]
 pub enum PlanFault {
     #[error("a plan has at least one log")]
@@ -59,10 +61,12 @@ pub enum PlanFault {
     BadName,
     #[error("out of memory")]
     OutOfMemory,
+    #[error("the plan's format does not have an object's kind")]
+    KindFormat,
 }
 
 impl PlanFault {
-    /// The fault's number, 1 to 7, as it is printed.
+    /// The fault's number, 1 to 8, as it is printed.
     pub fn number(&self) -> u32
         ensures { result ≡ plan_fault_number self.now }
     {
@@ -74,6 +78,7 @@ impl PlanFault {
             PlanFault::OpeningRange => 5,
             PlanFault::BadName => 6,
             PlanFault::OutOfMemory => 7,
+            PlanFault::KindFormat => 8,
         }
     }
 }
@@ -92,6 +97,7 @@ impl From<OutOfMemory> for PlanFault {
 /// A plan that fits the limits, and whose objects have different names. Objects are numbered from 0 in their order.
 #[derive(Debug, Drop)]
 pub struct Plan<A: Allocator = Global> {
+    format: Format,
     logs: u32,
     objects: Vec<ObjDecl<A>, A>,
     numbers: BTreeMap<String<A>, u16, A>,
@@ -103,11 +109,11 @@ impl<A: Allocator> Model for Plan<A> {
     ghost Value = { PlanOf };
 
     ghost use Rattle.std.specs.Prelude.{◌≡◌, None};
-    ghost use Rattle.aud_event.specs.Plans.{first_plan_fault, IsIndex};
+    ghost use Rattle.aud_event.specs.Plans.{plan_of, first_plan_fault, IsIndex};
 
-    ghost view = { λ p. record { logs = p.logs; objects = p.objects.items } };
+    ghost view = { λ p. plan_of p.format p.logs p.objects.items };
 
-    ghost invariant = { λ p. (first_plan_fault p.logs p.objects.items ≡ None) × IsIndex p.numbers p.objects.items };
+    ghost invariant = { λ p. (first_plan_fault (plan_of p.format p.logs p.objects.items) ≡ None) × IsIndex p.numbers p.objects.items };
 }
 
 /// Whether a name is 1 to 32 ASCII letters, digits or underscores.
@@ -129,10 +135,10 @@ fn are_name_bytes(bytes: &[u8]) -> bool
 fn opens_well<A: Allocator>(decl: &ObjDecl<A>) -> bool
     ensures { result ≡ is_opening decl.now }
 {
-    match decl.kind {
-        ObjKind::Register => true,
-        ObjKind::Counter => COUNTER_MIN <= decl.opening && decl.opening <= COUNTER_MAX,
-        ObjKind::SetOf | ObjKind::Queue => decl.opening == 0,
+    match decl.kind.row().opens {
+        Opens::Anywhere => true,
+        Opens::InRange => COUNTER_MIN <= decl.opening && decl.opening <= COUNTER_MAX,
+        Opens::Empty => decl.opening == 0,
     }
 }
 
@@ -154,6 +160,18 @@ fn have_good_names<A: Allocator>(objects: &[ObjDecl<A>]) -> bool
     objects.iter().all(|d| has_good_name(d))
 }
 
+fn is_kind_in<A: Allocator>(format: Format, decl: &ObjDecl<A>) -> bool
+    ensures { result ≡ is_kind_in format decl.now }
+{
+    format.has(decl.kind.row().since)
+}
+
+fn have_kinds_in<A: Allocator>(format: Format, objects: &[ObjDecl<A>]) -> bool
+    ensures { result ≡ list_all (is_kind_in format) objects.now }
+{
+    objects.iter().all(|d| is_kind_in(format, d))
+}
+
 /// The objects' numbers by their names, or none where a name stands twice.
 fn index_of<A: Allocator + Clone>(
     alloc: A,
@@ -173,25 +191,42 @@ fn index_of<A: Allocator + Clone>(
 }
 
 /// The first fault of the objects' values, names aside from being different.
-fn value_fault_of<A: Allocator>(objects: &[ObjDecl<A>]) -> Option<PlanFault>
-    ensures { result ≡ first_value_fault objects.now }
+fn value_fault_of<A: Allocator>(format: Format, objects: &[ObjDecl<A>]) -> Option<PlanFault>
+    ensures { result ≡ first_value_fault format objects.now }
 {
     if !all_open_well(objects) {
         Some(PlanFault::OpeningRange)
     } else if !have_good_names(objects) {
         Some(PlanFault::BadName)
+    } else if !have_kinds_in(format, objects) {
+        Some(PlanFault::KindFormat)
     } else {
         None
     }
 }
 
 impl<A: Allocator + Clone> Plan<A> {
-    /// A plan of so many logs and of the objects, or the first fault that they have.
+    /// A plan in the first format, of so many logs and of the objects, or the first fault that they have.
     ///
     /// It takes memory for an index of the names, O(n log n) time for n objects. On a fault the objects are given up.
     pub fn new(alloc: A, logs: u32, objects: Vec<ObjDecl<A>, A>) -> Result<Plan<A>, PlanFault>
-        ensures made { IfOk result (λ plan. plan ≡ record { logs = logs; objects = objects.items }) }
-        ensures fault { JudgesParts logs objects.items result }
+        ensures made { IfOk result (λ plan. plan ≡ plan_of One logs objects.items) }
+        ensures fault { JudgesParts (plan_of One logs objects.items) result }
+    {
+        Plan::new_in(alloc, Format::One, logs, objects)
+    }
+
+    /// A plan in the format, of so many logs and of the objects, or the first fault that they have.
+    ///
+    /// It takes memory for an index of the names, O(n log n) time for n objects. On a fault the objects are given up.
+    pub fn new_in(
+        alloc: A,
+        format: Format,
+        logs: u32,
+        objects: Vec<ObjDecl<A>, A>,
+    ) -> Result<Plan<A>, PlanFault>
+        ensures made { IfOk result (λ plan. plan ≡ plan_of format logs objects.items) }
+        ensures fault { JudgesParts (plan_of format logs objects.items) result }
     {
         if logs == 0 {
             return Err(PlanFault::NoLogs);
@@ -204,9 +239,10 @@ impl<A: Allocator + Clone> Plan<A> {
         }
         match index_of(alloc, &objects)? {
             None => Err(PlanFault::NameTwice),
-            Some(numbers) => match value_fault_of(&objects) {
+            Some(numbers) => match value_fault_of(format, &objects) {
                 Some(fault) => Err(fault),
                 None => Ok(Plan {
+                    format,
                     logs,
                     objects,
                     numbers,
@@ -217,10 +253,18 @@ impl<A: Allocator + Clone> Plan<A> {
 }
 
 impl<A: Allocator> Plan<A> {
+    /// The format, which says which kinds, operations and transactions there are.
+    pub fn format(&self) -> Format
+        ensures format { result ≡ self.now.format }
+        ensures sound { first_plan_fault self.now ≡ None }
+    {
+        self.format
+    }
+
     /// How many logs there are, 1 to 64.
     pub fn logs(&self) -> u32
         ensures logs { result ≡ self.now.logs }
-        ensures sound { first_plan_fault self.now.logs self.now.objects ≡ None }
+        ensures sound { first_plan_fault self.now ≡ None }
     {
         self.logs
     }
@@ -228,7 +272,7 @@ impl<A: Allocator> Plan<A> {
     /// The objects in their order, at most 256.
     pub fn objects(&self) -> &[ObjDecl<A>]
         ensures objects { result.now ≡ self.now.objects }
-        ensures sound { first_plan_fault self.now.logs self.now.objects ≡ None }
+        ensures sound { first_plan_fault self.now ≡ None }
     {
         self.objects.as_slice()
     }
@@ -247,11 +291,13 @@ impl<A: Allocator> Plan<A> {
         self.numbers.get(name).copied()
     }
 
-    /// Whether the two plans have equal logs and equal objects in one order.
+    /// Whether the two plans have one format, equal logs and equal objects in one order.
     pub fn same(&self, other: &Plan<A>) -> bool
         ensures { IsTrue result ↔ (self.now ≡ other.now) }
     {
-        same_objects(&self.objects, &other.objects) && self.logs == other.logs
+        same_objects(&self.objects, &other.objects)
+            && self.logs == other.logs
+            && self.format == other.format
     }
 }
 
@@ -298,6 +344,7 @@ impl<A: Allocator + Clone> Dup for Plan<A> {
         let objects = copies(self.objects.allocator().clone()?, &self.objects)?;
         let numbers = self.numbers.clone()?;
         Ok(Plan {
+            format: self.format,
             logs: self.logs,
             objects,
             numbers,

@@ -1,5 +1,4 @@
 pub mod Lists
-pub mod Reflexive
 pub mod Ordered
 pub mod Conflicts
 pub mod Surveys

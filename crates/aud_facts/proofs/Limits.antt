@@ -5,7 +5,8 @@ use Rattle.std.specs.List.{AllByRecursion}
 use Rattle.std.proofs.lemmas.Bool.{cases_lt}
 use Rattle.std.proofs.lemmas.List.{length-replicate}
 use Rattle.std.proofs.lemmas.List.Elements.{All-nil, All-cons, All-append}
-use Rattle.aud_event.specs.declared.limits.TheConstants.{LOGS_MAX, STAMPS, TRANSACTIONS, PLACES}
+use Rattle.aud_event.specs.declared.limits.TheConstants.{LOGS_MAX, STAMPS, PLACES}
+use Rattle.aud_event.specs.Limits.{transactions}
 use Rattle.aud_event.specs.declared.fact.Event.{Event}
 use Rattle.aud_event.specs.declared.fact.Event.TheVariants.{TryC}
 use Rattle.aud_event.specs.declared.fact.FactFault.{FactFault}
@@ -14,7 +15,7 @@ use Rattle.aud_event.specs.declared.fact.Fact.{Fact}
 use Rattle.aud_event.specs.declared.fact.Fact.TheVariants.{Rec, End}
 use Rattle.aud_event.specs.Facts.{first_fact_fault}
 use Rattle.aud_event.specs.declared.plan.PlanFault.{PlanFault}
-use Rattle.aud_event.specs.Meanings.{Declared, PlanOf}
+use Rattle.aud_event.specs.Meanings.{PlanOf}
 use Rattle.aud_event.specs.Plans.{first_plan_fault}
 use Rattle.aud_history.specs.FirstFault.{FitsPlan, IsWithinLimits}
 use Rattle.aud_facts.specs.declared.status.FactStatus.TheVariants.{Sealed}
@@ -38,14 +39,13 @@ record_fits plan r e =
     let log = unreported (nat_le plan.logs r.log) _ _ e in
     let at = unreported (nat_le PLACES r.at) _ _ log.1 in
     let stamp = unreported (nat_le STAMPS r.stamp) _ _ at.1 in
-    let tx = unreported (nat_le TRANSACTIONS r.tx) _ _ stamp.1 in
-    (under r.tx TRANSACTIONS tx.0, tx.1)
+    let tx = unreported (nat_le (transactions plan.format) r.tx) _ _ stamp.1 in
+    (under r.tx (transactions plan.format) tx.0, tx.1)
 
-logs_few : (logs : ℕ) (objects : List Declared) → first_plan_fault logs objects ≡ None → logs ≤ LOGS_MAX
-logs_few logs objects e =
-    let some = reported_not (nat_eq logs 0) _ _ e in
-    let few = reported_not (nat_lt LOGS_MAX logs) _ _ some in
-    grind (arith, reported_false (nat_lt LOGS_MAX logs) _ _ some)
+logs_few : (plan : PlanOf) → first_plan_fault plan ≡ None → plan.logs ≤ LOGS_MAX
+logs_few plan e =
+    let some = reported_not (nat_eq plan.logs 0) _ _ e in
+    grind (arith, reported_false (nat_lt LOGS_MAX plan.logs) _ _ some)
   where
     reported_not : (b : Bool) (x : PlanFault) (o : Option PlanFault) → (if b then Some x else o) ≡ None → o ≡ None
     reported_not true x o e = cc
@@ -73,8 +73,8 @@ all_within plan [] few a = tt
 all_within plan (x ∷ xs) few a = (fact_within plan x few a.0, all_within plan xs few a.1)
 
 -- facts that fit a plan are within the limits
-pub sound_within : (plan : PlanOf) (xs : List Fact) → first_plan_fault plan.logs plan.objects ≡ None → AreSound plan xs → AreWithin xs
-sound_within plan xs e a = all_within plan xs (logs_few plan.logs plan.objects e) a
+pub sound_within : (plan : PlanOf) (xs : List Fact) → first_plan_fault plan ≡ None → AreSound plan xs → AreWithin xs
+sound_within plan xs e a = all_within plan xs (logs_few plan e) a
 
 -- what holds at each place holds of each in turn
 pub by_recursion : {K : Type 0} (P : K → Type 0) (xs : List K) → All P xs → AllByRecursion P xs

@@ -5,7 +5,8 @@ use Rattle.std.specs.List.{AllByRecursion, filter}
 use Rattle.std.specs.declared.cmp.Ordering.{Ordering}
 use Rattle.std.specs.declared.cmp.Ordering.TheVariants.{Less, Equal, Greater}
 use Rattle.std.specs.Ordering.{nat_cmp, ordering_then, is_eq}
-use Rattle.aud_facts.proofs.Reflexive.{fact_same}
+use Rattle.std.specs.Cmp.{tied_itself}
+use Rattle.aud_event.specs.contracts.fact.FactOrd.TheImpl.Laws as fact_laws
 use Rattle.std.specs.FinSet.{nat_cmp-IsAntisymmetric}
 use Rattle.std.specs.List.Sorted.{IsStrictlySortedBy}
 use Rattle.aud_event.specs.declared.fact.Record.{Record}
@@ -64,7 +65,7 @@ ordered [] o = tt
 ordered (x ∷ xs) o = (after_all x xs o.0, ordered xs o.1)
 
 pub same_self : (x : Fact) → is_same x x ≡ true
-same_self x = ap is_eq (fact_same x)
+same_self x = ap is_eq (tied_itself fact_laws.total-law x)
 
 -- The least place of those that pass is that of the first.
 

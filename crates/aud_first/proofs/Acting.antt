@@ -1,7 +1,7 @@
 -- Executions, object by object.
-use Rattle.std.specs.Prelude.{◌≡◌, ℕ, zero, suc, ◌≤◌, length, Bool, true, false, nat_eq, List, [], ◌∷◌, Option, Some, None, slice_get, refl, ◌⊎◌}
+use Rattle.std.specs.Prelude.{◌≡◌, ℕ, zero, suc, Bool, true, false, nat_eq, List, [], ◌∷◌, Option, Some, None, slice_get, refl, ◌⊎◌}
 use Rattle.std.proofs.Common.{sym, ◌∙◌, ap, subst, cond, inl, inr, arith}
-use Rattle.aud_event.proofs.Bools.{split, nat_eq-is, nat_eq-refl}
+use Rattle.aud_base.proofs.Bools.{split, nat_eq-is, nat_eq-refl}
 use Rattle.aud_event.specs.declared.object.Op.{Op}
 use Rattle.aud_object.specs.Objects.{ObjState, answer_of, after_op}
 use Rattle.aud_object.specs.Replayed.{same_answer, answers, answer_at, after_at, executed}
@@ -63,14 +63,6 @@ on-same ob x xs e = ap (λ b. cond b (x ∷ on_one ob xs) (on_one ob xs)) (subst
 
 on-other : (ob : ℕ) (x : Execution) (xs : List Execution) → (x.object ≡ ob → ⊥) → on_one ob (x ∷ xs) ≡ on_one ob xs
 on-other ob x xs n = ap (λ b. cond b (x ∷ on_one ob xs) (on_one ob xs)) (differs x.object ob n)
-
-pub length-on_one : (ob : ℕ) (xs : List Execution) → length (on_one ob xs) ≤ length xs
-length-on_one ob [] = omega arith
-length-on_one ob (x ∷ xs) = go (length-on_one ob xs) (nat_eq x.object ob)
-  where
-    go : length (on_one ob xs) ≤ length xs → (b : Bool) → length (cond b (x ∷ on_one ob xs) (on_one ob xs)) ≤ length (x ∷ xs)
-    go low true = omega arith
-    go low false = omega arith
 
 -- # Executions in turn
 

@@ -7,7 +7,7 @@ use Rattle.std.proofs.lemmas.List.{set_comm, get_or-set_other}
 use Rattle.std.proofs.lemmas.List.Quantifiers.{position-Some}
 use Rattle.std.proofs.lemmas.Option.{slice_get_within}
 use Rattle.aud_event.specs.Meanings.{Declared, PlanOf}
-use Rattle.aud_event.proofs.Bools.{and_true, not_true, is_false, nat_eq-is}
+use Rattle.aud_base.proofs.Bools.{and_true, not_true, is_false, nat_eq-is}
 use Rattle.aud_object.specs.Objects.{ObjState}
 use Rattle.aud_object.specs.Replayed.{replayed}
 use Rattle.aud_history.specs.Histories.{History, is_in, is_completed}
@@ -32,7 +32,8 @@ use Rattle.aud_order.specs.Moves.{without}
 use Rattle.aud_order.proofs.Moves.{led-to}
 use Rattle.aud_order.proofs.SilentRows.{row-found}
 use Rattle.aud_order.proofs.Stepping.{Steps, spot_after, steps-from, step-to, walked-join, walked-one}
-use Rattle.aud_first.specs.Exchanges.{reached, count_of, executions_in, all_executions, MayComeBefore, RunsAlike, MayFollow, AreExchanged, MovesForward, ExchangesMoveForward, IsEnoughAt}
+use Rattle.aud_first.specs.Deeds.{reach}
+use Rattle.aud_first.specs.Exchanges.{reached, reach_of, reach_in, reach_of_all, MayComeBefore, RunsAlike, MayFollow, AreExchanged, MovesForward, ExchangesMoveForward, IsEnoughAt}
 
 -- # Marks of rows
 
@@ -112,28 +113,28 @@ earlier-more (r ∷ rs) (b ∷ bs) (suc k) stamp h =
     let both = and_true (not (is_ended r.status && nat_lt r.last stamp) || b) (are_earlier_placed rs bs stamp) h in
     λ i. both.0 i && earlier-more rs bs k stamp both.1 i
 
--- # Executions that are still to come
+-- # What is still to come
 
--- how many executions the rows have that are not placed
+-- how far the rows can move counters that are not placed
 abbrev pending : List RowOf → List Bool → ℕ
 pending [] placed = 0
-pending (r ∷ rs) [] = length r.block.executions + pending rs []
-pending (r ∷ rs) (b ∷ bs) = cond b 0 (length r.block.executions) + pending rs bs
+pending (r ∷ rs) [] = reach r.block.executions + pending rs []
+pending (r ∷ rs) (b ∷ bs) = cond b 0 (reach r.block.executions) + pending rs bs
 
 pending-step : (rows : List RowOf) (placed : List Bool) (k : ℕ) (r : RowOf) → slice_get rows k ≡ Some r → k < length placed → get_or placed k false ≡ false →
-    length r.block.executions + pending rows (set placed k true) ≡ pending rows placed
+    reach r.block.executions + pending rows (set placed k true) ≡ pending rows placed
 pending-step [] placed k r at inside open_row = absurd (cc)
 pending-step (x ∷ rows) [] k r at inside open_row = absurd (omega arith)
 pending-step (x ∷ rows) (b ∷ bs) zero r at inside open_row =
     let same : x ≡ r = cc in
-    let one : length x.block.executions ≡ length r.block.executions = ap (λ (y : RowOf). length y.block.executions) same in
-    let off : cond b 0 (length x.block.executions) ≡ length x.block.executions = ap (λ c. cond c 0 (length x.block.executions)) open_row in
+    let one : reach x.block.executions ≡ reach r.block.executions = ap (λ (y : RowOf). reach y.block.executions) same in
+    let off : cond b 0 (reach x.block.executions) ≡ reach x.block.executions = ap (λ c. cond c 0 (reach x.block.executions)) open_row in
     omega arith
 pending-step (x ∷ rows) (b ∷ bs) (suc k) r at inside open_row =
-    let rest : length r.block.executions + pending rows (set bs k true) ≡ pending rows bs = pending-step rows bs k r at (omega arith) open_row in
+    let rest : reach r.block.executions + pending rows (set bs k true) ≡ pending rows bs = pending-step rows bs k r at (omega arith) open_row in
     omega arith
 
-pending-all : (rows : List RowOf) (placed : List Bool) → pending rows placed ≤ executions_in rows
+pending-all : (rows : List RowOf) (placed : List Bool) → pending rows placed ≤ reach_in rows
 pending-all [] placed = omega arith
 pending-all (r ∷ rs) [] = let rest = pending-all rs [] in omega arith
 pending-all (r ∷ rs) (true ∷ bs) = let rest = pending-all rs bs in omega arith
@@ -186,7 +187,7 @@ module _ (h : History) (p : List Decision) (t k : ℕ) (fine : IsWellFormed h) (
 module _ (objects : List Declared) (h : History) (p : List Decision) (t k : ℕ) (fine : IsWellFormed h) (found : position (nat_eq t) (map (λ (r : RowOf). r.tx) (table_of h)) ≡ Some k)
     (Before : ℕ → List ObjState → List ObjState → Type 0) (After : List ObjState → List ObjState → Type 0) (only : is_allowed h t A ≡ false) (ex : AreExchanged objects h p t Before After) where
   -- a step beside another one
-  beside : (R : ℕ → List ObjState → List ObjState → Type 0) (n : ℕ) (s v w : Spot) (d : Decision) (st : Steps (table_of h) s d v) → RunsAlike h R d → R (count_of h d.tx + n) s.states w.states →
+  beside : (R : ℕ → List ObjState → List ObjState → Type 0) (n : ℕ) (s v w : Spot) (d : Decision) (st : Steps (table_of h) s d v) → RunsAlike h R d → R (reach_of h d.tx + n) s.states w.states →
       slice_index_or w.placed st.place false ≡ false → are_earlier_placed (table_of h) w.placed st.row.first ≡ true →
       (x : Spot) × ((stepped (table_of h) w d ≡ Ok x) × (x.placed ≡ set w.placed st.place true) × R n v.states x.states)
   beside R n s v w d st alike related fresh ready =
@@ -276,10 +277,10 @@ module _ (objects : List Declared) (h : History) (p : List Decision) (t k : ℕ)
           let may = step-follows h p t k fine found s v d st onward same in
           let (at, in_h) = row-found h d.tx st.place st.found in
           let own : st.row ≡ row_of h d.tx = (let a = st.at in cc) in
-          let less : count_of h d.tx + pending (table_of h) (set s.placed st.place true) ≡ pending (table_of h) s.placed =
+          let less : reach_of h d.tx + pending (table_of h) (set s.placed st.place true) ≡ pending (table_of h) s.placed =
           pending-step (table_of h) s.placed st.place (row_of h d.tx) at (omega (arith, sized, slice_get_within (table_of h) st.place (row_of h d.tx) at)) st.fresh in
-          let m : ℕ = n - count_of h d.tx in
-          let parts : n ≡ count_of h d.tx + m = omega (arith, less, few) in
+          let m : ℕ = n - reach_of h d.tx in
+          let parts : n ≡ reach_of h d.tx + m = omega (arith, less, few) in
           let (x, (stepped_x, marks_x, related_x)) = beside Before m s v w d st (ex.before d (step-comes h p t k fine found s v d st there row open_row may)) (subst (λ l. Before l s.states w.states) parts related)
           (ap (λ l. get_or l st.place false) marks ∙ get_or-set_other s.placed k st.place true false apart ∙ st.fresh)
           (ap (λ l. are_earlier_placed (table_of h) l st.row.first) marks ∙ earlier-more (table_of h) s.placed k st.row.first st.ready) in
@@ -306,10 +307,10 @@ moves-forward plan h p t Before After fine within only next ex q shown =
     let (at, there) = row-found h t st.place st.found in
     let own : st.row ≡ row_of h t = (let a = st.at in cc) in
     let ran : replayed s.states (row_of h t).block ≡ Some st.after = subst (λ (r : RowOf). replayed s.states r.block ≡ Some st.after) own st.ran in
-    let begun : Before (all_executions h) s.states v.states = subst (λ ss. Before (all_executions h) ss v.states) (sym stands.states)
-    (subst (λ ss. Before (all_executions h) (reached plan.objects h p) ss) (sym (ap (λ (x : Spot). x.states) st.leads)) (ex.start st.after (subst (λ ss. replayed ss (row_of h t).block ≡ Some st.after) stands.states ran))) in
+    let begun : Before (reach_of_all h) s.states v.states = subst (λ ss. Before (reach_of_all h) ss v.states) (sym stands.states)
+    (subst (λ ss. Before (reach_of_all h) (reached plan.objects h p) ss) (sym (ap (λ (x : Spot). x.states) st.leads)) (ex.start st.after (subst (λ ss. replayed ss (row_of h t).block ≡ Some st.after) stands.states ran))) in
     let sized : length s.placed ≡ length (table_of h) = ap length stands.placed ∙ length-map (transactions h) (is_named p) ∙ sym (length-map (transactions h) (row_of h)) in
-    let (x, (walk, marks)) = walk-before plan.objects h p t st.place fine st.found Before After only ex q (all_executions h) s v u there at sized (pending-all (table_of h) s.placed)
+    let (x, (walk, marks)) = walk-before plan.objects h p t st.place fine st.found Before After only ex q (reach_of_all h) s v u there at sized (pending-all (table_of h) s.placed)
     (λ j open_row. ap (λ l. get_or l j false) (sym stands.placed) ∙ open_row) st.fresh (ap (λ (y : Spot). y.placed) st.leads) begun on all in
     let whole : walked (table_of h) root ((p ++ d ∷ []) ++ without t q) ≡ Some x = walked-join (table_of h) root v (p ++ d ∷ []) (without t q) led_v ∙ walk in
     (says.shows ((p ++ d ∷ []) ++ without t q)).1 (x, (whole, ap (list_all (λ b. b)) marks ∙ all))

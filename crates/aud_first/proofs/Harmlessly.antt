@@ -1,17 +1,18 @@
 -- A transaction that is harmless may be placed at once.
-use Rattle.std.specs.Prelude.{◌≡◌, ℕ, suc, zero, ◌+◌, ◌-◌, false, List, [], ◌∷◌, map, length, Some, slice_get, refl}
+use Rattle.std.specs.Prelude.{◌≡◌, ℕ, suc, zero, ◌+◌, ◌-◌, false, List, [], ◌∷◌, map, Some, slice_get, refl}
 use Rattle.std.proofs.Common.{subst, arith}
 use Rattle.aud_event.specs.Meanings.{Declared, PlanOf}
 use Rattle.aud_event.specs.declared.object.ObjKind.{ObjKind}
 use Rattle.aud_event.specs.declared.object.ObjKind.TheVariants as kind
 use Rattle.aud_event.specs.declared.object.Op.{Op}
-use Rattle.aud_event.specs.declared.object.Op.TheVariants.{Write, Inc, Dec, Add, Remove, Enq, Deq}
+use Rattle.aud_event.specs.declared.object.Op.TheVariants.{Write, Inc, Dec, Add, Remove, Enq, Deq, Plus, Put, Del}
 use Rattle.aud_event.specs.declared.fact.Event.{Event}
 use Rattle.aud_event.specs.declared.fact.Event.TheVariants.{Inv, Ret}
-use Rattle.aud_object.specs.Objects.{ObjState, register, counter, set_of, queue, after_op, opening_of, on_object}
+use Rattle.aud_object.specs.Objects.{ObjState, register, counter, set_of, queue, map_of, after_op, opening_of, on_object}
 use Rattle.aud_object.specs.Executions.{state_after, states_after_from}
 use Rattle.aud_object.specs.Replayed.{executed, replayed}
 use Rattle.aud_object.specs.declared.execution.Execution.{Execution}
+use Rattle.aud_object.proofs.Keeping.{Ascend-without}
 use Rattle.aud_history.specs.Histories.{History}
 use Rattle.aud_history.specs.WellFormed.{IsWellFormed}
 use Rattle.aud_history.specs.FirstFault.{IsWithinLimits}
@@ -21,23 +22,26 @@ use Rattle.aud_witness.specs.declared.decision.Fate.TheVariants.{C, A}
 use Rattle.aud_witness.specs.declared.decision.Decision.{Decision}
 use Rattle.aud_witness.specs.Orders.{is_allowed, kept}
 use Rattle.aud_witness.specs.Spots.{states_with}
-use Rattle.aud_first.specs.Exchanges.{reached, count_of, all_executions, MayComeBefore, RunsAlike, MayFollow, AreExchanged, IsEnoughAt}
-use Rattle.aud_first.specs.Deeds.{on_one}
+use Rattle.aud_first.specs.Exchanges.{reached, reach_of, reach_of_all, MayComeBefore, RunsAlike, MayFollow, AreExchanged, IsEnoughAt}
+use Rattle.aud_first.specs.Deeds.{on_one, reach}
 use Rattle.aud_first.specs.Ways.{Fits, Passes}
 use Rattle.aud_first.specs.Harmless.{IsHarmless, HarmlessMovesForward}
 use Rattle.aud_first.specs.declared.way.Way.{Way}
-use Rattle.aud_first.proofs.Acting.{length-on_one, Related, RunAlike, ran-on, ran-back, related-run}
+use Rattle.aud_first.proofs.Counting.{reach-on_one}
+use Rattle.aud_first.proofs.Acting.{Related, RunAlike, ran-on, ran-back, related-run}
 use Rattle.aud_first.proofs.Membering.{Ascending-with, Ascending-without}
+use Rattle.aud_first.proofs.Mapping.{Ascend-put}
 use Rattle.aud_first.proofs.Waying.{IsTidy, BeforeBy, AfterBy, ThenBy, start-by, turn-by, less-by, before-by, after-by}
 use Rattle.aud_first.proofs.Exchanging.{moves-forward, moving-is-enough}
 
--- # Sets ascend
+-- # Sets and maps ascend
 
 tidy-op : (s : ObjState) (op : Op) → IsTidy s → IsTidy (after_op s op)
 tidy-op (register v) (Write w) tidy = tt
 tidy-op (register v) _ tidy = tt
 tidy-op (counter v) Inc tidy = tt
 tidy-op (counter v) Dec tidy = tt
+tidy-op (counter v) (Plus k) tidy = tt
 tidy-op (counter v) _ tidy = tt
 tidy-op (set_of s) (Add v) tidy = Ascending-with v s tidy
 tidy-op (set_of s) (Remove v) tidy = Ascending-without v s tidy
@@ -45,6 +49,9 @@ tidy-op (set_of s) _ tidy = tidy
 tidy-op (queue q) (Enq v) tidy = tt
 tidy-op (queue q) Deq tidy = tt
 tidy-op (queue q) _ tidy = tt
+tidy-op (map_of m) (Put k v) tidy = Ascend-put m k v tidy
+tidy-op (map_of m) (Del k) tidy = Ascend-without m k tidy
+tidy-op (map_of m) _ tidy = tidy
 
 tidy-events : (s : ObjState) (es : List Event) → IsTidy s → IsTidy (state_after s es)
 tidy-events s [] tidy = tidy
@@ -66,6 +73,7 @@ tidy-opening d = by d.kind
     by kind.Counter = tt
     by kind.SetOf = tt
     by kind.Queue = tt
+    by kind.MapOf = tt
 
 tidy-openings : (objects : List Declared) (k : ℕ) (s : ObjState) → slice_get (map opening_of objects) k ≡ Some s → IsTidy s
 tidy-openings [] k s at = absurd (cc)
@@ -86,7 +94,7 @@ module _ (objects : List Declared) (h : History) (p : List Decision) (t : ℕ) (
 
   -- the way fits
   abbrev IsFitting : ℕ → Type 0
-  IsFitting ob = (c : ObjState) × Fits (way ob) (own ob) (all_executions h) c
+  IsFitting ob = (c : ObjState) × Fits (way ob) (own ob) (reach_of_all h) c
 
   abbrev Before : ℕ → List ObjState → List ObjState → Type 0
   Before n s u = Related (λ ob a b. BeforeBy (way ob) (own ob) n a b × IsFitting ob) s u
@@ -94,11 +102,11 @@ module _ (objects : List Declared) (h : History) (p : List Decision) (t : ℕ) (
   abbrev After : List ObjState → List ObjState → Type 0
   After s u = Related (λ ob a b. AfterBy (way ob) a b) s u
 
-  starts : (after : List ObjState) → replayed (reached objects h p) (row_of h t).block ≡ Some after → Before (all_executions h) (reached objects h p) after
+  starts : (after : List ObjState) → replayed (reached objects h p) (row_of h t).block ≡ Some after → Before (reach_of_all h) (reached objects h p) after
   starts after e ob a at =
       let (b, (there, went)) = ran-on ob (row_of h t).block.executions (reached objects h p) after a e at in
       let fits = (harmless ob).1.fits a at in
-      (b, (there, (start-by (way ob) (own ob) (all_executions h) a b (tidy-reached objects h p ob a at) fits went, (a, fits))))
+      (b, (there, (start-by (way ob) (own ob) (reach_of_all h) a b (tidy-reached objects h p ob a at) fits went, (a, fits))))
 
   comes : (d : Decision) → MayComeBefore h p t d → RunsAlike h Before d
   comes d may n s u after related e = go d.fate (λ ob. (harmless ob).1.passes d may)
@@ -107,28 +115,28 @@ module _ (objects : List Declared) (h : History) (p : List Decision) (t : ℕ) (
       ys = (row_of h d.tx).block.executions
 
       alike : (f : Fate) → ((ob : ℕ) → Passes (way ob) (own ob) f (on_one ob (row_of h d.tx).block.executions)) → (ob : ℕ) →
-          RunAlike (λ a b. BeforeBy (way ob) (own ob) (count_of h d.tx + n) a b × IsFitting ob) (λ a b. ThenBy f (way ob) (own ob) n a b × IsFitting ob) (on_one ob (row_of h d.tx).block.executions)
+          RunAlike (λ a b. BeforeBy (way ob) (own ob) (reach_of h d.tx + n) a b × IsFitting ob) (λ a b. ThenBy f (way ob) (own ob) n a b × IsFitting ob) (on_one ob (row_of h d.tx).block.executions)
       alike f passes ob a b then r went =
-          let m : ℕ = count_of h d.tx - length (on_one ob (row_of h d.tx).block.executions) in
-          let parts : count_of h d.tx + n ≡ m + (length (on_one ob (row_of h d.tx).block.executions) + n) = omega (arith, length-on_one ob (row_of h d.tx).block.executions) in
-          let before = less-by (way ob) (own ob) m (length (on_one ob (row_of h d.tx).block.executions) + n) a b (subst (λ k. BeforeBy (way ob) (own ob) k a b) parts r.0) in
+          let m : ℕ = reach_of h d.tx - reach (on_one ob (row_of h d.tx).block.executions) in
+          let parts : reach_of h d.tx + n ≡ m + (reach (on_one ob (row_of h d.tx).block.executions) + n) = omega (arith, reach-on_one ob (row_of h d.tx).block.executions) in
+          let before = less-by (way ob) (own ob) m (reach (on_one ob (row_of h d.tx).block.executions) + n) a b (subst (λ k. BeforeBy (way ob) (own ob) k a b) parts r.0) in
           let (later, (runs, still)) = before-by (way ob) (own ob) (on_one ob (row_of h d.tx).block.executions) f n a b then (passes ob) before went in
           (later, (runs, (still, r.1)))
 
       go : (f : Fate) → ((ob : ℕ) → Passes (way ob) (own ob) f (on_one ob (row_of h d.tx).block.executions)) →
           (later : List ObjState) × ((executed u (row_of h d.tx).block.executions ≡ Some later) × Before n (states_with f s after) (states_with f u later))
       go C passes =
-          related-run (λ ob a b. BeforeBy (way ob) (own ob) (count_of h d.tx + n) a b × IsFitting ob) (λ ob a b. ThenBy C (way ob) (own ob) n a b × IsFitting ob) (row_of h d.tx).block.executions
+          related-run (λ ob a b. BeforeBy (way ob) (own ob) (reach_of h d.tx + n) a b × IsFitting ob) (λ ob a b. ThenBy C (way ob) (own ob) n a b × IsFitting ob) (row_of h d.tx).block.executions
           (alike C passes) s u after related e
       go A passes =
-          let (later, (runs, _)) = related-run (λ ob a b. BeforeBy (way ob) (own ob) (count_of h d.tx + n) a b × IsFitting ob) (λ ob a b. ThenBy A (way ob) (own ob) n a b × IsFitting ob)
+          let (later, (runs, _)) = related-run (λ ob a b. BeforeBy (way ob) (own ob) (reach_of h d.tx + n) a b × IsFitting ob) (λ ob a b. ThenBy A (way ob) (own ob) n a b × IsFitting ob)
           (row_of h d.tx).block.executions (alike A passes) s u after related e in (
             later,
             (
               runs,
               λ ob a at.
                   let (b, (there, r)) = related ob a at in
-                  (b, (there, (less-by (way ob) (own ob) (count_of h d.tx) n a b r.0, r.1))),
+                  (b, (there, (less-by (way ob) (own ob) (reach_of h d.tx) n a b r.0, r.1))),
             ),
           )
 
@@ -136,7 +144,7 @@ module _ (objects : List Declared) (h : History) (p : List Decision) (t : ℕ) (
   turns n s u after related e ob a' at' =
       let (a, (here, went)) = ran-back ob (row_of h t).block.executions s after a' e at' in
       let (b, (there, (before, (c, fits)))) = related ob a here in
-      (b, (there, turn-by (way ob) (own ob) n (all_executions h) c a b a' fits before went))
+      (b, (there, turn-by (way ob) (own ob) n (reach_of_all h) c a b a' fits before went))
 
   follows : (d : Decision) → MayFollow h p t d → RunsAlike h (λ n. After) d
   follows d may n s u after related e =

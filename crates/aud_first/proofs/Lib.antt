@@ -3,8 +3,10 @@ pub mod Registering
 pub mod Counting
 pub mod Queueing
 pub mod Membering
+pub mod Mapping
 pub mod Waying
 pub mod Exchanging
 pub mod Harmlessly
 pub mod Suiting
 pub mod Tabling
+pub mod Filling

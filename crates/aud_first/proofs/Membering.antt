@@ -4,11 +4,11 @@ use Rattle.std.specs.Ordering.{int_eq}
 use Rattle.std.proofs.Common.{sym, ◌∙◌, ap, subst, cond, inl, inr, arith}
 use Rattle.std.proofs.lemmas.Grind.{common_steps}
 use Rattle.aud_event.specs.declared.object.Op.{Op}
-use Rattle.aud_event.specs.declared.object.Op.TheVariants.{Read, Write, Inc, Dec, Get, Add, Remove, Contains, Enq, Deq}
+use Rattle.aud_event.specs.declared.object.Op.TheVariants.{Write, Inc, Dec, Add, Remove, Contains, Enq, Deq, Plus, Put, Del}
 use Rattle.aud_event.specs.declared.object.Answer.{Answer}
 use Rattle.aud_event.specs.declared.object.Answer.TheVariants.{Flag}
-use Rattle.aud_event.proofs.Bools.{split, or_false, nat_eq-is}
-use Rattle.aud_object.specs.Objects.{ObjState, register, counter, set_of, queue, has_member, with_member, without_member, answer_of, after_op}
+use Rattle.aud_base.proofs.Bools.{split, or_false, nat_eq-is}
+use Rattle.aud_object.specs.Objects.{ObjState, register, counter, set_of, queue, map_of, has_member, with_member, without_member, answer_of, after_op}
 use Rattle.aud_object.specs.declared.execution.Execution.{Execution}
 use Rattle.aud_object.proofs.Ints.{lt-not_eq, eq-is, above, lt-trans, eq-itself}
 use Rattle.aud_first.specs.Deeds.{ran, seen_by, left_by, first_of_two, seen, left, is_flag, flipped_by, on_one, member_of, deed_of, Misses}
@@ -104,8 +104,8 @@ without-other (x ∷ s) v w off = go (without-other s v w off) (int_eq v x) refl
     go more true is = let same : v ≡ x = eq-is v x is in ap (λ k. k || has_member s w) (sym (ap (int_eq w) (sym same) ∙ off))
     go more false is = ap (λ k. int_eq w x || k) more
 
--- whether a value is a member, where that was made so or else it was
-abbrev pub stands : Option Bool → Bool → Bool
+-- what was left, or else what there was
+abbrev pub stands : {X : Type 0} → Option X → X → X
 stands None b = b
 stands (Some c) b = c
 
@@ -181,7 +181,7 @@ pub record Leads (ys : List Execution) (s : List ℤ) (after : ObjState) : Type 
   pub leaves : (v : ℤ) → has_member members v ≡ stands (left ys v) (has_member s v)
   pub finds : (v : ℤ) (b : Bool) → seen ys v ≡ Some b → has_member s v ≡ b
 
-stands-then : (a b : Option Bool) (c : Bool) → stands a (stands b c) ≡ stands (first_of_two a b) c
+pub stands-then : {X : Type 0} (a b : Option X) (c : X) → stands a (stands b c) ≡ stands (first_of_two a b) c
 stands-then (Some x) b c = refl
 stands-then None b c = refl
 
@@ -200,7 +200,7 @@ left-unseen (Remove w) (Flag b) s v right none = go (int_eq v w) none
 left-unseen (Remove w) _ s v right none = absurd (cc)
 left-unseen _ answer s v right none = refl
 
-none-first : (a b : Option Bool) → first_of_two a b ≡ None → (a ≡ None) × (b ≡ None)
+pub none-first : {X : Type 0} (a b : Option X) → first_of_two a b ≡ None → (a ≡ None) × (b ≡ None)
 none-first (Some x) b e = absurd (cc)
 none-first None b e = (refl, e)
 
@@ -277,30 +277,13 @@ set-alike (y ∷ ys) s u after h k agree e =
 
 -- # Which objects are sets
 
--- what answers by a flag is a set
-flag-set : (op : Op) (answer : Answer) (s : ObjState) → answer_of s op ≡ answer → is_flag answer ≡ true → (m : List ℤ) × (s ≡ set_of m)
+-- what tells by a flag of a member is a set
+flag-set : (op : Op) (answer : Answer) (s : ObjState) → answer_of s op ≡ answer → is_flag op answer ≡ true → (m : List ℤ) × (s ≡ set_of m)
 flag-set op answer (set_of m) right flag = (m, refl)
-flag-set op (Flag b) (register v) right flag = absurd (wrong op right)
-  where
-    wrong : (op : Op) → answer_of (register v) op ≡ Flag b → ⊥
-    wrong Read e = cc
-    wrong _ e = cc
-flag-set op (Flag b) (counter v) right flag = absurd (wrong op right)
-  where
-    wrong : (op : Op) → answer_of (counter v) op ≡ Flag b → ⊥
-    wrong Get e = cc
-    wrong _ e = cc
-flag-set op (Flag b) (queue []) right flag = absurd (wrong op right)
-  where
-    wrong : (op : Op) → answer_of (queue []) op ≡ Flag b → ⊥
-    wrong Deq e = cc
-    wrong _ e = cc
-flag-set op (Flag b) (queue (v ∷ q)) right flag = absurd (wrong op right)
-  where
-    wrong : (op : Op) → answer_of (queue (v ∷ q)) op ≡ Flag b → ⊥
-    wrong Deq e = cc
-    wrong _ e = cc
-flag-set op _ s right flag = absurd (cc)
+flag-set (Add w) (Flag b) _ right flag = absurd (cc)
+flag-set (Remove w) (Flag b) _ right flag = absurd (cc)
+flag-set (Contains w) (Flag b) _ right flag = absurd (cc)
+flag-set _ _ s right flag = absurd (cc)
 
 -- only a set becomes one
 was-set : (op : Op) (s : ObjState) (m : List ℤ) → after_op s op ≡ set_of m → (k : List ℤ) × (s ≡ set_of k)
@@ -309,16 +292,20 @@ was-set (Write w) (register v) m e = absurd (cc)
 was-set _ (register v) m e = absurd (cc)
 was-set Inc (counter v) m e = absurd (cc)
 was-set Dec (counter v) m e = absurd (cc)
+was-set (Plus k) (counter v) m e = absurd (cc)
 was-set _ (counter v) m e = absurd (cc)
 was-set (Enq w) (queue q) m e = absurd (cc)
 was-set Deq (queue q) m e = absurd (cc)
 was-set _ (queue q) m e = absurd (cc)
+was-set (Put k v) (map_of n) m e = absurd (cc)
+was-set (Del k) (map_of n) m e = absurd (cc)
+was-set _ (map_of n) m e = absurd (cc)
 
 pub flags-set : (ys : List Execution) (s after : ObjState) → ran s ys ≡ Some after → (deed_of ys).flags ≡ true → (m : List ℤ) × (s ≡ set_of m)
 flags-set [] s after e flags = absurd (cc)
 flags-set (y ∷ ys) s after e flags =
     let (right, rest) = ran-step s after y ys e in
-    elim (split (is_flag y.answer)) as (λ _. (m : List ℤ) × (s ≡ set_of m)) [
+    elim (split (is_flag y.op y.answer)) as (λ _. (m : List ℤ) × (s ≡ set_of m)) [
       | inl flag ↦ flag-set y.op y.answer s right flag
       | inr none ↦
           let (m, is) = flags-set ys (after_op s y.op) after rest (ap (λ b. b || (deed_of ys).flags) (sym none) ∙ flags) in
@@ -380,7 +367,7 @@ misses-all own ys ob each v b flips sees =
     each k x at there v is b flips sees
 
 -- where no answer is a flag, nothing is told of any value
-untold : (op : Op) (answer : Answer) (v : ℤ) → is_flag answer ≡ false → seen_by op answer v ≡ None
+untold : (op : Op) (answer : Answer) (v : ℤ) → is_flag op answer ≡ false → seen_by op answer v ≡ None
 untold (Add w) (Flag b) v off = absurd (cc)
 untold (Remove w) (Flag b) v off = absurd (cc)
 untold (Contains w) (Flag b) v off = absurd (cc)
@@ -389,7 +376,7 @@ untold _ answer v off = refl
 pub flagless-unseen : (ys : List Execution) (v : ℤ) → (deed_of ys).flags ≡ false → seen ys v ≡ None
 flagless-unseen [] v off = refl
 flagless-unseen (y ∷ ys) v off =
-    let (here, later) = or_false (is_flag y.answer) (deed_of ys).flags off in
+    let (here, later) = or_false (is_flag y.op y.answer) (deed_of ys).flags off in
     ap (λ o. first_of_two o (seen ys v)) (untold y.op y.answer v here) ∙ flagless-unseen ys v later
 
 pub flagless-misses : (ts ys : List Execution) (v : ℤ) → (deed_of ys).flags ≡ false → Misses ts ys v

@@ -3,11 +3,11 @@ use Rattle.std.specs.Prelude.{◌≡◌, ℤ, Bool, true, false, List, [], ◌�
 use Rattle.std.proofs.Common.{sym, ◌∙◌, ap, subst, inl, inr, append_assoc}
 use Rattle.std.proofs.lemmas.List.{append-nil}
 use Rattle.aud_event.specs.declared.object.Op.{Op}
-use Rattle.aud_event.specs.declared.object.Op.TheVariants.{Read, Write, Inc, Dec, Get, Add, Remove, Contains, Enq, Deq}
+use Rattle.aud_event.specs.declared.object.Op.TheVariants.{Read, Write, Inc, Dec, Get, Add, Remove, Contains, Enq, Deq, Plus, Put, Look, Del}
 use Rattle.aud_event.specs.declared.object.Answer.{Answer}
 use Rattle.aud_event.specs.declared.object.Answer.TheVariants.{Done, Int, Flag, Empty}
-use Rattle.aud_event.proofs.Bools.{or_false, and_true}
-use Rattle.aud_object.specs.Objects.{ObjState, register, counter, set_of, queue, answer_of, after_op}
+use Rattle.aud_base.proofs.Bools.{or_false, and_true}
+use Rattle.aud_object.specs.Objects.{ObjState, register, counter, set_of, queue, map_of, answer_of, after_op}
 use Rattle.aud_object.specs.declared.execution.Execution.{Execution}
 use Rattle.aud_first.specs.Deeds.{ran, taken_by, is_enq, is_end, is_of_queue, deed_of}
 use Rattle.aud_first.proofs.Acting.{ran-step, ran-cons}
@@ -112,6 +112,10 @@ front-took (Add v) answer rest w takes = inr (refl, takes)
 front-took (Remove v) answer rest w takes = inr (refl, takes)
 front-took (Contains v) answer rest w takes = inr (refl, takes)
 front-took (Enq v) answer rest w takes = inr (refl, takes)
+front-took (Plus k) answer rest w takes = inr (refl, takes)
+front-took (Put k v) answer rest w takes = inr (refl, takes)
+front-took (Look k) answer rest w takes = inr (refl, takes)
+front-took (Del k) answer rest w takes = inr (refl, takes)
 
 pub took-front : (ts : List Execution) (w : ℤ) → (deed_of ts).taken ≡ Some (Int w) → (r : List ℤ) × (took ts ≡ w ∷ r)
 took-front [] w takes = absurd (cc)
@@ -136,6 +140,7 @@ stays-queue op (counter v) = other op
     other : (op : Op) → is_queue (after_op (counter v) op) ≡ false
     other Inc = refl
     other Dec = refl
+    other (Plus k) = refl
     other _ = refl
 stays-queue op (set_of v) = other op
   where
@@ -149,6 +154,12 @@ stays-queue op (queue v) = other op
     other (Enq w) = refl
     other Deq = refl
     other _ = refl
+stays-queue op (map_of m) = other op
+  where
+    other : (op : Op) → is_queue (after_op (map_of m) op) ≡ false
+    other (Put k v) = refl
+    other (Del k) = refl
+    other _ = refl
 
 pub ran-stays_queue : (ys : List Execution) (s after : ObjState) → ran s ys ≡ Some after → is_queue after ≡ is_queue s
 ran-stays_queue [] s after e = let same : s ≡ after = cc in ap is_queue (sym same)
@@ -160,6 +171,7 @@ takes-queue Deq answer rest (queue q) w right takes = inl refl
 takes-queue Deq answer rest (register q) w right takes = absurd (cc)
 takes-queue Deq answer rest (counter q) w right takes = absurd (cc)
 takes-queue Deq answer rest (set_of q) w right takes = absurd (cc)
+takes-queue Deq answer rest (map_of q) w right takes = absurd (cc)
 takes-queue _ answer rest s w right takes = inr (takes)
 
 pub taken-queue : (ys : List Execution) (s after : ObjState) (w : ℤ) → ran s ys ≡ Some after → (deed_of ys).taken ≡ Some (Int w) → is_queue s ≡ true
@@ -180,6 +192,8 @@ leaves-other (Enq v) (counter x) of other = refl
 leaves-other Deq (counter x) of other = refl
 leaves-other (Enq v) (set_of x) of other = refl
 leaves-other Deq (set_of x) of other = refl
+leaves-other (Enq v) (map_of x) of other = refl
+leaves-other Deq (map_of x) of other = refl
 leaves-other _ s of other = absurd (cc)
 
 pub queues-leave : (ts : List Execution) (s after : ObjState) → (deed_of ts).queues ≡ true → is_queue s ≡ false → ran s ts ≡ Some after → after ≡ s

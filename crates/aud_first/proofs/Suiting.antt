@@ -4,8 +4,9 @@ use Rattle.std.specs.List.{list_any, list_all}
 use Rattle.std.proofs.Common.{sym, ◌∙◌, ap, subst, cond, inl, inr, arith, get_or}
 use Rattle.std.proofs.Math.ListN.{length-map}
 use Rattle.aud_event.specs.Meanings.{PlanOf}
-use Rattle.aud_event.proofs.Bools.{and_true, true_and, true_or, not_false, split, and_yes, nat_eq-is, nat_eq-refl}
-use Rattle.aud_object.specs.Objects.{ObjState, is_observing}
+use Rattle.aud_base.proofs.Bools.{and_true, true_and, true_or, not_false, split, and_yes, nat_eq-is, nat_eq-refl}
+use Rattle.aud_event.specs.Objects.{is_observing}
+use Rattle.aud_object.specs.Objects.{ObjState}
 use Rattle.aud_object.specs.declared.execution.Execution.{Execution}
 use Rattle.aud_history.specs.Histories.{History, events_of, is_in, is_completed}
 use Rattle.aud_history.specs.WellFormed.{IsWellFormed}
@@ -19,7 +20,7 @@ use Rattle.aud_witness.specs.Orders.{is_named}
 use Rattle.aud_witness.specs.Spots.{is_ended, status_allows}
 use Rattle.aud_witness.proofs.Bridge.{row-at, named-at, status-allowed, ended-status}
 use Rattle.aud_order.proofs.KidLemmas.{in-transactions}
-use Rattle.aud_first.specs.Exchanges.{reached, executions_in, all_executions, MayComeBefore, MayFollow, IsEnoughAt}
+use Rattle.aud_first.specs.Exchanges.{reached, reach_in, reach_of_all, MayComeBefore, MayFollow, IsEnoughAt}
 use Rattle.aud_first.specs.Deeds.{is_end, on_one, deed_of}
 use Rattle.aud_first.specs.Harmless.{IsHarmlessBy, IsHarmless, ObserversAreHarmless}
 use Rattle.aud_first.specs.Tests.{may_precede, Lets, LetAll, IsSuited, AreSuited}
@@ -103,7 +104,7 @@ module _ (plan : PlanOf) (h : History) (p : List Decision) (own : ℕ) (row : Ro
       ∙ sym (is_before-by_stamps h tx d.tx there ∙ ap (λ k. is_completed h tx && k && nat_lt (last_stamp h tx) (first_stamp h d.tx)) come.in_history ∙ ap (λ k. k && nat_lt (last_stamp h tx) (first_stamp h d.tx)) (and_yes (is_completed h tx)))
       ∙ come.free)
 
-  suited : (ob : ℕ) → IsSuited ob (all_executions h) (reached plan.objects h p) (table_of h) placed own (row_of h tx) → (way : Way) × IsHarmlessBy plan.objects h p tx ob way
+  suited : (ob : ℕ) → IsSuited ob (reach_of_all h) (reached plan.objects h p) (table_of h) placed own (row_of h tx) → (way : Way) × IsHarmlessBy plan.objects h p tx ob way
   suited ob (way, (fits, lets)) = (
     way,
     record {
@@ -114,18 +115,18 @@ module _ (plan : PlanOf) (h : History) (p : List Decision) (own : ℕ) (row : Ro
     },
   )
 
-  all-suited : total ≡ executions_in (table_of h) → states ≡ reached plan.objects h p → AreSuited total states (table_of h) placed own row → IsHarmless plan.objects h p tx
+  all-suited : total ≡ reach_in (table_of h) → states ≡ reached plan.objects h p → AreSuited total states (table_of h) placed own row → IsHarmless plan.objects h p tx
   all-suited sum now each ob =
       elim (quiet-or ob (row_of h tx).block.executions) as (λ _. (way : Way) × IsHarmlessBy plan.objects h p tx ob way) [
         | inl quiet ↦ (Leaves, record { fits = λ s at. quiet; passes = λ d come. tt; follows = λ d may. tt })
         | inr (k, (x, (at, acts, is))) ↦
-            suited ob (subst (λ o. IsSuited o (all_executions h) (reached plan.objects h p) (table_of h) placed own (row_of h tx)) is
+            suited ob (subst (λ o. IsSuited o (reach_of_all h) (reached plan.objects h p) (table_of h) placed own (row_of h tx)) is
             (subst (λ n. IsSuited x.object n (reached plan.objects h p) (table_of h) placed own (row_of h tx)) sum
             (subst (λ ss. IsSuited x.object total ss (table_of h) placed own (row_of h tx)) now
             (subst (λ (r : RowOf). AreSuited total states (table_of h) placed own r) mine each k x at acts))))
       ]
 
-  pub suited-enough : IsWithinLimits plan h → total ≡ executions_in (table_of h) → states ≡ reached plan.objects h p → status_allows row.status A ≡ false → AreSuited total states (table_of h) placed own row →
+  pub suited-enough : IsWithinLimits plan h → total ≡ reach_in (table_of h) → states ≡ reached plan.objects h p → status_allows row.status A ≡ false → AreSuited total states (table_of h) placed own row →
       IsEnoughAt plan.objects h p (slice_index_or (transactions h) own 0)
   suited-enough within sum now only each =
       harmless-is-enough plan h p tx fine within (sym (status-allowed h tx A fine) ∙ subst (λ (r : RowOf). status_allows r.status A ≡ false) mine only) (all-suited sum now each)

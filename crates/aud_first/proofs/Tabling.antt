@@ -3,67 +3,49 @@ use Rattle.std.specs.Prelude.{◌≡◌, ℕ, zero, suc, ◌+◌, ◌<◌, nat_e
 use Rattle.std.proofs.Common.{sym, ◌∙◌, ap, subst, inl, inr, arith, get_or}
 use Rattle.std.proofs.lemmas.List.{take_more}
 use Rattle.std.proofs.lemmas.Bool.Decides.{nat_tests}
-use Rattle.std.proofs.lemmas.Option.{slice_get_read, slice_get-get_or}
-use Rattle.aud_event.proofs.Bools.{split, nat_eq-is}
+use Rattle.std.proofs.lemmas.Option.{slice_get_read, slice_get-get_or, get_or_from_slice_get}
+use Rattle.aud_base.proofs.Bools.{split, nat_eq-is}
 use Rattle.aud_object.specs.Objects.{ObjState}
 use Rattle.aud_object.specs.Numbers.{number_in, number_of}
 use Rattle.aud_object.specs.declared.number.Number.{Number}
 use Rattle.aud_object.specs.declared.execution.Execution.{Execution}
 use Rattle.aud_history.specs.Table.{RowOf}
-use Rattle.aud_first.specs.Exchanges.{executions_in}
-use Rattle.aud_first.specs.Deeds.{deed_of, on_one}
+use Rattle.aud_first.specs.Exchanges.{reach_in}
+use Rattle.aud_first.specs.Deeds.{deed_of, on_one, reach}
 use Rattle.aud_first.specs.Ways.{Fits, Passes, Follows}
 use Rattle.aud_first.specs.Tests.{deed_on, IsBlank, IsNoted, AreUses, AreColumns, Lets, LetAll, IsSuited}
 use Rattle.aud_first.specs.declared.deed.Deed.{Deed}
 use Rattle.aud_first.specs.declared.uses.Use.{Use}
 use Rattle.aud_first.specs.declared.way.Way.{Way}
-use Rattle.aud_first.specs.declared.way.Way.TheVariants.{Leaves, Settles, Hides, Shifts, Flips, Takes, Adds}
+use Rattle.aud_first.specs.declared.way.Way.TheVariants.{Leaves, Settles, Hides, Shifts, Flips, Enters, Takes, Adds}
 use Rattle.aud_first.proofs.Membering.{flagless-misses}
+use Rattle.aud_first.proofs.Mapping.{keyless-avoids}
 use Rattle.aud_witness.specs.declared.decision.Fate.{Fate}
 
-executions-push : (rows : List RowOf) (r : RowOf) → executions_in (rows ++ r ∷ []) ≡ executions_in rows + length r.block.executions
-executions-push [] r = omega arith
-executions-push (x ∷ rows) r = let rest : executions_in (rows ++ r ∷ []) ≡ executions_in rows + length r.block.executions = executions-push rows r in omega arith
+reach-push : (rows : List RowOf) (r : RowOf) → reach_in (rows ++ r ∷ []) ≡ reach_in rows + reach r.block.executions
+reach-push [] r = omega arith
+reach-push (x ∷ rows) r = let rest : reach_in (rows ++ r ∷ []) ≡ reach_in rows + reach r.block.executions = reach-push rows r in omega arith
 
-pub executions-grown : (rows : List RowOf) (k : ℕ) (r : RowOf) (n m : ℕ) → k < length rows → r ≡ get_or rows k r → n ≡ executions_in (take k rows) → m ≡ n + length r.block.executions → m ≡ executions_in (take (k + 1) rows)
-executions-grown rows k r n m inside is so_far more =
-    let step : executions_in (take (k + 1) rows) ≡ executions_in (take k rows) + length (get_or rows k r).block.executions = ap executions_in (take_more rows k r inside) ∙ executions-push (take k rows) (get_or rows k r) in
-    let same : length (get_or rows k r).block.executions ≡ length r.block.executions = ap (λ (x : RowOf). length x.block.executions) (sym is) in
+pub reach-grown : (rows : List RowOf) (k : ℕ) (r : RowOf) (n m : ℕ) → k < length rows → r ≡ get_or rows k r → n ≡ reach_in (take k rows) → m ≡ n + reach r.block.executions → m ≡ reach_in (take (k + 1) rows)
+reach-grown rows k r n m inside is so_far more =
+    let step : reach_in (take (k + 1) rows) ≡ reach_in (take k rows) + reach (get_or rows k r).block.executions = ap reach_in (take_more rows k r inside) ∙ reach-push (take k rows) (get_or rows k r) in
+    let same : reach (get_or rows k r).block.executions ≡ reach r.block.executions = ap (λ (x : RowOf). reach x.block.executions) (sym is) in
     omega arith
 
 -- one more at the end
-get-push : {X : Type 0} (xs : List X) (x y : X) (k : ℕ) → slice_get (xs ++ x ∷ []) k ≡ Some y → (slice_get xs k ≡ Some y) ⊎ ((k ≡ length xs) × (x ≡ y))
+pub get-push : {X : Type 0} (xs : List X) (x y : X) (k : ℕ) → slice_get (xs ++ x ∷ []) k ≡ Some y → (slice_get xs k ≡ Some y) ⊎ ((k ≡ length xs) × (x ≡ y))
 get-push [] x y zero e = inr (refl, cc)
 get-push [] x y (suc k) e = absurd (cc)
 get-push (z ∷ xs) x y zero e = inl e
 get-push (z ∷ xs) x y (suc k) e = elim (get-push xs x y k e) [ inl before ↦ inl before | inr (at, is) ↦ inr (ap suc at, is) ]
 
-map-push : {X Y : Type 0} (f : X → Y) (xs : List X) (x : X) → map f (xs ++ x ∷ []) ≡ map f xs ++ f x ∷ []
+pub map-push : {X Y : Type 0} (f : X → Y) (xs : List X) (x : X) → map f (xs ++ x ∷ []) ≡ map f xs ++ f x ∷ []
 map-push f [] x = refl
 map-push f (z ∷ xs) x = ap (λ l. f z ∷ l) (map-push f xs x)
-
-length-push : {X : Type 0} (xs : List X) (x : X) → length (xs ++ x ∷ []) ≡ length xs + 1
-length-push [] x = omega arith
-length-push (z ∷ xs) x = let rest = length-push xs x in omega (arith, rest)
-
-length-mapped : {X Y : Type 0} (f : X → Y) (xs : List X) → length (map f xs) ≡ length xs
-length-mapped f [] = refl
-length-mapped f (x ∷ xs) = ap suc (length-mapped f xs)
 
 -- the row at the place
 pub row-is : (rows : List RowOf) (own : ℕ) (row t : RowOf) → own < length rows → row ≡ slice_index_or rows own row → slice_get rows own ≡ Some t → row ≡ t
 row-is rows own row t inside is at = let both : Some row ≡ Some t = sym (slice_get_read rows (length rows) own row refl inside is) ∙ at in cc
-
-pub columns-more : {V : Type 0} (f : V → List Use) (rows : List RowOf) (vs us : List V) (v : V) (n : ℕ) → us ≡ vs ++ v ∷ [] → length vs ≡ n → AreColumns rows (map f vs) → AreUses rows n (length rows) (f v) →
-    (length us ≡ n + 1) × AreColumns rows (map f us)
-columns-more f rows vs us v n is count so_far here = (
-  ap length is ∙ length-push vs v ∙ ap (λ k. k + 1) count,
-  λ ob uses at.
-      elim (get-push (map f vs) (f v) uses ob (subst (λ l. slice_get l ob ≡ Some uses) (ap (map f) is ∙ map-push f vs v) at)) as (λ _. AreUses rows ob (length rows) uses) [
-        | inl before ↦ so_far ob uses before
-        | inr (place, same) ↦ subst (λ l. AreUses rows ob (length rows) l) same (subst (λ k. AreUses rows k (length rows) (f v)) (sym (place ∙ length-mapped f vs ∙ count)) here)
-      ],
-)
 
 get-before : {X : Type 0} (xs : List X) (x y : X) (k : ℕ) → slice_get xs k ≡ Some y → slice_get (xs ++ x ∷ []) k ≡ Some y
 get-before [] x y k e = absurd (cc)
@@ -82,7 +64,7 @@ less-or k n low =
     ]
 
 -- one row further
-pub uses-more : (rows : List RowOf) (ob n : ℕ) (row : RowOf) (deed : Deed) (old new : List Use) → n < length rows → row ≡ slice_index_or rows n row → deed ≡ deed_on ob row → AreUses rows ob n old → IsNoted old n deed new →
+uses-more : (rows : List RowOf) (ob n : ℕ) (row : RowOf) (deed : Deed) (old new : List Use) → n < length rows → row ≡ slice_index_or rows n row → deed ≡ deed_on ob row → AreUses rows ob n old → IsNoted old n deed new →
     AreUses rows ob (n + 1) new
 uses-more rows ob n row deed old new inside is does so_far (inl (blank, same)) = subst (λ l. AreUses rows ob (n + 1) l) (sym same) (record {
   right = so_far.right;
@@ -110,6 +92,10 @@ uses-more rows ob n row deed old new inside is does so_far (inr more) = subst (�
     go k (inl blank) = inl blank
     go k (inr (j, (u, (at, same)))) = inr (j, (u, (get-before old (record { row = n; deed = deed }) u j at, same)))
 
+-- the same of the row that is there
+pub uses-added : (rows : List RowOf) (ob n : ℕ) (r : RowOf) (old new : List Use) → n < length rows → slice_get rows n ≡ Some r → AreUses rows ob n old → IsNoted old n (deed_on ob r) new → AreUses rows ob (n + 1) new
+uses-added rows ob n r old new inside at = uses-more rows ob n r (deed_on ob r) old new inside (sym (get_or_from_slice_get rows n r r at)) refl
+
 -- what is blank tells nothing
 blank-passes : (way : Way) (ts ys : List Execution) (f : Fate) → IsBlank (deed_of ys) → Passes way ts f ys
 blank-passes Leaves ts ys f blank = tt
@@ -117,6 +103,7 @@ blank-passes (Settles c v) ts ys f blank = ((λ apart reads. let none = blank.re
 blank-passes (Hides c v) ts ys f blank = λ apart reads. let none = blank.read in absurd (cc)
 blank-passes (Shifts by) ts ys f blank = inr blank.gets
 blank-passes Flips ts ys f blank = λ v. flagless-misses ts ys v blank.flags
+blank-passes Enters ts ys f blank = λ k. keyless-avoids ts ys k blank.keys
 blank-passes (Takes front) ts ys f blank = λ takes. let none = blank.taken in absurd (cc)
 blank-passes Adds ts ys f blank = inl (blank.adds, blank.ends)
 
@@ -126,6 +113,7 @@ blank-follows Leaves ys blank = tt
 blank-follows (Settles c v) ys blank = tt
 blank-follows (Shifts by) ys blank = tt
 blank-follows Flips ys blank = tt
+blank-follows Enters ys blank = tt
 blank-follows (Takes front) ys blank = tt
 blank-follows Adds ys blank = tt
 
@@ -147,7 +135,7 @@ use-right rows ob n uses k d are inside r at =
     let same : z ≡ r = cc in
     is ∙ ap (deed_on ob) same
 
-get-mapped : {X Y : Type 0} (f : X → Y) (xs : List X) (y : X) (k : ℕ) → slice_get xs k ≡ Some y → slice_get (map f xs) k ≡ Some (f y)
+pub get-mapped : {X Y : Type 0} (f : X → Y) (xs : List X) (y : X) (k : ℕ) → slice_get xs k ≡ Some y → slice_get (map f xs) k ≡ Some (f y)
 get-mapped f [] y k at = absurd (cc)
 get-mapped f (x ∷ xs) y zero at = let same : x ≡ y = cc in ap (λ z. Some (f z)) same
 get-mapped f (x ∷ xs) y (suc k) at = get-mapped f xs y k at

@@ -1,27 +1,32 @@
 -- States beside each other, where one transaction was placed at once.
-use Rattle.std.specs.Prelude.{◌≡◌, ℕ, ℤ, pos, ◌+◌, ◌+ℤ◌, Bool, true, false, not, List, [], ◌∷◌, ◌++◌, length, Option, Some, None, refl, ◌⊎◌}
+use Rattle.std.specs.Prelude.{◌≡◌, ℕ, ℤ, pos, ◌+◌, ◌+ℤ◌, Bool, true, false, not, List, [], ◌∷◌, ◌++◌, Option, Some, None, refl, ◌⊎◌}
 use Rattle.std.specs.Ordering.{int_eq}
 use Rattle.std.proofs.Common.{sym, ◌∙◌, ap, subst, inl, inr, arith, append_assoc}
 use Rattle.std.proofs.lemmas.Int.{ints}
 use Rattle.aud_event.specs.declared.object.Op.{Op}
-use Rattle.aud_event.specs.declared.object.Op.TheVariants.{Read, Get, Contains, Deq}
+use Rattle.aud_event.specs.declared.object.Op.TheVariants.{Deq}
 use Rattle.aud_event.specs.declared.object.Answer.{Answer}
 use Rattle.aud_event.specs.declared.object.Answer.TheVariants.{Int, Empty}
-use Rattle.aud_event.proofs.Bools.{split, and_true, or_true}
-use Rattle.aud_object.specs.Objects.{ObjState, register, counter, set_of, queue, has_member, is_observing, answer_of, after_op}
+use Rattle.aud_base.proofs.Bools.{split, and_true, or_true}
+use Rattle.aud_event.specs.Objects.{is_observing}
+use Rattle.aud_object.specs.Entries.{value_at, Ascend}
+use Rattle.aud_object.specs.Objects.{ObjState, register, counter, set_of, queue, map_of, has_member, answer_of, after_op}
+use Rattle.aud_object.specs.Kinds.{observing_stays}
 use Rattle.aud_object.specs.declared.execution.Execution.{Execution}
 use Rattle.aud_object.proofs.Ints.{eq-is, eq-itself}
 use Rattle.aud_witness.specs.declared.decision.Fate.{Fate}
 use Rattle.aud_witness.specs.declared.decision.Fate.TheVariants.{C, A}
-use Rattle.aud_first.specs.Deeds.{ran, is_end, deed_of, net, seen, left, flipped_by, flipped}
+use Rattle.aud_first.specs.Deeds.{ran, is_end, deed_of, net, reach, seen, left, flipped_by, flipped}
+use Rattle.aud_first.specs.Keys.{sight, entry, entered}
 use Rattle.aud_first.specs.Ways.{HasRoom, Fits, Passes, Follows}
 use Rattle.aud_first.specs.declared.way.Way.{Way}
-use Rattle.aud_first.specs.declared.way.Way.TheVariants.{Leaves, Settles, Hides, Shifts, Flips, Takes, Adds}
+use Rattle.aud_first.specs.declared.way.Way.TheVariants.{Leaves, Settles, Hides, Shifts, Flips, Enters, Takes, Adds}
 use Rattle.aud_first.proofs.Acting.{ran-step}
 use Rattle.aud_first.proofs.Registering.{held, register-holds, register-reads, register-blind}
 use Rattle.aud_first.proofs.Counting.{room-less, room-after, counter-moves, counter-blind}
 use Rattle.aud_first.proofs.Queueing.{added, took, queue-adds, queue-takes, queue-fronts, took-front, is_queue, ran-stays_queue, taken-queue, queues-leave}
 use Rattle.aud_first.proofs.Membering.{Ascending, stands, set-leads, unseen-left, set-alike, flags-set}
+use Rattle.aud_first.proofs.Mapping.{AgreeAt, is_map, map-or, map-leads, map-alike, unmet-left, entries-same, ran-stays_map, maps-leave, entered-agrees, entered-back, at-or, at-then}
 
 -- # States that are related
 
@@ -35,8 +40,11 @@ abbrev pub BeforeBy : Way → List Execution → ℕ → ObjState → ObjState �
 BeforeBy Leaves ts n a b = a ≡ b
 BeforeBy (Settles c v) ts n a b = (a ≡ register c) × (b ≡ register v)
 BeforeBy (Hides c v) ts n a b = (x : ℤ) × ((w : ℤ) × ((a ≡ register x) × (b ≡ register w) × ((x ≡ w) ⊎ ((c ≡ v → ⊥) × (x ≡ c)))))
-BeforeBy (Shifts by) ts n a b = (net ts ≡ by) × ((x : ℤ) × ((a ≡ counter x) × (b ≡ counter (x +ℤ net ts)) × HasRoom x (length ts + n) × HasRoom (x +ℤ net ts) n))
+BeforeBy (Shifts by) ts n a b = (net ts ≡ by) × ((x : ℤ) × ((a ≡ counter x) × (b ≡ counter (x +ℤ net ts)) × HasRoom x (reach ts + n) × HasRoom (x +ℤ net ts) n))
 BeforeBy Flips ts n a b = (s : List ℤ) × ((u : List ℤ) × ((a ≡ set_of s) × (b ≡ set_of u) × Ascending s × Ascending u × ((v : ℤ) → AgreeBy (flipped ts v) (has_member s v) (has_member u v))))
+BeforeBy Enters ts n a b =
+    ((m : List (ℤ × ℤ)) × ((u : List (ℤ × ℤ)) × ((a ≡ map_of m) × (b ≡ map_of u) × Ascend m × Ascend u × ((k : ℤ) → AgreeAt (entered ts k) (sight ts k) (value_at m k) (value_at u k)))))
+    ⊎ ((a ≡ b) × (is_map a ≡ false))
 BeforeBy (Takes front) ts n a b = (q : List ℤ) × (((deed_of ts).taken ≡ Some (Int front)) × (a ≡ queue (took ts ++ q)) × (b ≡ queue q))
 BeforeBy Adds ts n a b = ((q : List ℤ) × ((a ≡ queue q) × (b ≡ queue (q ++ added ts)))) ⊎ ((a ≡ b) × (is_queue a ≡ false))
 
@@ -46,42 +54,23 @@ AfterBy (Hides c v) a b = (x : ℤ) × ((w : ℤ) × ((a ≡ register x) × (b �
 AfterBy Flips a b = (s : List ℤ) × ((u : List ℤ) × ((a ≡ set_of s) × (b ≡ set_of u) × Ascending s × Ascending u × ((v : ℤ) → has_member s v ≡ has_member u v)))
 AfterBy _ a b = a ≡ b
 
--- what holds of all states: sets ascend
+-- what holds of all states: sets and maps ascend
 abbrev pub IsTidy : ObjState → Type 0
 IsTidy (set_of s) = Ascending s
+IsTidy (map_of m) = Ascend m
 IsTidy _ = Unit {0}
 
 -- # T's own executions
 
 -- an operation that is quiet leaves the object
 quiet-leaves : (op : Op) (answer : Answer) (s : ObjState) → (is_observing op ≡ true) ⊎ (is_end op answer ≡ true) → answer_of s op ≡ answer → after_op s op ≡ s
-quiet-leaves Read answer s quiet right = same s
-  where
-    same : (s : ObjState) → after_op s Read ≡ s
-    same (register v) = refl
-    same (counter v) = refl
-    same (set_of v) = refl
-    same (queue v) = refl
-quiet-leaves Get answer s quiet right = same s
-  where
-    same : (s : ObjState) → after_op s Get ≡ s
-    same (register v) = refl
-    same (counter v) = refl
-    same (set_of v) = refl
-    same (queue v) = refl
-quiet-leaves (Contains x) answer s quiet right = same s
-  where
-    same : (s : ObjState) → after_op s (Contains x) ≡ s
-    same (register v) = refl
-    same (counter v) = refl
-    same (set_of v) = refl
-    same (queue v) = refl
-quiet-leaves Deq Empty (register v) quiet right = refl
-quiet-leaves Deq Empty (counter v) quiet right = refl
-quiet-leaves Deq Empty (set_of v) quiet right = refl
-quiet-leaves Deq Empty (queue []) quiet right = refl
-quiet-leaves Deq Empty (queue (v ∷ q)) quiet right = absurd (cc)
-quiet-leaves _ answer s (inl observing) right = absurd (cc)
+quiet-leaves op answer s (inl observing) right = observing_stays s op observing
+quiet-leaves Deq Empty (register v) (inr ends) right = refl
+quiet-leaves Deq Empty (counter v) (inr ends) right = refl
+quiet-leaves Deq Empty (set_of v) (inr ends) right = refl
+quiet-leaves Deq Empty (queue []) (inr ends) right = refl
+quiet-leaves Deq Empty (queue (v ∷ q)) (inr ends) right = absurd (cc)
+quiet-leaves Deq Empty (map_of m) (inr ends) right = refl
 quiet-leaves _ answer s (inr ends) right = absurd (cc)
 
 quiet-stays : (ts : List Execution) (a after : ObjState) → (deed_of ts).quiet ≡ true → ran a ts ≡ Some after → after ≡ a
@@ -96,12 +85,14 @@ queue-or : (s : ObjState) → ((q : List ℤ) × (s ≡ queue q)) ⊎ (is_queue 
 queue-or (register v) = inr refl
 queue-or (counter v) = inr refl
 queue-or (set_of v) = inr refl
+queue-or (map_of m) = inr refl
 queue-or (queue q) = inl (q, refl)
 
 queue-is : (s : ObjState) → is_queue s ≡ true → (q : List ℤ) × (s ≡ queue q)
 queue-is (register v) is = absurd (cc)
 queue-is (counter v) is = absurd (cc)
 queue-is (set_of v) is = absurd (cc)
+queue-is (map_of m) is = absurd (cc)
 queue-is (queue q) is = (q, refl)
 
 -- what was found and what was left, where that is a change
@@ -160,6 +151,14 @@ start-by Flips ts n a b tidy fits e =
         ),
       ),
     )
+start-by Enters ts n a b tidy fits e =
+    elim (map-or a) as (λ _. BeforeBy Enters ts n a b) [
+      | inl (m, is) ↦
+          let ascends : Ascend m = subst (λ z. IsTidy z) is tidy in
+          let leads = map-leads ts m b ascends (subst (λ z. ran z ts ≡ Some b) is e) in
+          inl (m, (leads.entries, (is, leads.is, ascends, leads.ascends, λ k. entered-agrees (sight ts k) (entry ts k) (value_at m k) (value_at leads.entries k) (leads.finds k) (leads.leaves k))))
+      | inr other ↦ inr (sym (maps-leave ts a b fits other e), other)
+    ]
 start-by (Takes front) ts n a b tidy fits e =
     let (takes, adds, ends) = fits in
     let (q, is) = queue-is a (taken-queue ts a b front e takes) in
@@ -202,6 +201,12 @@ turn-by Flips ts n m c a b after fits before e =
         ),
       ),
     )
+turn-by Enters ts n m c a b after fits (inl (s, (u, (is, there, ascends, rises, agree)))) e =
+    let leads = map-leads ts s after ascends (subst (λ z. ran z ts ≡ Some after) is e) in
+    let same = entries-same leads.entries u leads.ascends rises
+    (λ k. entered-back (sight ts k) (entry ts k) (value_at s k) (value_at u k) (value_at leads.entries k) (leads.finds k) (leads.leaves k) (agree k)) in
+    leads.is ∙ ap map_of same ∙ sym there
+turn-by Enters ts n m c a b after fits (inr (same, other)) e = maps-leave ts a after fits other e ∙ same
 turn-by (Takes front) ts n m c a b after fits before e =
     let (takes, adds, ends) = fits in
     let (q, (first, is, there)) = before in
@@ -221,8 +226,9 @@ less-by Leaves ts m n a b before = before
 less-by (Settles c v) ts m n a b before = before
 less-by (Hides c v) ts m n a b before = before
 less-by (Shifts by) ts m n a b (moves, (x, (is, there, room, later))) =
-    (moves, (x, (is, there, room-less x m (length ts + n) (let parts : length ts + (m + n) ≡ m + (length ts + n) = omega arith in subst (λ k. HasRoom x k) parts room), room-less (x +ℤ net ts) m n later)))
+    (moves, (x, (is, there, room-less x m (reach ts + n) (let parts : reach ts + (m + n) ≡ m + (reach ts + n) = omega arith in subst (λ k. HasRoom x k) parts room), room-less (x +ℤ net ts) m n later)))
 less-by Flips ts m n a b before = before
+less-by Enters ts m n a b before = before
 less-by (Takes front) ts m n a b before = before
 less-by Adds ts m n a b before = before
 
@@ -265,7 +271,7 @@ agree-then (Some b) l None m n after later agree finds never none leads goes =
     (leads ∙ ap (λ z. stands z m) off ∙ agree.0, goes ∙ ap (λ z. stands z n) off ∙ agree.1)
 agree-then (Some b) l (Some c) m n after later agree finds never none leads goes = absurd (never b refl (ap (λ z. Some z) (sym (finds c refl) ∙ agree.0)))
 
-pub before-by : (way : Way) (ts ys : List Execution) (f : Fate) (n : ℕ) (a b after : ObjState) → Passes way ts f ys → BeforeBy way ts (length ys + n) a b → ran a ys ≡ Some after →
+pub before-by : (way : Way) (ts ys : List Execution) (f : Fate) (n : ℕ) (a b after : ObjState) → Passes way ts f ys → BeforeBy way ts (reach ys + n) a b → ran a ys ≡ Some after →
     (later : ObjState) × ((ran b ys ≡ Some later) × ThenBy f way ts n after later)
 before-by Leaves ts ys f n a b after passes before e = (after, (same-runs ys a b after before e, then-by f Leaves ts n after after refl))
 before-by (Settles c v) ts ys f n a b after passes (is, there) e =
@@ -305,20 +311,20 @@ before-by (Hides c v) ts ys f n a b after passes (x, (w, (is, there, inr (apart,
     go (Some z) apart = inl refl
 before-by (Shifts by) ts ys f n a b after passes (moves, (x, (is, there, room, later))) e =
     let went : ran (counter x) ys ≡ Some after = same-runs ys a (counter x) after is e in
-    let own : HasRoom x (length ys + (length ts + n)) = (let parts : length ts + (length ys + n) ≡ length ys + (length ts + n) = omega arith in subst (λ k. HasRoom x k) parts room) in
-    let leads : after ≡ counter (x +ℤ net ys) = counter-moves ys x (length ts + n) after own went in
+    let own : HasRoom x (reach ys + (reach ts + n)) = (let parts : reach ts + (reach ys + n) ≡ reach ys + (reach ts + n) = omega arith in subst (λ k. HasRoom x k) parts room) in
+    let leads : after ≡ counter (x +ℤ net ys) = counter-moves ys x (reach ts + n) after own went in
     let runs : ran (counter (x +ℤ net ts)) ys ≡ Some (counter ((x +ℤ net ts) +ℤ net ys)) = elim passes [
       | inl none ↦
           let still : net ts ≡ pos 0 = moves ∙ none in
           let same : x +ℤ net ts ≡ x = omega (arith, ints, still) in
           subst (λ z. ran (counter z) ys ≡ Some (counter (z +ℤ net ys))) (sym same) (went ∙ ap (λ z. Some z) leads)
-      | inr blind ↦ counter-blind ys x (x +ℤ net ts) n after later went blind (length ts + n) own
+      | inr blind ↦ counter-blind ys x (x +ℤ net ts) n after later went blind (reach ts + n) own
     ] in
     let turned : (x +ℤ net ts) +ℤ net ys ≡ (x +ℤ net ys) +ℤ net ts = omega (arith, ints) in (
       counter ((x +ℤ net ts) +ℤ net ys),
       (
         same-runs ys (counter (x +ℤ net ts)) b (counter ((x +ℤ net ts) +ℤ net ys)) (sym there) runs,
-        then-by f (Shifts by) ts n after (counter ((x +ℤ net ts) +ℤ net ys)) (moves, (x +ℤ net ys, (leads, ap counter turned, room-after ys x (length ts + n) own, subst (λ z. HasRoom z n) turned (room-after ys (x +ℤ net ts) n later)))),
+        then-by f (Shifts by) ts n after (counter ((x +ℤ net ts) +ℤ net ys)) (moves, (x +ℤ net ys, (leads, ap counter turned, room-after ys x (reach ts + n) own, subst (λ z. HasRoom z n) turned (room-after ys (x +ℤ net ts) n later)))),
       ),
     )
 before-by Flips ts ys f n a b after passes (s, (u, (is, there, ascends, rises, agree))) e =
@@ -345,6 +351,31 @@ before-by Flips ts ys f n a b after passes (s, (u, (is, there, ascends, rises, a
         ),
       ),
     )
+before-by Enters ts ys f n a b after passes (inl (s, (u, (is, there, ascends, rises, agree)))) e =
+    let went : ran (map_of s) ys ≡ Some after = same-runs ys a (map_of s) after is e in
+    let leads = map-leads ys s after ascends went in
+    let (later, runs) = map-alike ys s u after ascends rises (λ k. at-or (entered ts k) (sight ts k) (sight ys k) (value_at s k) (value_at u k) (agree k) (leads.finds k) (passes k)) went in
+    let goes = map-leads ys u later rises runs in (
+      later,
+      (
+        same-runs ys (map_of u) b later (sym there) runs,
+        then-by f Enters ts n after later (inl (
+          leads.entries,
+          (
+            goes.entries,
+            (
+              leads.is,
+              goes.is,
+              leads.ascends,
+              goes.ascends,
+              λ k. at-then (entered ts k) (sight ts k) (sight ys k) (entry ys k) (value_at s k) (value_at u k) (value_at leads.entries k) (value_at goes.entries k) (agree k) (leads.finds k) (passes k)
+                  (unmet-left ys s after k ascends went) (leads.leaves k) (goes.leaves k),
+            ),
+          ),
+        )),
+      ),
+    )
+before-by Enters ts ys f n a b after passes (inr (same, other)) e = (after, (same-runs ys a b after same e, then-by f Enters ts n after after (inr (refl, ran-stays_map ys a after e ∙ other))))
 before-by (Takes w) ts ys f n a b after passes (q, (takes, is, there)) e =
     let went : ran (queue (took ts ++ q)) ys ≡ Some after = same-runs ys a (queue (took ts ++ q)) after is e in
     let (r, front) = took-front ts w takes in
@@ -427,5 +458,6 @@ after-by Flips ys a b after follows (s, (u, (is, there, ascends, rises, agree)))
         ),
       ),
     )
+after-by Enters ys a b after follows same e = (after, (same-runs ys a b after same e, refl))
 after-by (Takes front) ys a b after follows same e = (after, (same-runs ys a b after same e, refl))
 after-by Adds ys a b after follows same e = (after, (same-runs ys a b after same e, refl))

@@ -1,11 +1,12 @@
 -- What executions do to one object.
-use Rattle.std.specs.Prelude.{◌≡◌, ℕ, ℤ, pos, negsuc, ◌+ℤ◌, Bool, true, false, not, ◌&&◌, ◌||◌, if◌then◌else◌, nat_eq, List, [], ◌∷◌, Option, Some, None}
+use Rattle.std.specs.Prelude.{◌≡◌, ℕ, ◌+◌, ℤ, pos, negsuc, unsigned_abs, ◌+ℤ◌, Bool, true, false, not, ◌&&◌, ◌||◌, if◌then◌else◌, nat_eq, List, [], ◌∷◌, Option, Some, None}
 use Rattle.std.specs.Ordering.{int_eq}
 use Rattle.aud_event.specs.declared.object.Op.{Op}
-use Rattle.aud_event.specs.declared.object.Op.TheVariants.{Read, Write, Inc, Dec, Get, Add, Remove, Contains, Enq, Deq}
+use Rattle.aud_event.specs.declared.object.Op.TheVariants.{Read, Write, Inc, Dec, Get, Add, Remove, Contains, Enq, Deq, Plus, Put, Look, Del}
 use Rattle.aud_event.specs.declared.object.Answer.{Answer}
 use Rattle.aud_event.specs.declared.object.Answer.TheVariants.{Int, Flag, Empty}
-use Rattle.aud_object.specs.Objects.{ObjState, answer_of, after_op, is_observing}
+use Rattle.aud_event.specs.Objects.{is_observing}
+use Rattle.aud_object.specs.Objects.{ObjState, answer_of, after_op}
 use Rattle.aud_object.specs.Replayed.{same_answer}
 use Rattle.aud_object.specs.declared.execution.Execution.{Execution}
 use Rattle.aud_first.specs.declared.deed.Deed.{Deed}
@@ -55,18 +56,27 @@ is_of_queue (Enq _) = true
 is_of_queue Deq = true
 is_of_queue _ = false
 
+abbrev pub is_of_map : Op → Bool
+is_of_map (Put _ _) = true
+is_of_map (Look _) = true
+is_of_map (Del _) = true
+is_of_map _ = false
+
 -- the operation finds a queue empty
 abbrev pub is_end : Op → Answer → Bool
 is_end Deq Empty = true
 is_end _ _ = false
 
-abbrev pub is_flag : Answer → Bool
-is_flag (Flag _) = true
-is_flag _ = false
+-- the operation looks for a member of a set, and is answered by a flag
+abbrev pub is_flag : Op → Answer → Bool
+is_flag (Add _) (Flag _) = true
+is_flag (Remove _) (Flag _) = true
+is_flag (Contains _) (Flag _) = true
+is_flag _ _ = false
 
 -- what is done by no execution
 abbrev pub idle : Deed
-idle = record { read = None; written = None; gets = false; taken = None; adds = false; ends = false; flags = false; quiet = true; queues = true }
+idle = record { read = None; written = None; gets = false; taken = None; adds = false; ends = false; flags = false; keys = false; quiet = true; queues = true; maps = true }
 
 -- what is done by an operation and then by others
 abbrev pub led_by : Op → Answer → Deed → Deed
@@ -77,9 +87,11 @@ led_by op answer rest = record {
   taken = taken_by op answer rest.taken;
   adds = is_enq op || rest.adds;
   ends = is_end op answer || rest.ends;
-  flags = is_flag answer || rest.flags;
+  flags = is_flag op answer || rest.flags;
+  keys = is_of_map op || rest.keys;
   quiet = (is_observing op || is_end op answer) && rest.quiet;
   queues = is_of_queue op && rest.queues;
+  maps = is_of_map op && rest.maps;
 }
 
 -- what executions do
@@ -91,11 +103,24 @@ deed_of (x ∷ xs) = led_by x.op x.answer (deed_of xs)
 abbrev pub move_of : Op → ℤ
 move_of Inc = pos 1
 move_of Dec = negsuc 0
+move_of (Plus k) = k
 move_of _ = pos 0
 
 abbrev pub net : List Execution → ℤ
 net [] = pos 0
 net (x ∷ xs) = move_of x.op +ℤ net xs
+
+-- how far an operation moves a counter, up or down
+abbrev pub reach_by : Op → ℕ
+reach_by Inc = 1
+reach_by Dec = 1
+reach_by (Plus k) = unsigned_abs k
+reach_by _ = 0
+
+-- how far executions can move counters, all together
+abbrev pub reach : List Execution → ℕ
+reach [] = 0
+reach (x ∷ xs) = reach_by x.op + reach xs
 
 -- whether the value was a member of a set, where the operation tells it
 abbrev pub seen_by : Op → Answer → ℤ → Option Bool
@@ -110,8 +135,8 @@ left_by (Add w) v = if int_eq v w then Some true else None
 left_by (Remove w) v = if int_eq v w then Some false else None
 left_by _ v = None
 
-abbrev pub first_of_two : Option Bool → Option Bool → Option Bool
-first_of_two (Some b) rest = Some b
+abbrev pub first_of_two : {X : Type 0} → Option X → Option X → Option X
+first_of_two (Some x) rest = Some x
 first_of_two None rest = rest
 
 -- whether executions find the value in the set

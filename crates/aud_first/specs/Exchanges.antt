@@ -1,5 +1,5 @@
 -- When a transaction that commits may be placed at once.
-use Rattle.std.specs.Prelude.{◌≡◌, ℕ, Bool, true, false, nat_eq, List, [], ◌∷◌, ◌++◌, ◌+◌, map, length, Some}
+use Rattle.std.specs.Prelude.{◌≡◌, ℕ, Bool, true, false, nat_eq, List, [], ◌∷◌, ◌++◌, ◌+◌, map, Some}
 use Rattle.aud_event.specs.Meanings.{Declared, PlanOf}
 use Rattle.aud_object.specs.Objects.{ObjState, opening_of}
 use Rattle.aud_object.specs.Executions.{states_after}
@@ -15,6 +15,7 @@ use Rattle.aud_witness.specs.Spots.{states_with}
 use Rattle.aud_order.specs.Moves.{without}
 use Rattle.aud_order.specs.Shapes.{objects_of, history_of}
 use Rattle.aud_order.specs.Cursors.{CursorOf}
+use Rattle.aud_first.specs.Deeds.{reach}
 
 -- the states of all objects after what is kept of a list
 abbrev pub reached : List Declared → History → List Decision → List ObjState
@@ -28,23 +29,23 @@ pub record MayComeBefore (h : History) (p : List Decision) (t : ℕ) (d : Decisi
   pub free : is_before h t d.tx ≡ false
   pub allowed : is_allowed h d.tx d.fate ≡ true
 
--- how many executions a transaction has
-abbrev pub count_of : History → ℕ → ℕ
-count_of h t = length (row_of h t).block.executions
+-- how far a transaction can move counters
+abbrev pub reach_of : History → ℕ → ℕ
+reach_of h t = reach (row_of h t).block.executions
 
--- how many executions the rows have
-abbrev pub executions_in : List RowOf → ℕ
-executions_in [] = 0
-executions_in (r ∷ rs) = length r.block.executions + executions_in rs
+-- how far the rows can
+abbrev pub reach_in : List RowOf → ℕ
+reach_in [] = 0
+reach_in (r ∷ rs) = reach r.block.executions + reach_in rs
 
--- how many executions all transactions have
-abbrev pub all_executions : History → ℕ
-all_executions h = executions_in (table_of h)
+-- how far all transactions can
+abbrev pub reach_of_all : History → ℕ
+reach_of_all h = reach_in (table_of h)
 
 -- From states that are related a block runs in the second where it does in the first, and leaves them related. The relation
--- may speak of how many executions are still to come, at most.
+-- may speak of how far what is still to come can move counters, at most.
 abbrev pub RunsAlike : History → (ℕ → List ObjState → List ObjState → Type 0) → Decision → Type 0
-RunsAlike h R d = (n : ℕ) (s u after : List ObjState) → R (count_of h d.tx + n) s u → replayed s (row_of h d.tx).block ≡ Some after →
+RunsAlike h R d = (n : ℕ) (s u after : List ObjState) → R (reach_of h d.tx + n) s u → replayed s (row_of h d.tx).block ≡ Some after →
     (later : List ObjState) × ((replayed u (row_of h d.tx).block ≡ Some later) × R n (states_with d.fate s after) (states_with d.fate u later))
 
 -- the decision may stand after p, and is not on T
@@ -56,7 +57,7 @@ pub record MayFollow (h : History) (p : List Decision) (t : ℕ) (d : Decision) 
 
 -- before T's old place the states there and those where T was placed at once are related by Before, and after it by After
 pub record AreExchanged (objects : List Declared) (h : History) (p : List Decision) (t : ℕ) (Before : ℕ → List ObjState → List ObjState → Type 0) (After : List ObjState → List ObjState → Type 0) : Type 0 where
-  pub start : (after : List ObjState) → replayed (reached objects h p) (row_of h t).block ≡ Some after → Before (all_executions h) (reached objects h p) after
+  pub start : (after : List ObjState) → replayed (reached objects h p) (row_of h t).block ≡ Some after → Before (reach_of_all h) (reached objects h p) after
   pub before : (d : Decision) → MayComeBefore h p t d → RunsAlike h Before d
   pub turn : (n : ℕ) (s u after : List ObjState) → Before n s u → replayed s (row_of h t).block ≡ Some after → After after u
   pub after : (d : Decision) → MayFollow h p t d → RunsAlike h (λ n. After) d

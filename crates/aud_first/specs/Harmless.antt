@@ -2,7 +2,8 @@
 use Rattle.std.specs.Prelude.{◌≡◌, ℕ, true, false, List, Some, slice_get}
 use Rattle.aud_event.specs.Meanings.{Declared, PlanOf}
 use Rattle.std.specs.List.{list_all}
-use Rattle.aud_object.specs.Objects.{ObjState, is_observing}
+use Rattle.aud_event.specs.Objects.{is_observing}
+use Rattle.aud_object.specs.Objects.{ObjState}
 use Rattle.aud_object.specs.declared.execution.Execution.{Execution}
 use Rattle.aud_history.specs.Histories.{History}
 use Rattle.aud_history.specs.WellFormed.{IsWellFormed}
@@ -11,14 +12,14 @@ use Rattle.aud_history.specs.Table.{row_of}
 use Rattle.aud_witness.specs.declared.decision.Fate.TheVariants.{C, A}
 use Rattle.aud_witness.specs.declared.decision.Decision.{Decision}
 use Rattle.aud_witness.specs.Orders.{is_allowed, IsGoodNext}
-use Rattle.aud_first.specs.Exchanges.{reached, all_executions, MayComeBefore, MayFollow, MovesForward}
+use Rattle.aud_first.specs.Exchanges.{reached, reach_of_all, MayComeBefore, MayFollow, MovesForward}
 use Rattle.aud_first.specs.Deeds.{on_one}
 use Rattle.aud_first.specs.Ways.{Fits, Passes, Follows}
 use Rattle.aud_first.specs.declared.way.Way.{Way}
 
 -- T changes the object in the way, and no transaction that is still to be placed tells whether T was placed at once
 pub record IsHarmlessBy (objects : List Declared) (h : History) (p : List Decision) (t : ℕ) (ob : ℕ) (way : Way) : Type 0 where
-  pub fits : (s : ObjState) → slice_get (reached objects h p) ob ≡ Some s → Fits way (on_one ob (row_of h t).block.executions) (all_executions h) s
+  pub fits : (s : ObjState) → slice_get (reached objects h p) ob ≡ Some s → Fits way (on_one ob (row_of h t).block.executions) (reach_of_all h) s
   pub passes : (d : Decision) → MayComeBefore h p t d → Passes way (on_one ob (row_of h t).block.executions) d.fate (on_one ob (row_of h d.tx).block.executions)
   pub follows : (d : Decision) → MayFollow h p t d → Follows way (on_one ob (row_of h d.tx).block.executions)
 

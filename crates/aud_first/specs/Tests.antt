@@ -1,12 +1,13 @@
 -- What is asked of the rows of a table, so that a transaction may be placed at once.
 use Rattle.std.specs.Prelude.{◌≡◌, ℕ, ◌<◌, ◌&&◌, nat_lt, Bool, true, false, not, List, length, [], ◌∷◌, ◌++◌, Option, Some, None, ◌⊎◌, slice_get, slice_index_or}
-use Rattle.aud_object.specs.Objects.{ObjState, is_observing}
+use Rattle.aud_event.specs.Objects.{is_observing}
+use Rattle.aud_object.specs.Objects.{ObjState}
 use Rattle.aud_object.specs.declared.execution.Execution.{Execution}
 use Rattle.aud_history.specs.Table.{RowOf}
 use Rattle.aud_witness.specs.declared.decision.Fate.{Fate}
 use Rattle.aud_witness.specs.Spots.{is_ended, status_allows}
 use Rattle.aud_first.specs.Deeds.{deed_of, on_one}
-use Rattle.aud_first.specs.Exchanges.{executions_in}
+use Rattle.aud_first.specs.Exchanges.{reach_in}
 use Rattle.aud_first.specs.Ways.{Fits, Passes, Follows}
 use Rattle.aud_first.specs.declared.deed.Deed.{Deed}
 use Rattle.aud_first.specs.declared.uses.Use.{Use}
@@ -47,6 +48,7 @@ pub record IsBlank (d : Deed) : Type 0 where
   pub adds : d.adds ≡ false
   pub ends : d.ends ≡ false
   pub flags : d.flags ≡ false
+  pub keys : d.keys ≡ false
 
 -- what a row does to the object
 abbrev pub deed_on : ℕ → RowOf → Deed
@@ -65,7 +67,7 @@ IsNoted old row deed new = (IsBlank deed × (new ≡ old)) ⊎ (new ≡ old ++ r
 abbrev pub AreColumns : List RowOf → List (List Use) → Type 0
 AreColumns rows columns = (ob : ℕ) (uses : List Use) → slice_get columns ob ≡ Some uses → AreUses rows ob (length rows) uses
 
--- how many executions there are, unless these are too many, and the uses of each object
+-- how far the rows can move counters, if that is a number, and the uses of each object
 pub record AreSummed (rows : List RowOf) (total : Option ℕ) (columns : List (List Use)) : Type 0 where
-  pub count : (n : ℕ) → total ≡ Some n → n ≡ executions_in rows
+  pub sum : (n : ℕ) → total ≡ Some n → n ≡ reach_in rows
   pub each : AreColumns rows columns

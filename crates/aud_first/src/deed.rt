@@ -1,8 +1,7 @@
 //! What executions do to one object.
 
 ghost use Rattle.std.specs.Prelude.{◌≡◌, IfSome};
-ghost use Rattle.aud_object.specs.Objects.{is_observing};
-ghost use Rattle.aud_first.specs.Deeds.{deed_of, idle, is_end, is_enq, is_flag, is_get, is_of_queue, led_by, move_of, net, on_one, read_by, taken_by, value_of, written_by};
+ghost use Rattle.aud_first.specs.Deeds.{deed_of, idle, is_end, is_enq, is_flag, is_get, is_of_map, is_of_queue, led_by, move_of, net, on_one, reach, reach_by, read_by, taken_by, value_of, written_by};
 
 use aud_event::{Answer, Op};
 use aud_object::Execution;
@@ -22,12 +21,16 @@ pub struct Deed {
     pub adds: bool,
     /// Whether they find a queue empty.
     pub ends: bool,
-    /// Whether one is answered by a flag, as a set does.
+    /// Whether one looks for a member of a set, and is answered by a flag.
     pub flags: bool,
+    /// Whether one is an operation of a map.
+    pub keys: bool,
     /// Whether they leave the object as it is, whatever it holds.
     pub quiet: bool,
     /// Whether all are operations of a queue.
     pub queues: bool,
+    /// Whether all are operations of a map.
+    pub maps: bool,
 }
 
 /// The value that is read before any is written, where the operation comes before others.
@@ -102,22 +105,22 @@ fn is_of_queue(op: Op) -> bool
     }
 }
 
-/// Whether the answer is a set's.
-fn is_flag(answer: Answer) -> bool
-    ensures { result ≡ is_flag answer }
+/// Whether the operation is a map's.
+fn is_of_map(op: Op) -> bool
+    ensures { result ≡ is_of_map op }
 {
-    match answer {
-        Answer::Flag(_) => true,
+    match op {
+        Op::Put(_, _) | Op::Look(_) | Op::Del(_) => true,
         _ => false,
     }
 }
 
-/// Whether the operation leaves every state as it is.
-pub(crate) fn is_observing(op: Op) -> bool
-    ensures { result ≡ is_observing op }
+/// Whether the operation looks for a member of a set, and is answered by a flag.
+fn is_flag(op: Op, answer: Answer) -> bool
+    ensures { result ≡ is_flag op answer }
 {
-    match op {
-        Op::Read | Op::Get | Op::Contains(_) => true,
+    match (op, answer) {
+        (Op::Add(_) | Op::Remove(_) | Op::Contains(_), Answer::Flag(_)) => true,
         _ => false,
     }
 }
@@ -135,8 +138,10 @@ impl Deed {
             adds: false,
             ends: false,
             flags: false,
+            keys: false,
             quiet: true,
             queues: true,
+            maps: true,
         }
     }
 
@@ -151,9 +156,11 @@ impl Deed {
             taken: taken_by(op, answer, self.taken),
             adds: is_enq(op) || self.adds,
             ends: is_end(op, answer) || self.ends,
-            flags: is_flag(answer) || self.flags,
-            quiet: (is_observing(op) || is_end(op, answer)) && self.quiet,
+            flags: is_flag(op, answer) || self.flags,
+            keys: is_of_map(op) || self.keys,
+            quiet: (op.observes() || is_end(op, answer)) && self.quiet,
             queues: is_of_queue(op) && self.queues,
+            maps: is_of_map(op) && self.maps,
         }
     }
 
@@ -181,6 +188,7 @@ fn move_of(op: Op) -> i64
     match op {
         Op::Inc => 1,
         Op::Dec => -1,
+        Op::Plus(addend) => addend,
         _ => 0,
     }
 }
@@ -199,4 +207,28 @@ pub(crate) fn net_of(executions: &[Execution], object: u16) -> Option<i64>
         }
     }
     Some(by)
+}
+
+/// How far the operation moves a counter, up or down.
+fn reach_by(op: Op) -> u64
+    ensures { result ≡ reach_by op }
+{
+    match op {
+        Op::Inc | Op::Dec => 1,
+        Op::Plus(addend) => addend.unsigned_abs(),
+        _ => 0,
+    }
+}
+
+/// How far the executions can move counters, all together, if that is a number.
+pub(crate) fn reach_of(executions: &[Execution]) -> Option<u64>
+    ensures { IfSome result (λ far. far ≡ reach executions.now) }
+{
+    let mut far: u64 = 0;
+    let mut place = executions.len();
+    while place > 0 {
+        place -= 1;
+        far = reach_by(executions[place].op).checked_add(far)?;
+    }
+    Some(far)
 }

@@ -2,18 +2,19 @@
 
 ghost use Rattle.std.specs.Prelude.{◌≡◌, ◌<◌, ℕ, IsTrue, IfOk, IfSome, Some, true, false, length, map, slice_get, slice_index_or};
 ghost use Rattle.aud_object.specs.declared.execution.Execution.{Execution};
-ghost use Rattle.aud_object.specs.Objects.{is_observing};
+ghost use Rattle.aud_event.specs.Objects.{is_observing};
 ghost use Rattle.aud_history.specs.Table.{RowOf, table_of};
 ghost use Rattle.aud_witness.specs.declared.decision.Fate.TheVariants.{A};
 ghost use Rattle.aud_witness.specs.Spots.{is_ended, status_allows};
 ghost use Rattle.aud_order.specs.Shapes.{history_of};
 ghost use Rattle.aud_order.specs.Cursors.{transaction_at};
 ghost use Rattle.aud_first.specs.Deeds.{deed_of, on_one};
-ghost use Rattle.aud_first.specs.Exchanges.{executions_in, IsEnough};
+ghost use Rattle.aud_first.specs.Exchanges.{reach_in, IsEnough};
 ghost use Rattle.aud_first.specs.Tests.{deed_on, may_precede, AreColumns, AreSuited, AreUses, IsSuited, LetAll, Lets};
 
-use crate::deed::{Deed, is_observing};
-use crate::uses::{Use, uses_of};
+use crate::column::{Column, columns_of};
+use crate::deed::{Deed, reach_of};
+use crate::uses::Use;
 use crate::way::{Way, follows, hidden, passes, way_of};
 use aud_event::OutOfMemory;
 use aud_history::{Status, TxRow};
@@ -31,8 +32,8 @@ const OBJECTS: usize = 256;
 #[derive(Drop)]
 pub struct First<'a, A: Allocator + Copy = Global> {
     shape: &'a Shape<A>,
-    total: Option<usize>,
-    columns: Vec<Vec<Use, A>, A>,
+    total: Option<u64>,
+    columns: Vec<Column<A>, A>,
 }
 
 impl<'a, A: Allocator + Copy> Model for First<'a, A> {
@@ -45,7 +46,7 @@ impl<'a, A: Allocator + Copy> Model for First<'a, A> {
 
     ghost view = { λ f. f.shape.now };
 
-    ghost invariant = { λ f. AreSummed (table_of (history_of f.shape.now)) f.total (map (λ c. c.items) f.columns.items) };
+    ghost invariant = { λ f. AreSummed (table_of (history_of f.shape.now)) f.total (map (λ c. c.uses.items) f.columns.items) };
 }
 
 /// Whether a transaction of the status is committed or aborted.
@@ -169,7 +170,7 @@ fn is_suited<A: Allocator + Copy>(
     own: usize,
     object: u16,
     uses: &[Use],
-    total: usize,
+    total: u64,
 ) -> bool
     requires inside { own < length rows.now }
     requires uses { AreUses rows.now object (length rows.now) uses.now }
@@ -198,15 +199,15 @@ fn is_suited_on<A: Allocator + Copy>(
     placed: &Marks<A>,
     own: usize,
     object: u16,
-    columns: &[Vec<Use, A>],
-    total: usize,
+    columns: &[Column<A>],
+    total: u64,
 ) -> bool
     requires inside { own < length rows.now }
-    requires columns { AreColumns rows.now (map (λ c. c.items) columns.now) }
+    requires columns { AreColumns rows.now (map (λ c. c.uses.items) columns.now) }
     ensures { IsTrue result → (t : RowOf) → slice_get rows.now own ≡ Some t → IsSuited object total store.now.now rows.now placed.now own t }
 {
     match columns.get(object as usize) {
-        Some(column) => is_suited(store, rows, placed, own, object, column, total),
+        Some(column) => is_suited(store, rows, placed, own, object, &column.uses, total),
         None => false,
     }
 }
@@ -218,15 +219,15 @@ fn is_suited_at<A: Allocator + Copy>(
     placed: &Marks<A>,
     own: usize,
     x: Execution,
-    columns: &[Vec<Use, A>],
-    total: usize,
+    columns: &[Column<A>],
+    total: u64,
 ) -> bool
     requires inside { own < length rows.now }
-    requires columns { AreColumns rows.now (map (λ c. c.items) columns.now) }
+    requires columns { AreColumns rows.now (map (λ c. c.uses.items) columns.now) }
     ensures { IsTrue result → is_observing x.op ≡ false → (t : RowOf) → slice_get rows.now own ≡ Some t →
         IsSuited x.object total store.now.now rows.now placed.now own t }
 {
-    is_observing(x.op) || is_suited_on(store, rows, placed, own, x.object, columns, total)
+    x.op.observes() || is_suited_on(store, rows, placed, own, x.object, columns, total)
 }
 
 /// Whether it changes each object in such a way.
@@ -235,11 +236,11 @@ fn is_harmless<A: Allocator + Copy>(
     rows: &[TxRow<A>],
     placed: &Marks<A>,
     own: usize,
-    columns: &[Vec<Use, A>],
-    total: usize,
+    columns: &[Column<A>],
+    total: u64,
 ) -> bool
     requires inside { own < length rows.now }
-    requires columns { AreColumns rows.now (map (λ c. c.items) columns.now) }
+    requires columns { AreColumns rows.now (map (λ c. c.uses.items) columns.now) }
     ensures { IsTrue result → (t : RowOf) → slice_get rows.now own ≡ Some t → AreSuited total store.now.now rows.now placed.now own t }
 {
     let executions = rows[own].block().executions();
@@ -251,42 +252,27 @@ fn is_harmless<A: Allocator + Copy>(
     true
 }
 
-/// How many executions the rows have, if that is a number.
-fn count_all<A: Allocator>(rows: &[TxRow<A>]) -> Option<usize>
-    ensures { IfSome result (λ count. count ≡ executions_in rows.now) }
+/// How far the rows can move counters, if that is a number.
+fn reach_in<A: Allocator>(rows: &[TxRow<A>]) -> Option<u64>
+    ensures { IfSome result (λ far. far ≡ reach_in rows.now) }
 {
-    let mut count: usize = 0;
+    let mut far: u64 = 0;
     for row in rows {
-        count = count.checked_add(row.block().executions().len())?;
+        far = far.checked_add(reach_of(row.block().executions())?)?;
     }
-    Some(count)
-}
-
-/// The uses of each of so many objects by the rows.
-fn columns_of<A: Allocator + Copy>(
-    alloc: A,
-    rows: &[TxRow<A>],
-    count: u16,
-) -> Result<Vec<Vec<Use, A>, A>, OutOfMemory>
-    ensures { IfOk result (λ columns. AreColumns rows.now (map (λ c. c.items) columns.items)) }
-{
-    let mut columns = Vec::new(alloc);
-    for object in 0..count {
-        columns.push(uses_of(alloc, rows, object)?)?;
-    }
-    Ok(columns)
+    Some(far)
 }
 
 impl<'a, A: Allocator + Copy> First<'a, A> {
-    /// What the transactions of the shape do. For m transactions and k objects it costs the time of k passes over all executions,
-    /// and memory for one use of an object by a transaction each.
+    /// What the transactions of the shape do. Each costs the time of a pass over its executions for each object that it is on, and
+    /// memory for one use of each of these.
     pub fn of(alloc: A, shape: &'a Shape<A>) -> Result<First<'a, A>, OutOfMemory>
         ensures { IfOk result (λ first. first ≡ shape.entry.now) }
     {
         let rows = shape.table().rows();
         let count = shape.plan().objects().len().min(OBJECTS) as u16;
         let columns = columns_of(alloc, rows, count)?;
-        let total = count_all(rows);
+        let total = reach_in(rows);
         Ok(First {
             shape,
             total,

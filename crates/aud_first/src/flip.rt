@@ -30,11 +30,11 @@ fn left_by(op: Op, value: i64) -> Option<bool>
 }
 
 /// The first of two, where there is one.
-fn first_of_two(first: Option<bool>, rest: Option<bool>) -> Option<bool>
+pub(crate) fn first_of_two<T: Copy>(first: Option<T>, rest: Option<T>) -> Option<T>
     ensures { result ≡ first_of_two first rest }
 {
     match first {
-        Some(flag) => Some(flag),
+        Some(found) => Some(found),
         None => rest,
     }
 }

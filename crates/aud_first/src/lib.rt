@@ -1,7 +1,9 @@
 #![tactic(auto)]
 //! Transactions that may be placed at once, though they change objects.
 
+mod column;
 mod deed;
+mod entry;
 mod first;
 mod flip;
 pub mod laws;

@@ -10,7 +10,8 @@ ghost use Rattle.aud_witness.specs.declared.decision.Fate.TheVariants.{C};
 ghost use Rattle.aud_first.specs.Deeds.{deed_of, on_one};
 ghost use Rattle.aud_first.specs.Ways.{Fits, Follows, HasRoom, LeavesNow, Passes};
 
-use crate::deed::{Deed, net_of};
+use crate::deed::{Deed, net_of, reach_of};
+use crate::entry::avoids_all;
 use crate::flip::sees_none_flipped;
 use aud_event::Answer;
 use aud_object::{Execution, Number};
@@ -28,6 +29,8 @@ pub enum Way {
     Shifts(i64),
     /// It changes members of a set.
     Flips,
+    /// It changes what is under keys of a map.
+    Enters,
     /// It takes values from a queue, this one first.
     Takes(i64),
     /// It adds values to a queue.
@@ -37,20 +40,22 @@ pub enum Way {
 /// Far from the ends of a counter's range.
 const FAR: i64 = 1 << 60;
 
-/// Whether a counter may be moved so often, then by so much, and so often again.
-fn has_room(now: i64, by: i64, count: usize, total: usize) -> bool
-    ensures before { IsTrue result → HasRoom now (count + total) }
+/// Whether a counter may be moved as far as the own executions and all others reach, and once it was moved by so much, as far as
+/// the others.
+fn has_room(now: i64, by: i64, own: u64, total: u64) -> bool
+    ensures before { IsTrue result → HasRoom now (own + total) }
     ensures after { IsTrue result → HasRoom (now +ℤ by) total }
 {
-    -FAR < now && now < FAR && -FAR < by && by < FAR && count < FAR as usize && total < FAR as usize
+    -FAR < now && now < FAR && -FAR < by && by < FAR && own < FAR as u64 && total < FAR as u64
 }
 
 /// How the executions move a counter.
-fn shifts(now: i64, executions: &[Execution], object: u16, total: usize) -> Option<Way>
+fn shifts(now: i64, executions: &[Execution], object: u16, total: u64) -> Option<Way>
     ensures { IfSome result (λ way. Fits way (on_one object executions.now) total (counter now)) }
 {
     let by = net_of(executions, object)?;
-    if !has_room(now, by, executions.len(), total) {
+    let own = reach_of(executions)?;
+    if !has_room(now, by, own, total) {
         return None;
     }
     Some(Way::Shifts(by))
@@ -65,19 +70,20 @@ fn fills(deed: &Deed) -> Option<Way>
     }
     match deed.taken {
         None if deed.queues => Some(Way::Adds),
+        None if deed.maps => Some(Way::Enters),
         Some(Answer::Int(front)) if !deed.adds && !deed.ends => Some(Way::Takes(front)),
         _ => None,
     }
 }
 
 /// In which way the executions change the object, which has the number if it is a register or a counter, so that it may be
-/// changed at once; the total bounds how many executions are still to come.
+/// changed at once; the total bounds how far what is still to come can move it.
 pub(crate) fn way_of(
     number: Option<Number>,
     deed: &Deed,
     executions: &[Execution],
     object: u16,
-    total: usize,
+    total: u64,
 ) -> Option<Way>
     requires { deed.now ≡ deed_of (on_one object executions.now) }
     ensures { IfSome result (λ way. (s : ObjState) → number ≡ number_in s → Fits way (on_one object executions.now) total s) }
@@ -157,6 +163,7 @@ pub(crate) fn passes(
         Way::Hides(now, then) => now == then || reads_else(deed, now),
         Way::Shifts(by) => by == 0 || !deed.gets,
         Way::Flips => !deed.flags || sees_none_flipped(own, executions, object),
+        Way::Enters => !deed.keys || avoids_all(own, executions, object),
         Way::Takes(front) => takes_else(deed, front),
         Way::Adds => { (!deed.adds && !deed.ends) || (!may_commit && deed.taken.is_none()) }
     }

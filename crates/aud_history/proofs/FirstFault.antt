@@ -1,6 +1,7 @@
 -- One more event: when a history stays well-formed.
 use Rattle.std.proofs.Common.{◌≡◌, ℕ, false, cond, nat_eq, ◌<◌, get_or, set, take, drop, replicate, ◌≤◌, ◌+◌, inl, inr, List, [], ◌∷◌, ◌++◌, length, Result, Ok, Err, refl, sym, ◌∙◌, ap, subst, append_assoc, arith, length-set, get_or-set_same, get_or-set_other, length-take, ◌≢◌, IsOk, ◌↔◌}
 use Rattle.aud_event.specs.declared.fact.Event.{Event}
+use Rattle.aud_event.specs.Limits.{most_transactions}
 use Rattle.aud_history.specs.declared.rule.Rule.{Rule}
 use Rattle.aud_history.specs.declared.state.TxState.{TxState}
 use Rattle.aud_history.specs.declared.state.TxState.TheVariants.{Idle}
@@ -10,7 +11,7 @@ use Rattle.aud_history.specs.ByState.{after, run, Passes}
 use Rattle.std.proofs.lemmas.List.{take_all, get_or-replicate, take-append-drop, take_more, append-nil}
 use Rattle.std.proofs.lemmas.Bool.Decides.{nat_tests}
 use Rattle.aud_history.specs.FirstFault.{IsFirstFault}
-use Rattle.aud_event.proofs.Bools.{split, nat_eq-refl, nat_eq-is}
+use Rattle.aud_base.proofs.Bools.{split, nat_eq-refl, nat_eq-is}
 use Rattle.aud_history.proofs.StateTable.{Continues-from_Passes, Passes-from_IsTransaction}
 use Rattle.aud_history.proofs.Events.{events_of-append}
 
@@ -76,11 +77,11 @@ not_IsWellFormed-push h e rule own fine =
 
 -- what the loop knows: the beginning is well-formed, and the state of each transaction after it
 pub record Reads (h : History) (states : List TxState) : Type 0 where
-  pub size : length states ≡ 1024
+  pub size : length states ≡ most_transactions
   pub fine : IsWellFormed h
-  pub known : (t : ℕ) → t < 1024 → run Idle (events_of t h) ≡ Ok (get_or states t Idle)
+  pub known : (t : ℕ) → t < most_transactions → run Idle (events_of t h) ≡ Ok (get_or states t Idle)
 
-module _ (h : History) (states : List TxState) (i : ℕ) (d : ℕ × Event) (inside : i < length h) (small : (get_or h i d).0 < 1024) (reads : Reads (take i h) states) where
+module _ (h : History) (states : List TxState) (i : ℕ) (d : ℕ × Event) (inside : i < length h) (small : (get_or h i d).0 < most_transactions) (reads : Reads (take i h) states) where
   own_run : run Idle (events_of (get_or h i d).0 (take i h ++ get_or h i d ∷ [])) ≡ after (get_or states (get_or h i d).0 Idle) (get_or h i d).1
   own_run =
       subst (λ es. run Idle es ≡ after (get_or states (get_or h i d).0 Idle) (get_or h i d).1) (sym (events_of-own (take i h) (get_or h i d)))
@@ -114,11 +115,11 @@ module _ (h : History) (states : List TxState) (i : ℕ) (d : ℕ × Event) (ins
             ];
       })
 
-pub all_idle : Reads [] (replicate 1024 Idle)
+pub all_idle : Reads [] (replicate most_transactions Idle)
 all_idle = record {
   size = refl;
   fine = IsWellFormed-empty;
-  known = λ t below. ap Ok (sym (get_or-replicate 1024 t Idle Idle below));
+  known = λ t below. ap Ok (sym (get_or-replicate most_transactions t Idle Idle below));
 }
 
 pub read_all : (h : History) (states : List TxState) (i : ℕ) → length h ≤ i → Reads (take i h) states → IsWellFormed h

@@ -1,40 +1,24 @@
 -- The table of states agrees with the definition by `O F`.
-use Rattle.std.proofs.Common.{◌≡◌, ℕ, Bool, true, false, ◌&&◌, nat_eq, List, [], ◌∷◌, ◌++◌, get_or, cond, arith, refl, sym, ◌∙◌, ap, Result, Ok, Err}
+use Rattle.std.proofs.Common.{◌≡◌, ℕ, Bool, true, false, ◌&&◌, nat_eq, List, [], ◌∷◌, ◌++◌, cond, arith, refl, sym, ◌∙◌, ap, Result, Ok, Err}
 use Rattle.std.proofs.lemmas.Bool.Decides.{nat_tests}
 use Rattle.aud_history.specs.declared.rule.Rule.{Rule}
 use Rattle.aud_history.specs.declared.rule.Rule.TheVariants.{RetMismatch}
 use Rattle.aud_event.specs.declared.object.Op.{Op}
 use Rattle.aud_event.specs.declared.object.OpName.{OpName}
-use Rattle.aud_event.specs.declared.object.OpName.TheVariants as word
 use Rattle.aud_event.specs.declared.object.Answer.{Answer}
 use Rattle.aud_event.specs.declared.fact.Event.{Event}
 use Rattle.aud_event.specs.declared.fact.Event.TheVariants.{Inv, Ret, TryC, TryA, Commit, Abort}
 use Rattle.aud_event.specs.Objects.{name_of}
+use Rattle.aud_event.specs.Words.{word_of_op}
+use Rattle.aud_base.proofs.Bools.{and_true, true_and, nat_eq-refl}
+use Rattle.aud_event.proofs.Names.{bytes_eq-refl}
+use Rattle.aud_event.proofs.Rows.{same-from_words}
+use Rattle.std.specs.Prelude.{bytes_eq}
 use Rattle.aud_object.specs.Executions.{AreExecutions, no_execution, execution}
 use Rattle.aud_history.specs.WellFormed.{IsEnding, invocation_aborted, aborted_by_itself, committed, commit_refused, IsTransaction}
 use Rattle.aud_history.specs.declared.state.TxState.{TxState}
 use Rattle.aud_history.specs.declared.state.TxState.TheVariants.{Idle, Pending, TriedCommit, TriedAbort, Ended}
-use Rattle.aud_history.specs.ByState.{number_of, is_match, after, Passes}
-
--- the numbers tell the operations apart
-abbrev name_at : ℕ → OpName
-name_at n =
-    get_or (word.Read ∷ word.Write ∷ word.Inc ∷ word.Dec ∷ word.Get ∷ word.Add ∷ word.Remove ∷ word.Contains ∷ word.Enq ∷ []) n word.Deq
-
-name_at-number_of : (name : OpName) → name_at (number_of name) ≡ name
-name_at-number_of word.Read = refl
-name_at-number_of word.Write = refl
-name_at-number_of word.Inc = refl
-name_at-number_of word.Dec = refl
-name_at-number_of word.Get = refl
-name_at-number_of word.Add = refl
-name_at-number_of word.Remove = refl
-name_at-number_of word.Contains = refl
-name_at-number_of word.Enq = refl
-name_at-number_of word.Deq = refl
-
-pub number_of-same : (a b : OpName) → number_of a ≡ number_of b → a ≡ b
-number_of-same a b e = sym (name_at-number_of a) ∙ ap name_at e ∙ name_at-number_of b
+use Rattle.aud_history.specs.ByState.{is_match, after, Passes}
 
 -- what a transaction that is in a state may still do
 abbrev Continues : TxState → List Event → Type 0
@@ -64,11 +48,10 @@ passes_matched false es e h = absurd (cc)
 pub matched : (ob : ℕ) (op : Op) (o : ℕ) (name : OpName) → is_match ob op o name ≡ true → (o ≡ ob) × (name ≡ name_of op)
 matched ob op o name h =
     let e : o ≡ ob = grind (arith, nat_tests) in
-    let n : number_of name ≡ number_of (name_of op) = grind (arith, nat_tests) in
-    (e, number_of-same name (name_of op) n)
+    (e, same-from_words name (name_of op) (and_true (nat_eq o ob) (bytes_eq (word_of_op name) (word_of_op (name_of op))) h).1)
 
-matched-back : (ob : ℕ) (name : OpName) → (nat_eq ob ob && nat_eq (number_of name) (number_of name)) ≡ true
-matched-back ob name = grind (arith, nat_tests)
+matched-back : (ob : ℕ) (name : OpName) → (nat_eq ob ob && bytes_eq (word_of_op name) (word_of_op name)) ≡ true
+matched-back ob name = true_and (nat_eq ob ob) (bytes_eq (word_of_op name) (word_of_op name)) (nat_eq-refl ob) (bytes_eq-refl (word_of_op name))
 
 -- a transaction whose events break no rule is a beginning of `O F`
 pub Continues-from_Passes : (s : TxState) (es : List Event) → Passes s es → Continues s es

@@ -1,11 +1,11 @@
 -- Well-formedness by states: what each next event of a transaction does to its state, or which rule it breaks.
-use Rattle.std.specs.Prelude.{ℕ, Bool, ◌&&◌, if◌then◌else◌, nat_eq, List, [], ◌∷◌, Result, Ok, Err}
+use Rattle.std.specs.Prelude.{ℕ, Bool, ◌&&◌, if◌then◌else◌, nat_eq, bytes_eq, List, [], ◌∷◌, Result, Ok, Err}
 use Rattle.aud_event.specs.declared.object.Op.{Op}
 use Rattle.aud_event.specs.declared.object.OpName.{OpName}
-use Rattle.aud_event.specs.declared.object.OpName.TheVariants as word
 use Rattle.aud_event.specs.declared.fact.Event.{Event}
 use Rattle.aud_event.specs.declared.fact.Event.TheVariants.{Inv, Ret, TryC, TryA, Commit, Abort}
 use Rattle.aud_event.specs.Objects.{name_of}
+use Rattle.aud_event.specs.Words.{word_of_op}
 use Rattle.aud_history.specs.declared.state.TxState.{TxState}
 use Rattle.aud_history.specs.declared.state.TxState.TheVariants.{Idle, Pending, TriedCommit, TriedAbort, Ended}
 use Rattle.aud_history.specs.declared.rule.Rule.{Rule}
@@ -22,22 +22,9 @@ rule_number AfterTry = 6
 rule_number CommitWithoutTry = 7
 rule_number AbortWithoutCause = 8
 
--- the operations, numbered: two are the same exactly if their numbers are
-abbrev pub number_of : OpName → ℕ
-number_of word.Read = 0
-number_of word.Write = 1
-number_of word.Inc = 2
-number_of word.Dec = 3
-number_of word.Get = 4
-number_of word.Add = 5
-number_of word.Remove = 6
-number_of word.Contains = 7
-number_of word.Enq = 8
-number_of word.Deq = 9
-
--- a response is that of the pending invocation: on its object, of its operation
+-- a response is that of the pending invocation: on its object, with the word of its operation
 abbrev pub is_match : ℕ → Op → ℕ → OpName → Bool
-is_match ob op o name = nat_eq o ob && nat_eq (number_of name) (number_of (name_of op))
+is_match ob op o name = nat_eq o ob && bytes_eq (word_of_op name) (word_of_op (name_of op))
 
 -- what an event does to a state, or the rule that it breaks there
 abbrev pub after : TxState → Event → Result TxState Rule

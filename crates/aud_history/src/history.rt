@@ -40,7 +40,7 @@ fn all_idle() -> [TxState; TRANSACTIONS as usize]
 fn fits<A: Allocator>(plan: &Plan<A>, entry: &(u32, Event)) -> bool
     ensures { IsTrue result ↔ FitsPlan plan.now entry.now }
 {
-    entry.0 < TRANSACTIONS && entry.1.fault(plan).is_none()
+    entry.0 < plan.format().transactions() && entry.1.fault(plan).is_none()
 }
 
 fn all_fit<A: Allocator>(plan: &Plan<A>, events: &[(u32, Event)]) -> bool

@@ -7,7 +7,6 @@ pub mod Least
 pub mod Covers
 pub mod Marks
 pub mod Norms
-pub mod FactRank
 pub mod Walks
 pub mod Paths
 pub mod Places

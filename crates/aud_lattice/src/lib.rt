@@ -25,7 +25,7 @@ mod tree;
 mod trie;
 mod union_set;
 
-use aud_event::OutOfMemory;
+use aud_base::OutOfMemory;
 pub use cover::Cover;
 pub use groupings::{joined, joined_both_ways};
 pub use iter::Iter;
@@ -33,7 +33,6 @@ pub use least::Least;
 pub use mark::Mark;
 pub use pair::Pair;
 pub use place::Place;
-pub use ranked::Rank;
 pub use row::Row;
 pub use trie::Trie;
 pub use union_set::UnionSet;

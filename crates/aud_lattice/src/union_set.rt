@@ -10,9 +10,9 @@ use crate::Lattice;
 use crate::bulk::{arranged, tree_of};
 use crate::iter::{Iter, all_of};
 use crate::merge::{joined, same, without};
-use crate::ranked::{Rank, ranked};
+use crate::ranked::ranked;
 use crate::tree::{Link, contains, count, shared, with};
-use aud_event::{Dup, Key, OutOfMemory};
+use aud_base::{Dup, Key, OutOfMemory, Rank};
 use std::alloc::{Allocator, Global};
 use std::marker::Model;
 

@@ -8,7 +8,7 @@ use Rattle.std.proofs.lemmas.Nat.Bits.{bit_at-zero, bit_at_above, bit_at-trailin
 use Rattle.std.proofs.lemmas.List.{get_or-set_same, get_or-set_other, get_or-replicate, length-replicate}
 use Rattle.std.proofs.lemmas.Grind.{get_or_default_zero}
 use Rattle.std.proofs.lemmas.Bool.Decides.{nat_tests}
-use Rattle.aud_event.proofs.Bools.{split, nat_eq-refl, nat_eq-is}
+use Rattle.aud_base.proofs.Bools.{split, nat_eq-refl, nat_eq-is}
 use Rattle.aud_marks.specs.Marked.{is_marked, marks_from, marks_of, IsBitWritten, IsNextOfWord, IsNextMark}
 
 pub length-marks_from : (words : List ℕ) (place count : ℕ) → length (marks_from words place count) ≡ count

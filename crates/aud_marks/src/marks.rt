@@ -3,7 +3,7 @@
 ghost use Rattle.std.specs.Prelude.{◌≡◌, ◌↔◌, ◌<◌, true, false, length, replicate, IsTrue, IfOk, slice_set, slice_index_or};
 ghost use Rattle.aud_marks.specs.Marked.{is_marked, marks_of, IsBitWritten, IsNextMark, IsNextOfWord};
 
-use aud_event::{Dup, OutOfMemory};
+use aud_base::{Dup, OutOfMemory};
 use std::alloc::{Allocator, Global};
 use std::marker::Model;
 

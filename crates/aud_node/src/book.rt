@@ -81,10 +81,11 @@ pub trait Fleet {
 
 impl Fleet for Brand {
     ghost use Rattle.std.specs.Prelude.{[]};
+    ghost use Rattle.aud_event.specs.Plans.{empty_plan};
 
     ghost book = { λ _. record { number = 0; log_name = 0; cells_name = 0 } };
 
-    ghost plan = { λ _. record { logs = 0; objects = [] } };
+    ghost plan = { λ _. empty_plan };
 }
 
 /// The word that all threads share: the length of the history of the node of the number.

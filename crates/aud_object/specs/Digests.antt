@@ -2,7 +2,7 @@
 use Rattle.std.specs.Prelude.{ℕ, ℤ, ◌*◌, ◌/◌, ◌%◌, ◌^◌, List, [], ◌∷◌}
 use Rattle.std.specs.Int.Bits.{bit_xor}
 use Rattle.std.specs.Int.{w64, cast_unsigned}
-use Rattle.aud_object.specs.Objects.{ObjState, register, counter, set_of, queue}
+use Rattle.aud_object.specs.Objects.{ObjState, register, counter, set_of, queue, map_of}
 
 -- one more word of a digest
 unfoldable pub stirred : ℕ → ℕ → ℕ
@@ -13,9 +13,15 @@ abbrev pub digest_values : ℕ → List ℤ → ℕ
 digest_values digest [] = digest
 digest_values digest (v ∷ vs) = digest_values (stirred digest (cast_unsigned w64 v)) vs
 
+-- more entries of a digest: of each its key, and its value as the kind stirs values
+abbrev pub digest_entries : {V : Type 0} → (ℕ → V → ℕ) → ℕ → List (ℤ × V) → ℕ
+digest_entries stirs digest [] = digest
+digest_entries stirs digest (e ∷ es) = digest_entries stirs (stirs (stirred digest (cast_unsigned w64 e.0)) e.1) es
+
 -- of one object
 abbrev pub digest_of : ObjState → ℕ
 digest_of (register v) = stirred 1 (cast_unsigned w64 v)
 digest_of (counter v) = stirred 2 (cast_unsigned w64 v)
 digest_of (set_of s) = digest_values 3 s
 digest_of (queue q) = digest_values 4 q
+digest_of (map_of m) = digest_entries (λ digest v. stirred digest (cast_unsigned w64 v)) 5 m

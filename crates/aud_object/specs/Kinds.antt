@@ -1,13 +1,14 @@
--- The laws of an implementation of a kind of objects, and that the four kinds keep them.
-use Rattle.std.specs.Prelude.{◌≡◌, ℤ, true, List, [], ◌∷◌}
+-- The laws of an implementation of a kind of objects, and that the kinds keep them.
+use Rattle.std.specs.Prelude.{◌≡◌, ℤ, true, List, [], ◌∷◌, Option, Some, None}
 use Rattle.std.proofs.Common.{refl}
 use Rattle.aud_event.specs.declared.object.ObjKind.{ObjKind}
 use Rattle.aud_event.specs.declared.object.ObjKind.TheVariants as kind
 use Rattle.aud_event.specs.declared.object.Op.{Op}
-use Rattle.aud_event.specs.declared.object.Op.TheVariants.{Read, Write, Inc, Dec, Get, Add, Remove, Contains, Enq, Deq}
-use Rattle.aud_event.specs.Objects.{name_of, is_of_kind, is_answer_of}
-use Rattle.aud_object.specs.Objects.{ObjState, register, counter, set_of, queue, answer_of, after_op, is_observing, front_of}
-use Rattle.aud_object.specs.Keeps.{Flags, members, ItemsOf, items_in}
+use Rattle.aud_event.specs.declared.object.Op.TheVariants.{Read, Write, Inc, Dec, Get, Add, Remove, Contains, Enq, Deq, Plus, Put, Look, Del}
+use Rattle.aud_event.specs.Objects.{name_of, is_of_kind, is_answer_of, is_observing}
+use Rattle.aud_object.specs.Objects.{ObjState, register, counter, set_of, queue, map_of, answer_of, after_op, front_of, found}
+use Rattle.aud_object.specs.Entries.{value_at}
+use Rattle.aud_object.specs.Keeps.{Slots, members, entries_in, ItemsOf, items_in}
 
 -- every operation of the kind has, in every state, an answer that its name can have
 abbrev pub HasAnswers : {S : Type 0} → ObjKind → (S → ObjState) → Type 0
@@ -17,40 +18,55 @@ HasAnswers {S} k means = (s : S) (op : Op) → is_of_kind k (name_of op) ≡ tru
 abbrev pub StaysPut : {S : Type 0} → (S → ObjState) → Type 0
 StaysPut {S} means = (s : S) (op : Op) → is_observing op ≡ true → after_op (means s) op ≡ means s
 
+pub observing_stays : (s : ObjState) (op : Op) → is_observing op ≡ true → after_op s op ≡ s
+observing_stays (register v) Read h = refl
+observing_stays (register v) Get h = refl
+observing_stays (register v) (Contains w) h = refl
+observing_stays (register v) (Look k) h = refl
+observing_stays (counter n) Read h = refl
+observing_stays (counter n) Get h = refl
+observing_stays (counter n) (Contains w) h = refl
+observing_stays (counter n) (Look k) h = refl
+observing_stays (set_of s) Read h = refl
+observing_stays (set_of s) Get h = refl
+observing_stays (set_of s) (Contains w) h = refl
+observing_stays (set_of s) (Look k) h = refl
+observing_stays (queue q) Read h = refl
+observing_stays (queue q) Get h = refl
+observing_stays (queue q) (Contains w) h = refl
+observing_stays (queue q) (Look k) h = refl
+observing_stays (map_of m) Read h = refl
+observing_stays (map_of m) Get h = refl
+observing_stays (map_of m) (Contains w) h = refl
+observing_stays (map_of m) (Look k) h = refl
+observing_stays _ _ h = cc
+
 pub register_answers : HasAnswers kind.Register register
 register_answers s Read h = refl
 register_answers s (Write v) h = refl
 register_answers s _ h = cc
 
 pub register_stays : StaysPut register
-register_stays s Read h = refl
-register_stays s Get h = refl
-register_stays s (Contains v) h = refl
-register_stays s _ h = cc
+register_stays s op h = observing_stays (register s) op h
 
 pub counter_answers : HasAnswers kind.Counter counter
 counter_answers s Inc h = refl
 counter_answers s Dec h = refl
 counter_answers s Get h = refl
+counter_answers s (Plus k) h = refl
 counter_answers s _ h = cc
 
 pub counter_stays : StaysPut counter
-counter_stays s Read h = refl
-counter_stays s Get h = refl
-counter_stays s (Contains v) h = refl
-counter_stays s _ h = cc
+counter_stays s op h = observing_stays (counter s) op h
 
-pub set_answers : HasAnswers {S = Flags} kind.SetOf (λ s. set_of (members s))
+pub set_answers : HasAnswers {S = Slots (Unit {0})} kind.SetOf (λ s. set_of (members s))
 set_answers s (Add v) h = refl
 set_answers s (Remove v) h = refl
 set_answers s (Contains v) h = refl
 set_answers s _ h = cc
 
-pub set_stays : StaysPut {S = Flags} (λ s. set_of (members s))
-set_stays s Read h = refl
-set_stays s Get h = refl
-set_stays s (Contains v) h = refl
-set_stays s _ h = cc
+pub set_stays : StaysPut {S = Slots (Unit {0})} (λ s. set_of (members s))
+set_stays s op h = observing_stays (set_of (members s)) op h
 
 front_answers : (q : List ℤ) → is_answer_of (name_of Deq) (front_of q) ≡ true
 front_answers [] = refl
@@ -62,7 +78,17 @@ queue_answers s Deq h = front_answers (items_in s)
 queue_answers s _ h = cc
 
 pub queue_stays : StaysPut {S = ItemsOf} (λ q. queue (items_in q))
-queue_stays s Read h = refl
-queue_stays s Get h = refl
-queue_stays s (Contains v) h = refl
-queue_stays s _ h = cc
+queue_stays s op h = observing_stays (queue (items_in s)) op h
+
+look_answers : (k : ℤ) (o : Option ℤ) → is_answer_of (name_of (Look k)) (found o) ≡ true
+look_answers k None = refl
+look_answers k (Some v) = refl
+
+pub map_answers : HasAnswers {S = Slots ℤ} kind.MapOf (λ s. map_of (entries_in s))
+map_answers s (Put k v) h = refl
+map_answers s (Look k) h = look_answers k (value_at (entries_in s) k)
+map_answers s (Del k) h = refl
+map_answers s _ h = cc
+
+pub map_stays : StaysPut {S = Slots ℤ} (λ s. map_of (entries_in s))
+map_stays s op h = observing_stays (map_of (entries_in s)) op h

@@ -3,11 +3,11 @@ pub mod Executions
 pub mod Blocks
 pub mod Replayed
 pub mod Laws
+pub mod Entries
 pub mod Keeps
 pub mod States
 pub mod Meanings
 pub mod Logs
-pub mod Shown
 pub mod Kinds
 pub mod Digests
 pub mod Numbers

@@ -1,6 +1,6 @@
 -- States that are one number.
 use Rattle.std.specs.Prelude.{Option, None, Some}
-use Rattle.aud_object.specs.Objects.{ObjState, register, counter, set_of, queue}
+use Rattle.aud_object.specs.Objects.{ObjState, register, counter, set_of, queue, map_of}
 use Rattle.aud_object.specs.declared.number.Number.{Number}
 use Rattle.aud_object.specs.declared.number.Number.TheVariants as n
 
@@ -15,6 +15,7 @@ number_in (register v) = Some (n.Register v)
 number_in (counter v) = Some (n.Counter v)
 number_in (set_of s) = None
 number_in (queue q) = None
+number_in (map_of m) = None
 
 -- the same of a state that may be absent
 abbrev pub number_of : Option ObjState → Option Number

@@ -1,16 +1,17 @@
-//! What an operation changed of a state.
+//! What an operation changed of an object.
 
-/// What has to be known to take a change back.
-#[derive(Clone, Copy, PartialEq, Eq)]
+use crate::items::ItemsChange;
+use crate::kept::KeptChange;
+
+/// What has to be known to take a change back, by the kind of the object.
+#[derive(Clone, Copy)]
 pub(crate) enum Change {
-    /// A register or a counter had this value.
-    Value(i64),
-    /// A value of a set had this flag.
-    Flag(i64, bool),
-    /// A value came into a set, which did not know it.
-    Came(i64),
-    /// An item came into a queue.
-    Enq,
-    /// The front item left a queue.
-    Deq,
+    Register(i64),
+    Counter(i64),
+    SetOf(KeptChange<()>),
+    Queue(ItemsChange),
+    MapOf(KeptChange<i64>),
 }
+
+// the log of a search has one for each operation that changes something
+const _: () = prove!(size_of::<Change>() <= 32);

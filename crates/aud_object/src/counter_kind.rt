@@ -1,56 +1,34 @@
 //! Counters.
 
-ghost use Rattle.std.specs.Prelude.{◌≡◌, MatchOption};
+ghost use Rattle.std.specs.Prelude.{◌≡◌};
 ghost use Rattle.aud_event.specs.declared.object.ObjKind.TheVariants as kind;
-ghost use Rattle.aud_object.specs.declared.change.Change.TheVariants as Change;
-ghost use Rattle.aud_object.specs.Objects.{counter, answer_of, after_op};
+ghost use Rattle.aud_object.specs.Objects.{counter};
 ghost use Rattle.aud_object.specs.Kinds.{counter_answers, counter_stays};
 
-use crate::change::Change;
-use crate::spec::{ObjectSpec, is_observing};
+use crate::digest::stir;
+use crate::spec::ObjectSpec;
 use aud_event::{Answer, Op, OutOfMemory};
 use std::alloc::{Allocator, Global};
 use std::marker::PhantomData;
 
-/// A counter: Inc and Dec move it by one, Get answers it. At the greatest i64 Inc leaves it, at the least Dec does.
+/// A counter: Inc and Dec move it by one, Plus by a number, Get answers it. Where the next count is no i64, it stays. A change
+/// is the count before it.
 pub struct Counter<A = Global> {
     of: PhantomData<A>,
 }
 
-/// Runs an operation on a counter's count, and says what it changed.
-pub(crate) fn apply_counter(value: &mut i64, op: Op) -> (Answer, Option<Change>)
-    ensures answer { result.0 ≡ answer_of (counter value.old) op }
-    ensures after { counter value.new ≡ after_op (counter value.old) op }
-    ensures back { MatchOption result.1 (value.new ≡ value.old) (λ change. change ≡ Change.Value value.old) }
-{
-    match op {
-        Op::Get => (Answer::Int(*value), None),
-        Op::Inc => {
-            let old = *value;
-            if old != i64::MAX {
-                *value = old + 1;
-            }
-            (Answer::Done, Some(Change::Value(old)))
-        }
-        Op::Dec => {
-            let old = *value;
-            if old != i64::MIN {
-                *value = old - 1;
-            }
-            (Answer::Done, Some(Change::Value(old)))
-        }
-        _ => (Answer::Done, None),
-    }
-}
-
-impl<A: Allocator + Clone> ObjectSpec for Counter<A> {
+impl<A: Allocator + Drop> ObjectSpec for Counter<A> {
     type State = i64;
+
+    type Change = i64;
 
     type Alloc = A;
 
     ghost kind = { kind.Counter };
 
     ghost means = { counter };
+
+    ghost before = { λ _ old. old };
 
     ghost answers = { counter_answers };
 
@@ -60,20 +38,66 @@ impl<A: Allocator + Clone> ObjectSpec for Counter<A> {
         value
     }
 
-    fn apply(state: &mut i64, op: &Op) -> Result<Answer, OutOfMemory> {
-        let (answer, _change) = apply_counter(state, *op);
-        Ok(answer)
+    fn apply(state: &mut i64, op: &Op) -> Result<(Answer, Option<i64>), OutOfMemory>
+    where
+        A: Clone,
+    {
+        match op {
+            Op::Get => Ok((Answer::Int(*state), None)),
+            Op::Inc => {
+                let old = *state;
+                if old != i64::MAX {
+                    *state = old + 1;
+                }
+                Ok((Answer::Done, Some(old)))
+            }
+            Op::Dec => {
+                let old = *state;
+                if old != i64::MIN {
+                    *state = old - 1;
+                }
+                Ok((Answer::Done, Some(old)))
+            }
+            Op::Plus(addend) => {
+                let old = *state;
+                if let Some(sum) = old.checked_add(*addend) {
+                    *state = sum;
+                }
+                Ok((Answer::Done, Some(old)))
+            }
+            // of another kind
+            _ => Ok((Answer::Done, None)),
+        }
     }
 
-    fn observes(op: &Op) -> bool {
-        is_observing(op)
+    fn back(state: &mut i64, change: i64) {
+        *state = change;
+    }
+
+    fn answer(state: &i64, op: &Op) -> Answer {
+        match op {
+            Op::Get => Answer::Int(*state),
+            // to a step, and to what is of another kind
+            _ => Answer::Done,
+        }
     }
 
     fn same(state: &i64, other: &i64) -> bool {
         *state == *other
     }
 
-    fn copy(state: &i64) -> Result<i64, OutOfMemory> {
+    fn digest(state: &i64) -> u64 {
+        stir(2, state.cast_unsigned())
+    }
+
+    fn size(_state: &i64) -> usize {
+        0
+    }
+
+    fn copy(state: &i64) -> Result<i64, OutOfMemory>
+    where
+        A: Clone,
+    {
         Ok(*state)
     }
 }

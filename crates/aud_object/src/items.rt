@@ -1,11 +1,10 @@
 //! The items of a queue, with those that left.
 
-ghost use Rattle.std.specs.Prelude.{◌≡◌, ◌↔◌, IsTrue, [], ◌∷◌, ◌++◌, IfOk, OnErr, OnOk, MatchOption};
-ghost use Rattle.aud_object.specs.declared.change.Change.TheVariants as Change;
+ghost use Rattle.std.specs.Prelude.{◌≡◌, ◌↔◌, IsTrue, [], ◌∷◌, ◌++◌, OnErr, OnOk, MatchOption};
+ghost use Rattle.aud_object.specs.declared.items.ItemsChange.TheVariants as ItemsChange;
 ghost use Rattle.aud_object.specs.Digests.{digest_values};
 ghost use Rattle.aud_object.specs.Keeps.{items_in, back_items, TakesFirst};
 
-use crate::change::Change;
 use crate::digest::stir;
 use aud_event::{Dup, OutOfMemory};
 use std::alloc::{Allocator, Global};
@@ -28,6 +27,15 @@ impl<A: Allocator> Model for Items<A> {
     ghost view = { λ q. record { all = q.all.items; gone = q.gone } };
 
     ghost invariant = { λ q. q.gone ≤ length q.all.items };
+}
+
+/// What has to be known to take a change of the items back.
+#[derive(Clone, Copy)]
+pub enum ItemsChange {
+    /// An item came to the others.
+    Came,
+    /// The front item left.
+    Left,
 }
 
 fn is_same_list(a: &[i64], b: &[i64]) -> bool
@@ -87,7 +95,7 @@ impl<A: Allocator + Drop> Items<A> {
     /// Puts an item after the others.
     pub(crate) fn enqueue(&mut self, item: i64) -> Result<(), OutOfMemory>
         ensures items { OnOk result (items_in self.new ≡ items_in self.old ++ item ∷ []) }
-        ensures back { OnOk result (back_items self.new Change.Enq ≡ self.old) }
+        ensures back { OnOk result (back_items self.new ItemsChange.Came ≡ self.old) }
         ensures err { OnErr result (self.new ≡ self.old) }
     {
         self.all.push(item)?;
@@ -97,7 +105,7 @@ impl<A: Allocator + Drop> Items<A> {
     /// Takes the front item, if there is one.
     pub(crate) fn dequeue(&mut self) -> Option<i64>
         ensures items { TakesFirst (items_in self.old) (items_in self.new) result }
-        ensures back { MatchOption result (self.new ≡ self.old) (λ _. back_items self.new Change.Deq ≡ self.old) }
+        ensures back { MatchOption result (self.new ≡ self.old) (λ _. back_items self.new ItemsChange.Left ≡ self.old) }
     {
         let front = self.all.get(self.gone).copied();
         if front.is_some() {
@@ -107,31 +115,21 @@ impl<A: Allocator + Drop> Items<A> {
     }
 
     /// Takes back what the change was.
-    pub(crate) fn back(&mut self, change: Change)
+    pub(crate) fn back(&mut self, change: ItemsChange)
         ensures { self.new ≡ back_items self.old change }
     {
         match change {
-            Change::Enq => {
+            ItemsChange::Came => {
                 if self.gone < self.all.len() {
                     let _last = self.all.pop();
                 }
             }
-            Change::Deq => {
+            ItemsChange::Left => {
                 if self.gone > 0 {
                     self.gone -= 1;
                 }
             }
-            _ => {}
         }
-    }
-}
-
-impl<A: Allocator + Clone> Items<A> {
-    /// The items, the front first.
-    pub(crate) fn list(&self, alloc: A) -> Result<Vec<i64, A>, OutOfMemory>
-        ensures { IfOk result (λ list. list.items ≡ items_in self.now) }
-    {
-        Ok(self.left().to_vec(alloc)?)
     }
 }
 

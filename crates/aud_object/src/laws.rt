@@ -1,12 +1,15 @@
 //! Laws about the definitions, each the contract of a function that does nothing.
 
-ghost use Rattle.std.specs.Prelude.{◌≡◌, ◌↔◌};
-ghost use Rattle.std.specs.declared.cmp.Ordering.TheVariants.{Equal};
-ghost use Rattle.aud_object.specs.Shown.{shown};
-ghost use Rattle.aud_object.specs.Laws.{ReplayIsLegality, OpeningIsLegality, LegalityIsByParts, BlocksReplayInTurn};
+ghost use Rattle.std.specs.Prelude.{◌≡◌};
+ghost use Rattle.aud_object.specs.Laws.{EachOtherChanges, EachObservingTells, OtherKindsStay, ReplayIsLegality, OpeningIsLegality, LegalityIsByParts, BlocksReplayInTurn};
 
-use crate::shown::Shown;
-use std::alloc::Allocator;
+/// No row is forgotten in the tables of what operations answer and leave: each operation that does not observe changes some
+/// state of its kind, each that observes tells two states of its kind apart, and one of another kind does nothing.
+pub fn each_row_counts()
+    ensures changes { EachOtherChanges }
+    ensures tells { EachObservingTells }
+    ensures others { OtherKindsStay }
+{}
 
 /// A replay fails exactly where the block is not legal on each object, and else leads to the states after it.
 pub fn replay_is_legality()
@@ -26,9 +29,4 @@ pub fn legality_is_by_parts()
 /// A replay from the states after legal blocks decides whether those blocks and this one are legal.
 pub fn blocks_replay_in_turn()
     ensures { BlocksReplayInTurn }
-{}
-
-/// In the order of the plain data exactly those tie that show one state.
-pub fn shown_order_is_exact<A: Allocator>()
-    ensures { (x y : Shown A) → (⟦<Shown<A> as Ord>⟧.cmp x y ≡ Equal) ↔ (shown x ≡ shown y) }
 {}

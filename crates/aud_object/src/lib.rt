@@ -1,5 +1,5 @@
 #![tactic(auto)]
-//! The four kinds of sequential objects, and the states of all objects of a plan.
+//! The kinds of sequential objects, and the states of all objects of a plan.
 //!
 //! What each operation answers and leaves stands in specs/Objects.antt as a table. Which lists of events are legal is said
 //! there too, object by object. A `Store` runs the block of a transaction on all objects at once and takes it back; that
@@ -11,27 +11,29 @@ mod counter_kind;
 mod digest;
 mod execution;
 mod items;
+mod kept;
 pub mod laws;
 mod log;
-mod members;
+mod map_kind;
 mod number;
 mod queue_kind;
 mod register_kind;
 mod set_kind;
-mod shown;
 mod spec;
 mod state;
 mod store;
+mod value;
 
 pub use block::Block;
 pub use counter_kind::Counter;
 pub use execution::{Execution, Invocation};
-pub use items::Items;
-pub use members::Members;
+pub use items::{Items, ItemsChange};
+pub use kept::{Kept, KeptChange};
+pub use map_kind::MapOf;
 pub use number::Number;
 pub use queue_kind::Queue;
 pub use register_kind::Register;
 pub use set_kind::SetOf;
-pub use shown::Shown;
 pub use spec::ObjectSpec;
 pub use store::Store;
+pub use value::Value;

@@ -2,7 +2,7 @@
 
 use crate::change::Change;
 
-#[derive(Clone, Copy, PartialEq, Eq)]
+#[derive(Clone, Copy)]
 pub(crate) enum Entry {
     /// Here a block began.
     Mark,

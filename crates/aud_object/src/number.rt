@@ -27,6 +27,6 @@ pub(crate) fn number_in<A: Allocator>(state: &State<A>) -> Option<Number>
     match state {
         State::Register(value) => Some(Number::Register(*value)),
         State::Counter(value) => Some(Number::Counter(*value)),
-        State::SetOf(_) | State::Queue(_) => None,
+        State::SetOf(_) | State::Queue(_) | State::MapOf(_) => None,
     }
 }

@@ -1,14 +1,13 @@
 //! Queues.
 
-ghost use Rattle.std.specs.Prelude.{◌≡◌, IfOk, OnOk, OnErr, MatchOption};
+ghost use Rattle.std.specs.Prelude.{◌≡◌};
 ghost use Rattle.aud_event.specs.declared.object.ObjKind.TheVariants as kind;
-ghost use Rattle.aud_object.specs.Objects.{queue, answer_of, after_op};
+ghost use Rattle.aud_object.specs.Objects.{queue, front_of};
 ghost use Rattle.aud_object.specs.Keeps.{items_in, back_items};
 ghost use Rattle.aud_object.specs.Kinds.{queue_answers, queue_stays};
 
-use crate::change::Change;
-use crate::items::Items;
-use crate::spec::{ObjectSpec, is_observing};
+use crate::items::{Items, ItemsChange};
+use crate::spec::ObjectSpec;
 use aud_event::{Answer, Dup, Op, OutOfMemory};
 use std::alloc::{Allocator, Global};
 use std::marker::PhantomData;
@@ -18,37 +17,28 @@ pub struct Queue<A = Global> {
     of: PhantomData<A>,
 }
 
-/// Runs an operation on a queue's items, and says what it changed.
-pub(crate) fn apply_items<A: Allocator + Drop>(
-    items: &mut Items<A>,
-    op: Op,
-) -> Result<(Answer, Option<Change>), OutOfMemory>
-    ensures answer { IfOk result (λ a. a.0 ≡ answer_of (queue (items_in items.old)) op) }
-    ensures after { OnOk result (queue (items_in items.new) ≡ after_op (queue (items_in items.old)) op) }
-    ensures back { IfOk result (λ a. MatchOption a.1 (items.new ≡ items.old) (λ change. back_items items.new change ≡ items.old)) }
-    ensures err { OnErr result (items.new ≡ items.old) }
+/// What is answered to a removal from the front of these items.
+fn front_answer(items: &[i64]) -> Answer
+    ensures { result ≡ front_of items.now }
 {
-    match op {
-        Op::Enq(v) => {
-            items.enqueue(v)?;
-            Ok((Answer::Done, Some(Change::Enq)))
-        }
-        Op::Deq => match items.dequeue() {
-            Some(v) => Ok((Answer::Int(v), Some(Change::Deq))),
-            None => Ok((Answer::Empty, None)),
-        },
-        _ => Ok((Answer::Done, None)),
+    match items.first() {
+        Some(front) => Answer::Int(*front),
+        None => Answer::Empty,
     }
 }
 
-impl<A: Allocator + Clone> ObjectSpec for Queue<A> {
+impl<A: Allocator + Drop> ObjectSpec for Queue<A> {
     type State = Items<A>;
+
+    type Change = ItemsChange;
 
     type Alloc = A;
 
     ghost kind = { kind.Queue };
 
     ghost means = { λ q. queue (items_in q) };
+
+    ghost before = { back_items };
 
     ghost answers = { queue_answers };
 
@@ -58,20 +48,52 @@ impl<A: Allocator + Clone> ObjectSpec for Queue<A> {
         Items::new(alloc)
     }
 
-    fn apply(state: &mut Items<A>, op: &Op) -> Result<Answer, OutOfMemory> {
-        let (answer, _change) = apply_items(state, *op)?;
-        Ok(answer)
+    fn apply(state: &mut Items<A>, op: &Op) -> Result<(Answer, Option<ItemsChange>), OutOfMemory>
+    where
+        A: Clone,
+    {
+        match *op {
+            Op::Enq(v) => {
+                state.enqueue(v)?;
+                Ok((Answer::Done, Some(ItemsChange::Came)))
+            }
+            Op::Deq => match state.dequeue() {
+                Some(v) => Ok((Answer::Int(v), Some(ItemsChange::Left))),
+                None => Ok((Answer::Empty, None)),
+            },
+            // of another kind
+            _ => Ok((Answer::Done, None)),
+        }
     }
 
-    fn observes(op: &Op) -> bool {
-        is_observing(op)
+    fn back(state: &mut Items<A>, change: ItemsChange) {
+        state.back(change);
+    }
+
+    fn answer(state: &Items<A>, op: &Op) -> Answer {
+        match op {
+            Op::Deq => front_answer(state.left()),
+            // to an item that comes, and to what is of another kind
+            _ => Answer::Done,
+        }
     }
 
     fn same(state: &Items<A>, other: &Items<A>) -> bool {
         state.same(other)
     }
 
-    fn copy(state: &Items<A>) -> Result<Items<A>, OutOfMemory> {
+    fn digest(state: &Items<A>) -> u64 {
+        state.digest(4)
+    }
+
+    fn size(state: &Items<A>) -> usize {
+        state.size()
+    }
+
+    fn copy(state: &Items<A>) -> Result<Items<A>, OutOfMemory>
+    where
+        A: Clone,
+    {
         state.dup()
     }
 }

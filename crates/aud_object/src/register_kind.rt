@@ -1,47 +1,33 @@
 //! Registers.
 
-ghost use Rattle.std.specs.Prelude.{◌≡◌, MatchOption};
+ghost use Rattle.std.specs.Prelude.{◌≡◌};
 ghost use Rattle.aud_event.specs.declared.object.ObjKind.TheVariants as kind;
-ghost use Rattle.aud_object.specs.declared.change.Change.TheVariants as Change;
-ghost use Rattle.aud_object.specs.Objects.{register, answer_of, after_op};
+ghost use Rattle.aud_object.specs.Objects.{register};
 ghost use Rattle.aud_object.specs.Kinds.{register_answers, register_stays};
 
-use crate::change::Change;
-use crate::spec::{ObjectSpec, is_observing};
+use crate::digest::stir;
+use crate::spec::ObjectSpec;
 use aud_event::{Answer, Op, OutOfMemory};
 use std::alloc::{Allocator, Global};
 use std::marker::PhantomData;
 
-/// A register of an i64: Read answers its value, Write sets it. It opens at any i64.
+/// A register of an i64: Read answers its value, Write sets it. It opens at any i64. A change is the value before it.
 pub struct Register<A = Global> {
     of: PhantomData<A>,
 }
 
-/// Runs an operation on a register's value, and says what it changed.
-pub(crate) fn apply_register(value: &mut i64, op: Op) -> (Answer, Option<Change>)
-    ensures answer { result.0 ≡ answer_of (register value.old) op }
-    ensures after { register value.new ≡ after_op (register value.old) op }
-    ensures back { MatchOption result.1 (value.new ≡ value.old) (λ change. change ≡ Change.Value value.old) }
-{
-    match op {
-        Op::Read => (Answer::Int(*value), None),
-        Op::Write(v) => {
-            let old = *value;
-            *value = v;
-            (Answer::Done, Some(Change::Value(old)))
-        }
-        _ => (Answer::Done, None),
-    }
-}
-
-impl<A: Allocator + Clone> ObjectSpec for Register<A> {
+impl<A: Allocator + Drop> ObjectSpec for Register<A> {
     type State = i64;
+
+    type Change = i64;
 
     type Alloc = A;
 
     ghost kind = { kind.Register };
 
     ghost means = { register };
+
+    ghost before = { λ _ old. old };
 
     ghost answers = { register_answers };
 
@@ -51,20 +37,50 @@ impl<A: Allocator + Clone> ObjectSpec for Register<A> {
         value
     }
 
-    fn apply(state: &mut i64, op: &Op) -> Result<Answer, OutOfMemory> {
-        let (answer, _change) = apply_register(state, *op);
-        Ok(answer)
+    fn apply(state: &mut i64, op: &Op) -> Result<(Answer, Option<i64>), OutOfMemory>
+    where
+        A: Clone,
+    {
+        match *op {
+            Op::Read => Ok((Answer::Int(*state), None)),
+            Op::Write(v) => {
+                let old = *state;
+                *state = v;
+                Ok((Answer::Done, Some(old)))
+            }
+            // of another kind
+            _ => Ok((Answer::Done, None)),
+        }
     }
 
-    fn observes(op: &Op) -> bool {
-        is_observing(op)
+    fn back(state: &mut i64, change: i64) {
+        *state = change;
+    }
+
+    fn answer(state: &i64, op: &Op) -> Answer {
+        match op {
+            Op::Read => Answer::Int(*state),
+            // to a write, and to what is of another kind
+            _ => Answer::Done,
+        }
     }
 
     fn same(state: &i64, other: &i64) -> bool {
         *state == *other
     }
 
-    fn copy(state: &i64) -> Result<i64, OutOfMemory> {
+    fn digest(state: &i64) -> u64 {
+        stir(1, state.cast_unsigned())
+    }
+
+    fn size(_state: &i64) -> usize {
+        0
+    }
+
+    fn copy(state: &i64) -> Result<i64, OutOfMemory>
+    where
+        A: Clone,
+    {
         Ok(*state)
     }
 }

@@ -1,14 +1,13 @@
 //! Sets.
 
-ghost use Rattle.std.specs.Prelude.{◌≡◌, IfOk, OnOk, OnErr, MatchOption};
+ghost use Rattle.std.specs.Prelude.{◌≡◌};
 ghost use Rattle.aud_event.specs.declared.object.ObjKind.TheVariants as kind;
-ghost use Rattle.aud_object.specs.Objects.{set_of, answer_of, after_op};
-ghost use Rattle.aud_object.specs.Keeps.{members, back_members};
+ghost use Rattle.aud_object.specs.Objects.{set_of};
+ghost use Rattle.aud_object.specs.Keeps.{members, back_kept};
 ghost use Rattle.aud_object.specs.Kinds.{set_answers, set_stays};
 
-use crate::change::Change;
-use crate::members::Members;
-use crate::spec::{ObjectSpec, is_observing};
+use crate::kept::{Kept, KeptChange};
+use crate::spec::ObjectSpec;
 use aud_event::{Answer, Dup, Op, OutOfMemory};
 use std::alloc::{Allocator, Global};
 use std::marker::PhantomData;
@@ -18,32 +17,11 @@ pub struct SetOf<A = Global> {
     of: PhantomData<A>,
 }
 
-/// Runs an operation on a set's members, and says what it changed.
-pub(crate) fn apply_members<A: Allocator + Clone>(
-    set: &mut Members<A>,
-    op: Op,
-) -> Result<(Answer, Option<Change>), OutOfMemory>
-    ensures answer { IfOk result (λ a. a.0 ≡ answer_of (set_of (members set.old)) op) }
-    ensures after { OnOk result (set_of (members set.new) ≡ after_op (set_of (members set.old)) op) }
-    ensures back { IfOk result (λ a. MatchOption a.1 (set.new ≡ set.old) (λ change. back_members set.new change ≡ set.old)) }
-    ensures err { OnErr result (set.new ≡ set.old) }
-{
-    match op {
-        Op::Add(v) => {
-            let change = set.add(v)?;
-            Ok((Answer::Flag(change.is_some()), change))
-        }
-        Op::Remove(v) => {
-            let change = set.remove(v);
-            Ok((Answer::Flag(change.is_some()), change))
-        }
-        Op::Contains(v) => Ok((Answer::Flag(set.has(v)), None)),
-        _ => Ok((Answer::Done, None)),
-    }
-}
+#[tactic(auto, using(crate::proofs::Sets::members))]
+impl<A: Allocator + Drop> ObjectSpec for SetOf<A> {
+    type State = Kept<(), A>;
 
-impl<A: Allocator + Clone> ObjectSpec for SetOf<A> {
-    type State = Members<A>;
+    type Change = KeptChange<()>;
 
     type Alloc = A;
 
@@ -51,28 +29,71 @@ impl<A: Allocator + Clone> ObjectSpec for SetOf<A> {
 
     ghost means = { λ s. set_of (members s) };
 
+    ghost before = { back_kept };
+
     ghost answers = { set_answers };
 
     ghost stays_put = { set_stays };
 
-    fn opening(alloc: A, _value: i64) -> Members<A> {
-        Members::new(alloc)
+    fn opening(alloc: A, _value: i64) -> Kept<(), A> {
+        Kept::new(alloc)
     }
 
-    fn apply(state: &mut Members<A>, op: &Op) -> Result<Answer, OutOfMemory> {
-        let (answer, _change) = apply_members(state, *op)?;
-        Ok(answer)
+    fn apply(
+        state: &mut Kept<(), A>,
+        op: &Op,
+    ) -> Result<(Answer, Option<KeptChange<()>>), OutOfMemory>
+    where
+        A: Clone,
+    {
+        match *op {
+            Op::Add(v) => {
+                if state.get(v).is_some() {
+                    return Ok((Answer::Flag(false), None));
+                }
+                let change = state.put(v, ())?;
+                Ok((Answer::Flag(true), Some(change)))
+            }
+            Op::Remove(v) => {
+                let change = state.take(v);
+                Ok((Answer::Flag(change.is_some()), change))
+            }
+            Op::Contains(v) => Ok((Answer::Flag(state.get(v).is_some()), None)),
+            // of another kind
+            _ => Ok((Answer::Done, None)),
+        }
     }
 
-    fn observes(op: &Op) -> bool {
-        is_observing(op)
+    fn back(state: &mut Kept<(), A>, change: KeptChange<()>) {
+        state.back(change);
     }
 
-    fn same(state: &Members<A>, other: &Members<A>) -> bool {
+    fn answer(state: &Kept<(), A>, op: &Op) -> Answer {
+        match *op {
+            Op::Add(v) => Answer::Flag(state.get(v).is_none()),
+            Op::Remove(v) => Answer::Flag(state.get(v).is_some()),
+            Op::Contains(v) => Answer::Flag(state.get(v).is_some()),
+            // to what is of another kind
+            _ => Answer::Done,
+        }
+    }
+
+    fn same(state: &Kept<(), A>, other: &Kept<(), A>) -> bool {
         state.same(other)
     }
 
-    fn copy(state: &Members<A>) -> Result<Members<A>, OutOfMemory> {
+    fn digest(state: &Kept<(), A>) -> u64 {
+        state.digest(3)
+    }
+
+    fn size(state: &Kept<(), A>) -> usize {
+        state.size()
+    }
+
+    fn copy(state: &Kept<(), A>) -> Result<Kept<(), A>, OutOfMemory>
+    where
+        A: Clone,
+    {
         state.dup()
     }
 }

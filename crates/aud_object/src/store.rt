@@ -3,7 +3,6 @@
 ghost use Rattle.std.specs.Prelude.{◌≡◌, ◌≢◌, ◌↔◌, ◌≤◌, IsTrue, [], ◌∷◌, length, true, false, map, IfOk, OnErr, OnOk, option_map, is_some, slice_get};
 ghost use Rattle.aud_object.specs.Objects.{answer_of, items_of, opening_of};
 ghost use Rattle.aud_object.specs.States.{meaning};
-ghost use Rattle.aud_object.specs.Shown.{shown};
 ghost use Rattle.aud_object.specs.Logs.{back_at, LeadsBack};
 ghost use Rattle.aud_object.specs.Numbers.{number_of};
 ghost use Rattle.aud_object.specs.Digests.{digest_of};
@@ -14,8 +13,7 @@ use crate::change::Change;
 use crate::execution::Execution;
 use crate::log::Entry;
 use crate::number::{Number, number_in};
-use crate::shown::{Shown, show_all};
-use crate::state::{State, open};
+use crate::state::State;
 use aud_event::{Answer, Dup, ObjDecl, Op, OutOfMemory, Plan};
 use std::alloc::{Allocator, Global};
 use std::marker::Model;
@@ -63,7 +61,7 @@ fn apply_at<A: Allocator + Clone>(
     ensures err { OnErr result (states.new.items ≡ states.old.items) }
 {
     match states.get_mut(object as usize) {
-        Some(state) => Ok(Some(state.apply(op)?)),
+        Some(state) => Ok(Some(state.apply(&op)?)),
         None => Ok(None),
     }
 }
@@ -85,7 +83,7 @@ fn open_all<A: Allocator + Clone, B: Allocator>(
 {
     let mut states = Vec::new(alloc.clone()?);
     for decl in objects {
-        states.push(open(alloc, decl)?)?;
+        states.push(State::opening(alloc.clone()?, decl))?;
     }
     Ok(states)
 }
@@ -159,7 +157,7 @@ impl<A: Allocator + Drop> Store<A> {
         ensures { result ≡ option_map (λ s. answer_of s op) (slice_get self.now.now object) }
     {
         match self.states.get(object) {
-            Some(state) => Some(state.answer(op)),
+            Some(state) => Some(state.answer(&op)),
             None => None,
         }
     }
@@ -212,13 +210,6 @@ impl<A: Allocator + Drop> Store<A> {
 }
 
 impl<A: Allocator + Clone> Store<A> {
-    /// What all states mean now, as plain data with a total order.
-    pub fn show(&self, alloc: A) -> Result<Vec<Shown<A>, A>, OutOfMemory>
-        ensures { IfOk result (λ list. map shown list.items ≡ self.now.now) }
-    {
-        show_all(alloc, &self.states)
-    }
-
     /// The states as they are now, with no block to take back.
     pub fn present(&self) -> Result<Store<A>, OutOfMemory>
         ensures { IfOk result (λ copy. copy ≡ record { now = self.now.now; past = [] }) }

@@ -6,9 +6,10 @@ use Rattle.std.proofs.lemmas.List.{set_comm, get_or-set_other}
 use Rattle.std.proofs.lemmas.List.Quantifiers.{position-Some}
 use Rattle.aud_event.specs.declared.object.Op.{Op}
 use Rattle.aud_event.specs.declared.object.Op.TheVariants.{Read, Get, Contains}
-use Rattle.aud_event.proofs.Bools.{and_true, true_and, or_right, nat_eq-is}
-use Rattle.aud_object.specs.Objects.{ObjState, register, counter, set_of, queue, after_op, is_observing}
-use Rattle.aud_object.specs.Kinds.{register_stays, counter_stays}
+use Rattle.aud_base.proofs.Bools.{and_true, true_and, or_right, nat_eq-is}
+use Rattle.aud_event.specs.Objects.{is_observing}
+use Rattle.aud_object.specs.Objects.{ObjState, after_op}
+use Rattle.aud_object.specs.Kinds.{observing_stays}
 use Rattle.aud_object.specs.declared.execution.Execution.{Execution}
 use Rattle.aud_object.specs.Replayed.{answers, answer_at, after_at, executed, replayed}
 use Rattle.aud_history.specs.Table.{RowOf}
@@ -115,21 +116,9 @@ walked-one rows s u d = go (stepped rows s d) refl
 
 -- # Blocks that only observe
 
-observing-stays : (s : ObjState) (op : Op) → is_observing op ≡ true → after_op s op ≡ s
-observing-stays (register v) op h = register_stays v op h
-observing-stays (counter n) op h = counter_stays n op h
-observing-stays (set_of s) Read h = refl
-observing-stays (set_of s) Get h = refl
-observing-stays (set_of s) (Contains v) h = refl
-observing-stays (set_of s) _ h = cc
-observing-stays (queue q) Read h = refl
-observing-stays (queue q) Get h = refl
-observing-stays (queue q) (Contains v) h = refl
-observing-stays (queue q) _ h = cc
-
 stays-at : (states : List ObjState) (ob : ℕ) (op : Op) → is_observing op ≡ true → after_at states ob op ≡ states
 stays-at [] ob op h = refl
-stays-at (s ∷ ss) zero op h = ap (λ x. x ∷ ss) (observing-stays s op h)
+stays-at (s ∷ ss) zero op h = ap (λ x. x ∷ ss) (observing_stays s op h)
 stays-at (s ∷ ss) (suc ob) op h = ap (λ l. s ∷ l) (stays-at ss ob op h)
 
 executed-stays : (xs : List Execution) (states after : List ObjState) → list_all (λ (x : Execution). is_observing x.op) xs ≡ true → executed states xs ≡ Some after → after ≡ states

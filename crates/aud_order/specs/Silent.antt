@@ -3,7 +3,7 @@ use Rattle.std.specs.Prelude.{ℕ, Bool, true, not, if◌then◌else◌, Option,
 use Rattle.std.specs.List.{list_all}
 use Rattle.aud_event.specs.declared.fact.Event.{Event}
 use Rattle.aud_event.specs.declared.fact.Event.TheVariants.{Inv}
-use Rattle.aud_object.specs.Objects.{is_observing}
+use Rattle.aud_event.specs.Objects.{is_observing}
 use Rattle.aud_history.specs.Histories.{History, events_of, is_in}
 use Rattle.aud_history.specs.Table.{RowOf}
 use Rattle.aud_witness.specs.declared.decision.Fate.{Fate}

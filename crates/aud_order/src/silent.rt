@@ -2,30 +2,18 @@
 
 ghost use Rattle.std.specs.Prelude.{◌≡◌};
 ghost use Rattle.std.specs.List.{list_all};
-ghost use Rattle.aud_object.specs.Objects.{is_observing};
+ghost use Rattle.aud_event.specs.Objects.{is_observing};
 ghost use Rattle.aud_order.specs.Silent.{silent_row};
 
-use aud_event::Op;
 use aud_history::TxRow;
 use aud_object::Execution;
 use aud_witness::{Fate, allows};
 use std::alloc::Allocator;
 
-/// Whether the operation leaves every object as it is.
-fn observes(op: Op) -> bool
-    ensures { result ≡ is_observing op }
-{
-    match op {
-        Op::Read | Op::Get | Op::Contains(_) => true,
-        Op::Write(_) | Op::Inc | Op::Dec | Op::Add(_) | Op::Remove(_) | Op::Enq(_) | Op::Deq =>
-            false,
-    }
-}
-
 fn all_observe(executions: &[Execution]) -> bool
     ensures { result ≡ list_all (λ x. is_observing x.op) executions.now }
 {
-    executions.iter().all(|x| observes(x.op))
+    executions.iter().all(|x| x.op.observes())
 }
 
 /// The fate with which the row's transaction changes no object, if it is one that never does.

@@ -10,7 +10,7 @@ use crate::queue::{add_marks, drain, fill};
 use crate::rule::{OnePart, Queue, Taker};
 use crate::work::{Gate, Work};
 use crate::worker::{Member, WorkerEnd, work_crew};
-use aud_event::OutOfMemory;
+use aud_base::OutOfMemory;
 use std::alloc::Global;
 use std::sync::Wait;
 use std::thread::Threads;

@@ -2,7 +2,7 @@
 
 ghost use Rattle.std.specs.Prelude.{OnOk};
 
-use aud_event::OutOfMemory;
+use aud_base::OutOfMemory;
 use std::sync::Wait;
 
 /// What is called before and after each task of a worker. All workers share it.

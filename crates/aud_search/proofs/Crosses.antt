@@ -7,6 +7,7 @@ use Rattle.std.specs.declared.clone.Clone as clone
 use Rattle.std.proofs.marker.PhantomData.TheSendSync as mark
 use Rattle.std.proofs.option.Option.TheSendSync as option
 use Rattle.std.proofs.sync.Arc.TheSendSync as arc
+use Rattle.std.proofs.sync.atomic.AtomicU64.TheSendSync as atomic
 use Rattle.std.proofs.vec.Vec.TheSendSync as vec
 use Rattle.std.specs.contracts.option.Option as Option
 use Rattle.boxcar.proofs.slot.OnceSlot.TheSendSync as slot
@@ -28,7 +29,7 @@ use Rattle.aud_search.specs.contracts.kept.Finder as Finder
 use Rattle.aud_search.specs.contracts.index.Index as Index
 use Rattle.aud_search.specs.contracts.spots.Spots as Spots
 use Rattle.aud_search.specs.contracts.memo.Lead as Lead
-use Rattle.aud_search.specs.contracts.search.Memory as Memory
+use Rattle.aud_search.specs.contracts.searches.Memory as Memory
 use Rattle.aud_search.proofs.kept.Finder.TheSendSync as finder
 use Rattle.aud_search.proofs.index.Index.TheSendSync as index
 use Rattle.aud_search.proofs.memo.Lead.TheSendSync as lead
@@ -46,7 +47,7 @@ module _ (J A : RattleType) (s : scene.Ghosts J.Denot) (g : alloc.Ghosts A.Denot
   part_sync sa ya f = search (refutation_send, refutation_sync, slot.the_send, slot.the_sync, vec.the_send, vec.the_sync, sendable) depth 60 fits 20000
 
   pub shared_sync : IsSend A → IsSync A → Frees g g.dealloc_token → IsSync (Shared.the_row J A s g)
-  shared_sync sa ya f = search (part_sync, vec.the_sync, sendable) depth 60 fits 20000
+  shared_sync sa ya f = search (part_sync, vec.the_sync, atomic.the_sync, sendable) depth 60 fits 20000
 
 module _ (κ : NamedLft) (A : RattleType) (g : alloc.Ghosts A.Denot) (c : clone.Ghosts A.Denot) where
   kept_send : IsSend A → IsSync A → Frees g g.dealloc_token → IsSend (Kept.the_row A g)

@@ -11,3 +11,4 @@ pub mod Keeping
 pub mod Passing
 pub mod Recording
 pub mod Crosses
+pub mod Anew

@@ -1,11 +1,11 @@
 -- What a memo keeps true.
-use Rattle.std.specs.Prelude.{◌≡◌, ℕ, zero, suc, ◌+◌, ◌-◌, ◌<◌, Bool, true, false, ◌||◌, nat_eq, List, [], ◌∷◌, ◌++◌, map, length, take, reverse, Option, Some, None, IfSome, Result, Ok, Err, IfOk, slice_get, refl, ◌⊎◌}
+use Rattle.std.specs.Prelude.{◌≡◌, ℕ, zero, suc, ◌+◌, ◌-◌, ◌<◌, Bool, true, false, ◌||◌, nat_eq, List, [], ◌∷◌, ◌++◌, map, length, take, drop, reverse, Option, Some, None, IfSome, Result, Ok, Err, IfOk, slice_get, refl, ◌⊎◌}
 use Rattle.std.specs.List.{Contains}
 use Rattle.std.specs.Bool.{if◌then◌else◌}
 use Rattle.std.specs.Result.{result_ok}
 use Rattle.std.proofs.Common.{sym, ◌∙◌, ap, subst, inl, inr, arith, get_or, set}
-use Rattle.std.proofs.lemmas.List.{append-nil, reverse-append, length-map, length-append}
-use Rattle.aud_event.proofs.Bools.{or_right, true_or, nat_eq-refl, or_nothing}
+use Rattle.std.proofs.lemmas.List.{append-nil, reverse-append, length-map, length-append, length-drop}
+use Rattle.aud_base.proofs.Bools.{or_right, true_or, nat_eq-refl, or_nothing}
 use Rattle.aud_object.specs.Objects.{ObjState}
 use Rattle.aud_object.specs.Replayed.{replayed}
 use Rattle.aud_history.specs.WellFormed.{IsWellFormed}
@@ -140,6 +140,23 @@ pub true-forgotten : {N : Type 0} (shape : ShapeOf) (all : List (List ObjState))
 true-forgotten shape all noted old new notes left leads none unnoted sound =
     let fresh = true-none shape all noted new left [] none unnoted refl in
     record { even = fresh.even; dead = fresh.dead; true_leads = sound.true_leads }
+
+get-later : {X : Type 0} (xs : List X) (g k : ℕ) → slice_get (drop g xs) k ≡ slice_get xs (g + k)
+get-later xs zero k = let same : k ≡ 0 + k = omega arith in ap (slice_get xs) same
+get-later [] (suc g) k = refl
+get-later (x ∷ xs) (suc g) k = let up : suc (g + k) ≡ suc g + k = omega arith in get-later xs g k ∙ ap (slice_get (x ∷ xs)) up
+
+-- once the first so many entries are forgotten with their notes
+pub true-fewer : {N : Type 0} (shape : ShapeOf) (all : List (List ObjState)) (noted : N → List Decision → Type 0) (old new : List EntryOf) (notes left : List N) (leads : List Lead) (g : ℕ) → new ≡ drop g old → left ≡ drop g notes →
+    IsTrueMemo shape all noted old notes leads → IsTrueMemo shape all noted new left leads
+true-fewer shape all noted old new notes left leads g fewer less sound = record {
+  even = ap length less ∙ length-drop g notes ∙ ap (λ n. n - g) sound.even ∙ sym (ap length fewer ∙ length-drop g old);
+  dead = λ k e there.
+      let at : slice_get old (g + k) ≡ Some e = sym (get-later old g k) ∙ ap (λ (l : List EntryOf). slice_get l k) (sym fewer) ∙ there in
+      let (note, (known, dead)) = sound.dead (g + k) e at in
+      (note, (ap (λ (l : List _). slice_get l k) less ∙ get-later notes g k ∙ known, dead));
+  true_leads = sound.true_leads;
+}
 
 -- what stands in a list with one after it
 last-at : {X : Type 0} (xs : List X) (x y : X) (k : ℕ) → slice_get (xs ++ x ∷ []) k ≡ Some y → (slice_get xs k ≡ Some y) ⊎ ((k ≡ length xs) × (y ≡ x))

@@ -38,6 +38,30 @@ chunks-push w items l (suc n) long own =
     let rest : length (drop w items) ≡ n * w = length-drop w items ∙ (let e : length items - w ≡ n * w = omega arith in e) in
     (λ i. take-append-le w items l room i ∷ chunks w (drop-append-le w items l room i) (suc n)) ∙ ap (λ (ls : List (List _)). take w items ∷ ls) (chunks-push w (drop w items) l n rest own)
 
+-- the lists after the first so many
+pub drop-chunks : {X : Type 0} (w : ℕ) (items : List X) (n g : ℕ) → g ≤ n → chunks w (drop (g * w) items) (n - g) ≡ drop g (chunks w items n)
+drop-chunks w items n zero inside = let whole : n - 0 ≡ n = omega arith in (λ i. chunks w (drop (zero-mul w i) items) (whole i))
+drop-chunks w items zero (suc g) inside = absurd (omega arith)
+drop-chunks w items (suc n) (suc g) inside =
+    let up : suc g * w ≡ w + g * w = (let e = suc-mul g w in omega arith) in
+    let fewer : suc n - suc g ≡ n - g = omega arith in
+    (λ i. chunks w (drop (up i) items) (fewer i)) ∙ ap (λ (l : List _). chunks w l (n - g)) (sym (drop-more (g * w) w items)) ∙ drop-chunks w (drop w items) n g (omega arith)
+
+-- as many words are left as they have
+pub words-left : {X : Type 0} (w : ℕ) (items : List X) (n g : ℕ) → g ≤ n → length items ≡ n * w → length (drop (g * w) items) ≡ (n - g) * w
+words-left w items n zero inside long = let whole : n - 0 ≡ n = omega arith in ap (λ m. length (drop m items)) (zero-mul w) ∙ long ∙ ap (λ m. m * w) (sym whole)
+words-left w items zero (suc g) inside long = absurd (omega arith)
+words-left w items (suc n) (suc g) inside long =
+    let up : suc g * w ≡ w + g * w = (let e = suc-mul g w in omega arith) in
+    let fewer : suc n - suc g ≡ n - g = omega arith in
+    let split : suc n * w ≡ n * w + w = suc-mul n w in
+    let rest : length (drop w items) ≡ n * w = length-drop w items ∙ (let e : length items - w ≡ n * w = omega arith in e) in
+    (λ i. length (drop (up i) items)) ∙ ap length (sym (drop-more (g * w) w items)) ∙ words-left w (drop w items) n g (omega arith) rest ∙ ap (λ m. m * w) (sym fewer)
+
+-- the first so many words are there
+pub words-first : (w n g long : ℕ) → g ≤ n → long ≡ n * w → g * w ≤ long
+words-first w n g long inside is = let below : g * w ≤ n * w = mul-le-mul_right w inside in omega arith
+
 place-inside : (place count width long : ℕ) → place < count → long ≡ count * width → place * width + width ≤ long
 place-inside place count width long inside is =
     let some : suc place * width ≤ count * width = mul-le-mul_right width (omega arith) in

@@ -1,5 +1,5 @@
 -- What one turn of a search does.
-use Rattle.std.specs.Prelude.{◌≡◌, ℕ, List, [], ◌∷◌, ◌++◌, Option, Some, None}
+use Rattle.std.specs.Prelude.{◌≡◌, ℕ, List, [], ◌∷◌, ◌++◌, map, Option, Some, None, ◌⊎◌}
 use Rattle.aud_object.specs.Objects.{ObjState}
 use Rattle.aud_witness.specs.declared.decision.Decision.{Decision}
 use Rattle.aud_order.specs.Cursors.{CursorOf, cursor_back}
@@ -7,7 +7,7 @@ use Rattle.aud_search.specs.declared.choice.Choice.{Choice}
 use Rattle.aud_search.specs.declared.search.Arrival.{Arrival}
 use Rattle.aud_search.specs.declared.search.Arrival.TheVariants.{Known, Fresh}
 use Rattle.aud_search.specs.declared.search.Turn.{Turn}
-use Rattle.aud_search.specs.Memos.{states_reached, Names, IsRefutedAt}
+use Rattle.aud_search.specs.Memos.{MemoOf, states_reached, Names, IsRefutedAt}
 use Rattle.aud_search.specs.Recorders.{HasNote, AreKept}
 use Rattle.aud_search.specs.Tried.{IsFound, ArePassed}
 
@@ -24,3 +24,13 @@ IsArrived noted all old new (Fresh states) = Names all states (states_reached ol
 abbrev pub IsClosed : {N : Type 0} → (N → List Decision → Type 0) → CursorOf → CursorOf → List Turn → List Turn → Turn → Option N → Type 0
 IsClosed noted old new turns less here (Some note) = (turns ≡ []) × noted note old.path × (new ≡ old)
 IsClosed noted old new turns less here None = (turns ≡ less ++ here ∷ []) × HasNote noted old.path × (new ≡ cursor_back old)
+
+-- the same turn, but the states have no number
+abbrev pub unnumbered : Turn → Turn
+unnumbered t = record { next = t.next; states = None; silent = t.silent }
+
+-- all is as it was, or the memo forgot what it may have known and the states of no turn have a number
+pub record HasRoomMade {V : Type 0} (old new : MemoOf V) (turns later : List Turn) (here now : Turn) : Type 0 where
+  pub shape : new.shape ≡ old.shape
+  pub recorder : new.recorder ≡ old.recorder
+  pub numbers : ((new.states ≡ old.states) × (later ≡ turns) × (now ≡ here)) ⊎ ((later ≡ map unnumbered turns) × (now ≡ unnumbered here))

@@ -3,8 +3,10 @@
 //! What is found under a hash need not be what was put there: whoever looks compares. So nothing is promised of an index
 //! but that each call ends, and only how fast a search is depends on it.
 
+use crate::room::{gives, takes};
 use aud_event::OutOfMemory;
 use std::alloc::{Allocator, Global};
+use std::mem::size_of;
 
 /// The upper half of a hash and a place, counted from 1; the place 0 says that the slot is free.
 #[derive(Clone, Copy)]
@@ -31,6 +33,12 @@ pub(crate) struct Index<A: Allocator + Copy = Global> {
     slots: Vec<Slot, A>,
     taken: usize,
 }
+
+/// A slot in which nothing stands.
+const FREE: Slot = Slot { hash: 0, place: 0 };
+
+/// How many bytes a slot takes.
+const SLOT: usize = size_of::<Slot>();
 
 /// The fewest slots.
 const FEWEST: usize = 64;
@@ -107,11 +115,14 @@ impl<A: Allocator + Copy> Index<A> {
         }
     }
 
-    /// Twice as many slots.
-    fn grow(&mut self) -> Result<(), OutOfMemory> {
-        let count = self.slots.len().saturating_mul(2).max(FEWEST);
-        let free = Slot { hash: 0, place: 0 };
-        let mut slots = vec![in self.alloc; free; count]?;
+    /// How many bytes its slots take.
+    pub(crate) fn size(&self) -> usize {
+        self.slots.len().saturating_mul(SLOT)
+    }
+
+    /// Twice as many slots, if there is memory for them.
+    fn grow_to(&mut self, count: usize) -> Result<(), OutOfMemory> {
+        let mut slots = vec![in self.alloc; FREE; count]?;
         for slot in &self.slots {
             if slot.place != 0 {
                 put_into(&mut slots, *slot);
@@ -121,13 +132,39 @@ impl<A: Allocator + Copy> Index<A> {
         Ok(())
     }
 
-    /// Puts the place under the hash. It holds places below 2^32 - 1; any other is as memory that is wanting.
-    pub(crate) fn put(&mut self, hash: u64, place: usize) -> Result<(), OutOfMemory> {
+    /// Twice as many slots, if there is room and memory for them beside the old ones.
+    fn grow(&mut self, room: &mut usize) -> Result<(), OutOfMemory> {
+        let count = self.slots.len().saturating_mul(2).max(FEWEST);
+        let (old, size) = (self.size(), count.saturating_mul(SLOT));
+        if !takes(room, size) {
+            return Err(OutOfMemory);
+        }
+        let grown = self.grow_to(count);
+        gives(room, if grown.is_ok() { old } else { size });
+        grown
+    }
+
+    /// Forgets all places, and keeps the slots.
+    pub(crate) fn clear(&mut self) {
+        for slot in self.slots.iter_mut() {
+            *slot = FREE;
+        }
+        self.taken = 0;
+    }
+
+    /// Puts the place under the hash, if there is room and memory for it. It holds places below 2^32 - 1; any other is as memory
+    /// that is wanting.
+    pub(crate) fn put(
+        &mut self,
+        hash: u64,
+        place: usize,
+        room: &mut usize,
+    ) -> Result<(), OutOfMemory> {
         let Ok(place) = u32::try_from(place.wrapping_add(1)) else {
             return Err(OutOfMemory);
         };
         if self.taken >= self.slots.len() / 2 {
-            self.grow()?;
+            self.grow(room)?;
         }
         let hash = half_of(hash);
         put_into(&mut self.slots, Slot { hash, place });

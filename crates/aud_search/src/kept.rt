@@ -1,6 +1,6 @@
 //! States under numbers, kept by the blocks that lead to them.
 
-ghost use Rattle.std.specs.Prelude.{◌≡◌, IsTrue, MatchOption, Some, reverse};
+ghost use Rattle.std.specs.Prelude.{◌≡◌, IfSome, IsTrue, MatchOption, Some, reverse};
 ghost use Rattle.aud_history.specs.Table.{row_of};
 ghost use Rattle.aud_order.specs.Shapes.{history_of};
 ghost use Rattle.aud_search.specs.Memos.{Names};
@@ -8,10 +8,11 @@ ghost use Rattle.aud_search.specs.Kept.{IsMoreOf, states_of, run_way, IsWayTo, L
 
 use crate::digests::Digests;
 use crate::index::{Index, Look};
-use crate::room::takes;
+use crate::room::{gives, reserves, takes};
 use aud_object::{Block, Store};
 use aud_order::Shape;
 use std::alloc::{Allocator, Global};
+use std::mem::size_of;
 
 /// How the states under a number are kept.
 #[derive(Drop)]
@@ -59,6 +60,11 @@ impl<A: Allocator + Copy> Finder<A> {
         self.digests.forget();
     }
 
+    /// Forgets where states of a digest are.
+    pub(crate) fn forget(&mut self, alloc: A) {
+        self.by_digest = Index::new(alloc);
+    }
+
     /// The digest of where the search stands.
     pub(crate) fn digest(&mut self, store: &Store<A>) -> Option<u64> {
         self.digests.all(store)
@@ -78,8 +84,21 @@ const LOOKS: usize = 64;
 /// The most blocks that run from whole states on.
 const LONGEST: usize = 64;
 
-/// What whole states take for each number that they keep, about, in bytes, and what any states take.
-const SIZE: (usize, usize) = (40, 96);
+/// How many bytes states take where they stand, by whatever they are kept.
+const KEPT: usize = size_of::<Kept<Global>>();
+
+/// How many bytes a copy of a store takes for an object, and the most for the first and for each further member or item of one.
+const OBJECT: usize = 40;
+
+const FIRST: usize = 128;
+
+const FURTHER: usize = 32;
+
+/// The most that a copy takes beside that, and a copy that several have once more.
+const HEAD: usize = 96;
+
+/// The most that taking an operation back takes, or a block, where it ran on kept states: 32 bytes in a list that doubles.
+const ENTRY: usize = 64;
 
 /// The block of the transaction, if the history has it.
 fn block_of<A: Allocator + Copy>(shape: &Shape<A>, tx: u32) -> Option<&Block<A>>
@@ -203,27 +222,73 @@ fn find_states<A: Allocator + Copy>(
     None
 }
 
+/// How many operations are in the block of the step.
+fn operations_of<A: Allocator + Copy>(shape: &Shape<A>, step: Step) -> usize {
+    match block_of(shape, step.tx) {
+        Some(block) => block.executions().len(),
+        None => 0,
+    }
+}
+
 /// What would run from whole states on, the block of the step last.
 fn cost_of<A: Allocator + Copy>(kept: &[Kept<A>], shape: &Shape<A>, step: Step) -> Cost {
     let (blocks, operations) = match kept.get(step.from) {
         Some(Kept::After(_, cost)) => (cost.blocks, cost.operations),
         _ => (0, 0),
     };
-    let own = match block_of(shape, step.tx) {
-        Some(block) => block.executions().len(),
-        None => 0,
-    };
     Cost {
         blocks: blocks.saturating_add(1),
-        operations: operations.saturating_add(own),
+        operations: operations.saturating_add(operations_of(shape, step)),
+    }
+}
+
+/// The most that a copy of the store's states takes beside the place where it stands, in bytes. Objects stand in a list that doubles,
+/// from four on.
+fn size_of_whole<A: Allocator + Copy>(store: &Store<A>) -> usize {
+    let objects = store.len();
+    let values = store.size().saturating_sub(objects);
+    let places = objects.max(4).checked_next_power_of_two();
+    let size = places.unwrap_or(usize::MAX).saturating_mul(OBJECT);
+    size.saturating_add(values.min(objects).saturating_mul(FIRST))
+        .saturating_add(values.saturating_mul(FURTHER))
+        .saturating_add(HEAD)
+}
+
+/// The same of a copy that several have.
+pub(crate) fn size_of_shared<A: Allocator + Copy>(store: &Store<A>) -> usize {
+    size_of_whole(store).saturating_add(HEAD)
+}
+
+/// The most that the block of a step takes while it runs on the states from which it is kept, in bytes.
+fn size_of_step<A: Allocator + Copy>(shape: &Shape<A>, step: Step) -> usize {
+    operations_of(shape, step)
+        .saturating_add(1)
+        .saturating_mul(ENTRY)
+}
+
+/// A copy of the store's states, if there is room and memory for it.
+fn copy_of<A: Allocator + Copy>(room: &mut usize, store: &Store<A>) -> Option<Store<A>>
+    ensures { IfSome result (λ copy. copy.now ≡ store.now.now) }
+{
+    let size = size_of_whole(store);
+    if !takes(room, size) {
+        return None;
+    }
+    match store.present() {
+        Ok(copy) => Some(copy),
+        Err(_) => {
+            gives(room, size);
+            None
+        }
     }
 }
 
 /// How the store's states are kept: after others, where few blocks run from whole ones on, with no more operations than a copy
-/// has numbers, or whole.
+/// has numbers, or whole, if there is room and memory for that.
 fn kept_as<A: Allocator + Copy>(
     kept: &[Kept<A>],
     shape: &Shape<A>,
+    room: &mut usize,
     step: Option<Step>,
     store: &Store<A>,
 ) -> Option<Kept<A>>
@@ -233,20 +298,21 @@ fn kept_as<A: Allocator + Copy>(
     if let Some(step) = step {
         let cost = cost_of(kept, shape, step);
         if cost.blocks <= LONGEST && cost.operations <= store.size() {
+            if !takes(room, size_of_step(shape, step)) {
+                return None;
+            }
             return Some(Kept::After(step, cost));
         }
     }
-    match store.present() {
-        Ok(copy) => Some(Kept::Whole(copy)),
-        Err(_) => None,
-    }
+    let copy = copy_of(room, store)?;
+    Some(Kept::Whole(copy))
 }
 
-/// About how many bytes they take.
-fn size_of<A: Allocator + Copy>(fresh: &Kept<A>) -> usize {
+/// What they take beside the place where they stand, in bytes.
+fn size_beside<A: Allocator + Copy>(shape: &Shape<A>, fresh: &Kept<A>) -> usize {
     match fresh {
-        Kept::Whole(store) => store.size().saturating_mul(SIZE.0).saturating_add(SIZE.1),
-        Kept::After(_, _) => SIZE.1,
+        Kept::Whole(store) => size_of_whole(store),
+        Kept::After(step, _) => size_of_step(shape, *step),
     }
 }
 
@@ -267,12 +333,13 @@ pub(crate) fn keep_states<A: Allocator + Copy>(
     if let Some(number) = find_states(kept, finder, shape, digest, store) {
         return Some(number);
     }
-    let fresh = kept_as(kept, shape, step, store)?;
-    if !takes(room, size_of(&fresh)) {
+    if !reserves(room, kept, 1, KEPT) {
         return None;
     }
+    let fresh = kept_as(kept, shape, room, step, store)?;
     let number = kept.len();
-    if finder.by_digest.put(digest, number).is_err() {
+    if finder.by_digest.put(digest, number, room).is_err() {
+        gives(room, size_beside(shape, &fresh));
         return None;
     }
     let Ok(()) = kept.push(fresh) else {

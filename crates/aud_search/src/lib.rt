@@ -12,10 +12,12 @@ mod recorder;
 mod room;
 mod rules;
 mod search;
+mod searches;
 mod shared;
 mod spots;
 
 pub use outcome::{Decided, Outcome, Searched};
 pub use recorder::Recorder;
-pub use search::{Memory, decide, explore, search_with};
+pub use search::{decide, explore, search_with};
+pub use searches::Memory;
 pub use shared::{Scene, Shared};

@@ -15,10 +15,10 @@ ghost use Rattle.aud_search.specs.Spots.{AreWith, entry, with_place};
 
 use crate::choice::{Choice, Effect};
 use crate::index::{Index, Look, hash_of};
-use crate::kept::{Finder, Kept, Step, keep_states};
+use crate::kept::{Finder, Kept, Step, keep_states, size_of_shared};
 use crate::recorder::Recorder;
-use crate::room::takes;
-use crate::spots::Spots;
+use crate::room::{gives, reserves, takes};
+use crate::spots::{Spots, forget_first};
 use aud_event::OutOfMemory;
 use aud_marks::Marks;
 use aud_object::Store;
@@ -26,6 +26,7 @@ use aud_order::{Cursor, Shape};
 use aud_witness::{Decision, Fate};
 use std::alloc::{Allocator, Global};
 use std::marker::Model;
+use std::mem::size_of;
 use std::sync::Arc;
 
 /// The block of the transaction leads from the states of one number to those of another.
@@ -56,9 +57,13 @@ pub(crate) enum Reason<N> {
 
 /// Spots of refuted lists of one shape, and where blocks lead. States that many spots share are kept once, under a number.
 ///
-/// A spot is kept as words: the number of the states, then the marks of the rows that were placed. When its room is full,
-/// the spots are forgotten and others come; where memory runs out a new one is. Each spot has the note of its list, and what
-/// notes the lists is kept here too.
+/// A spot is kept as words: the number of the states, then the marks of the rows that were placed. Each spot has the note of its
+/// list, and what notes the lists is kept here too.
+///
+/// A part of the room is for spots: when it is used up the older half of them is forgotten. The other part is for states, with their
+/// numbers, and for leads: when it is used up the leads are forgotten, and when states take it up alone the memo is full. It
+/// then waits to be begun anew, as searches hold numbers of states; until then new states get none. Where memory is refused the
+/// same is forgotten.
 #[derive(Drop)]
 pub(crate) struct Memo<'a, N: Copy, R: Recorder<N, A>, A: Allocator + Copy = Global> {
     alloc: A,
@@ -72,7 +77,10 @@ pub(crate) struct Memo<'a, N: Copy, R: Recorder<N, A>, A: Allocator + Copy = Glo
     seen: Vec<Option<Seen<A>>, A>,
     recorder: R,
     room: usize,
+    states_room: usize,
     spots_room: usize,
+    is_short: bool,
+    is_full: bool,
 }
 
 impl<'a, N: Copy, R: Recorder<N, A>, A: Allocator + Copy> Model for Memo<'a, N, R, A> {
@@ -90,19 +98,25 @@ impl<'a, N: Copy, R: Recorder<N, A>, A: Allocator + Copy> Model for Memo<'a, N, 
         × AreSeen (states_of (history_of m.shape.now) m.kept.items) m.seen.items };
 }
 
-/// How much memory a memo takes, about, in bytes.
-const ROOM: usize = 1 << 30;
+/// How many numbers states keep that others may have: the most.
+pub(crate) const LARGEST_SEEN: usize = 32;
 
-/// How many states others may have, and how many numbers each of them keeps: the most.
-const MOST_SEEN: usize = 1 << 16;
+/// How many bytes a lead takes, states as others may have them, beside these, and the note of a recorder that is not deaf.
+const LEAD: usize = size_of::<Lead>();
 
-const LARGEST_SEEN: usize = 32;
+const SEEN: usize = size_of::<Option<Seen<Global>>>();
+
+const NOTE: usize = size_of::<usize>();
 
 /// How many slots are looked at before something counts as not found.
 const LOOKS: usize = 64;
 
-/// What a lead and a spot take beside the marks, about, in bytes.
-const ITEM: usize = 48;
+/// How much of the room is for states and leads, and how much for spots: where others know of what is refuted, few spots are left to
+/// keep here.
+fn parts_of(room: usize, is_sharing: bool) -> (usize, usize) {
+    let spots = if is_sharing { room / 4 } else { room / 2 };
+    (room.saturating_sub(spots), spots)
+}
 
 /// Where the transaction's block leads from the states of the number, if that is known.
 fn find_lead<A: Allocator + Copy>(
@@ -135,10 +149,20 @@ fn note_at<N: Copy>(notes: &[N], place: usize) -> Option<N>
     notes.get(place).copied()
 }
 
-/// The states as others may have them, if they are few and there is memory for them.
+/// A copy of the states that several may have, if there is memory for it.
+fn shared_copy<A: Allocator + Copy>(alloc: A, store: &Store<A>) -> Option<Arc<Store<A>, A>>
+    ensures { IfSome result (λ states. states.value.now ≡ store.now.now) }
+{
+    let copy = store.present().ok()?;
+    let states = Arc::new(alloc, copy).ok()?;
+    Some(states)
+}
+
+/// The states as others may have them, if they are few and there is room and memory for them.
 fn seen_of<A: Allocator + Copy>(
     alloc: A,
     finder: &mut Finder<A>,
+    room: &mut usize,
     store: &Store<A>,
 ) -> Option<Seen<A>>
     ensures { IfSome result (λ seen. seen.states.value.now ≡ store.now.now) }
@@ -147,8 +171,14 @@ fn seen_of<A: Allocator + Copy>(
         return None;
     }
     let digest = finder.digest(store)?;
-    let copy = store.present().ok()?;
-    let states = Arc::new(alloc, copy).ok()?;
+    let size = size_of_shared(store);
+    if !takes(room, size) {
+        return None;
+    }
+    let Some(states) = shared_copy(alloc, store) else {
+        gives(room, size);
+        return None;
+    };
     Some(Seen { states, digest })
 }
 
@@ -172,25 +202,30 @@ fn leaves_states(choice: &Choice) -> bool
     }
 }
 
-/// A lead comes after the others, if there is memory for it.
+/// A lead comes after the others, if there is room and memory for it.
 fn keep_lead<A: Allocator + Copy>(
     leads: &mut Vec<Lead, A>,
     by_hash: &mut Index<A>,
+    room: &mut usize,
     lead: Lead,
 ) -> Result<(), OutOfMemory>
     ensures { AreWith leads.old.items leads.new.items lead }
 {
-    by_hash.put(hash_of(lead.from as u64, lead.tx as u64), leads.len())?;
+    if !reserves(room, leads, 1, LEAD) {
+        return Err(OutOfMemory);
+    }
+    by_hash.put(hash_of(lead.from as u64, lead.tx as u64), leads.len(), room)?;
     leads.push(lead)?;
     Ok(())
 }
 
 impl<'a, N: Copy, R: Recorder<N, A>, A: Allocator + Copy> Memo<'a, N, R, A> {
-    /// A memo of nothing. It does not allocate.
-    pub(crate) fn new(alloc: A, shape: &'a Shape<A>, recorder: R) -> Memo<'a, N, R, A>
+    /// A memo of nothing, with so much room in bytes. It does not allocate.
+    pub(crate) fn new(alloc: A, shape: &'a Shape<A>, recorder: R, room: usize) -> Memo<'a, N, R, A>
         requires { R.is_for recorder shape.now }
         ensures { result ≡ record { shape = shape.entry.now; states = []; recorder = recorder } }
     {
+        let (states_room, spots_room) = parts_of(room, recorder.is_sharing());
         Memo {
             alloc,
             shape,
@@ -202,8 +237,11 @@ impl<'a, N: Copy, R: Recorder<N, A>, A: Allocator + Copy> Memo<'a, N, R, A> {
             notes: Vec::new(alloc),
             seen: Vec::new(alloc),
             recorder,
-            room: ROOM,
-            spots_room: 0,
+            room,
+            states_room,
+            spots_room,
+            is_short: false,
+            is_full: false,
         }
     }
 
@@ -243,18 +281,72 @@ impl<'a, N: Copy, R: Recorder<N, A>, A: Allocator + Copy> Memo<'a, N, R, A> {
         ensures grown { IsGrown self.old self.new }
         ensures named { Names self.new.states result (states_reached cursor.now.shape cursor.now.path) }
     {
+        let known = self.kept.len();
         let number = keep_states(
             &mut self.kept,
             &mut self.finder,
             self.shape,
-            &mut self.room,
+            &mut self.states_room,
             step,
             cursor.store(),
         );
-        if let Some(number) = number {
-            self.see(number, cursor.store());
+        match number {
+            Some(number) => {
+                self.is_short = self.is_short && self.kept.len() == known;
+                self.see(number, cursor.store());
+            }
+            None => self.run_short(),
         }
         number
+    }
+
+    /// Notes that there was no room for states: the leads are forgotten, or where they were since the last new states the memo
+    /// is full.
+    fn run_short(&mut self)
+        ensures { self.new ≡ self.old }
+    {
+        if self.is_short {
+            self.is_full = true;
+            return;
+        }
+        self.is_short = true;
+        self.forget_leads();
+    }
+
+    /// Forgets the leads, and has their room again.
+    fn forget_leads(&mut self)
+        ensures { self.new ≡ self.old }
+    {
+        let size = self.leads.capacity().saturating_mul(LEAD);
+        gives(
+            &mut self.states_room,
+            size.saturating_add(self.leads_by_hash.size()),
+        );
+        self.leads = Vec::new(self.alloc);
+        self.leads_by_hash = Index::new(self.alloc);
+    }
+
+    /// Whether there is no room for new states.
+    pub(crate) fn is_full(&self) -> bool {
+        self.is_full
+    }
+
+    /// Forgets all, and has the whole room again. No states have a number then.
+    pub(crate) fn begin_anew(&mut self)
+        ensures { self.new ≡ record { shape = self.old.shape; states = []; recorder = self.old.recorder } }
+    {
+        self.spots = Spots::new(self.alloc);
+        self.notes = Vec::new(self.alloc);
+        self.leads = Vec::new(self.alloc);
+        self.leads_by_hash = Index::new(self.alloc);
+        self.seen = Vec::new(self.alloc);
+        self.kept = Vec::new(self.alloc);
+        self.finder.forget(self.alloc);
+        let (states_room, spots_room) = parts_of(self.room, self.recorder.is_sharing());
+        self.states_room = states_room;
+        self.spots_room = spots_room;
+        self.is_short = false;
+        self.is_full = false;
     }
 
     /// Has the states of the number as others may have them, where the recorder shares what it hears of.
@@ -262,11 +354,19 @@ impl<'a, N: Copy, R: Recorder<N, A>, A: Allocator + Copy> Memo<'a, N, R, A> {
         requires { Names self.old.states (Some number) store.now.now }
         ensures { self.new ≡ self.old }
     {
-        if number != self.seen.len() || number >= MOST_SEEN || !self.recorder.is_sharing() {
+        if number != self.seen.len() || !self.recorder.is_sharing() {
             return;
         }
-        let seen = seen_of(self.alloc, &mut self.finder, store);
+        if !reserves(&mut self.states_room, &mut self.seen, 1, SEEN) {
+            self.forget_leads();
+            return;
+        }
+        let seen = seen_of(self.alloc, &mut self.finder, &mut self.states_room, store);
+        let is_short = seen.is_none() && store.size() <= LARGEST_SEEN;
         let _ = self.seen.push(seen);
+        if is_short {
+            self.forget_leads();
+        }
     }
 
     /// The note of a refuted list that others know of, which leaves the states of the number and places the rows that are marked,
@@ -337,9 +437,12 @@ impl<'a, N: Copy, R: Recorder<N, A>, A: Allocator + Copy> Memo<'a, N, R, A> {
         requires { IsLead self.old.shape self.old.states lead }
         ensures { self.new ≡ self.old }
     {
-        if takes(&mut self.room, ITEM) {
-            let _ = keep_lead(&mut self.leads, &mut self.leads_by_hash, lead);
-        }
+        let _ = keep_lead(
+            &mut self.leads,
+            &mut self.leads_by_hash,
+            &mut self.states_room,
+            lead,
+        );
     }
 
     /// The number of the states where the cursor stands, after a choice that was good where the states have the number
@@ -455,14 +558,12 @@ impl<'a, N: Copy, R: Recorder<N, A>, A: Allocator + Copy> Memo<'a, N, R, A> {
         }
     }
 
-    /// Forgets the spots, and has their room again.
-    fn forget_spots(&mut self)
+    /// Forgets the older half of the spots.
+    fn forget_older(&mut self)
         ensures { self.new ≡ self.old }
     {
-        self.spots = Spots::new(self.alloc);
-        self.notes.clear();
-        self.room = self.room.saturating_add(self.spots_room);
-        self.spots_room = 0;
+        let gone = self.spots.forget_older();
+        forget_first(&mut self.notes, gone);
     }
 
     /// Keeps the spot of the cursor's list, which is refuted, and whose states have the number.
@@ -475,19 +576,17 @@ impl<'a, N: Copy, R: Recorder<N, A>, A: Allocator + Copy> Memo<'a, N, R, A> {
     {
         let _good = cursor.prefix();
         let placed = cursor.placed();
-        let size = placed.words().len().saturating_mul(8).saturating_add(ITEM);
-        if !takes(&mut self.room, size) {
-            self.forget_spots();
+        let size = if self.recorder.is_deaf() { 0 } else { NOTE };
+        if !reserves(&mut self.spots_room, &mut self.notes, 1, size) {
+            self.forget_older();
             return;
         }
-        self.spots_room = self.spots_room.saturating_add(size);
-        if self.notes.reserve(1).is_err() {
-            return;
-        }
-        if self.spots.keep(states, placed) {
+        if self.spots.keep(states, placed, &mut self.spots_room) {
             let Ok(()) = self.notes.push(note) else {
                 unreachable!()
             };
+            return;
         }
+        self.forget_older();
     }
 }

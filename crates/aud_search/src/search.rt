@@ -1,7 +1,7 @@
 //! The search over one cursor: each good list of decisions is expanded at most once, and so is each spot, which is the
 //! transactions placed and the states of all objects. Where a silent transaction is good, only its choice is followed.
 
-ghost use Rattle.std.specs.Prelude.{◌≡◌, ◌<◌, List, Some, None, true, length, slice_index_or, IfOk, OnOk, IsTrue, MatchOption, []};
+ghost use Rattle.std.specs.Prelude.{◌≡◌, ◌<◌, List, Some, None, true, length, map, slice_index_or, IfOk, OnOk, IsTrue, MatchOption, []};
 ghost use Rattle.aud_witness.specs.Orders.{IsFull, Opaque};
 ghost use Rattle.aud_witness.specs.declared.decision.Decision.{Decision};
 ghost use Rattle.aud_history.specs.WellFormed.{IsWellFormed};
@@ -15,21 +15,20 @@ ghost use Rattle.aud_order.specs.Cursors.{cursor_back, cursor_with};
 ghost use Rattle.aud_search.specs.Tried.{no_choice, IsTried, IsTriedEnough, IsFound, IsFoundEnough, IsTaken, IsNextPlace, ArePassed, IsWitnessOf, ReportsAt};
 ghost use Rattle.aud_search.specs.Memos.{Names, states_reached, IsReported, IsFurther, IsStep, IsRefutedAt};
 ghost use Rattle.aud_search.specs.Recorders.{HasNote, IsNotedFor, IsReason, AreKept, IsSilentAt, reason_by, IsNotedAfter, HasNoteAfter};
-ghost use Rattle.aud_search.specs.Turns.{IsSought, IsArrived, IsClosed};
+ghost use Rattle.aud_search.specs.Turns.{IsSought, IsArrived, IsClosed, unnumbered, HasRoomMade};
 
 use crate::choice::{Choice, Effect, choices_of};
 use crate::memo::{Memo, Reason};
 use crate::outcome::{Decided, Ended, Outcome, Searched};
 use crate::ready::Ready;
 use crate::recorder::{Recorder, Unnoted, Unrecorded};
+use crate::room::BOUND;
 use crate::rules::Rules;
-use crate::shared::{ROWS_MAX, Scene, Shared, Sharing};
 use aud_event::OutOfMemory;
 use aud_order::{Cursor, Pushed, Shape};
 use aud_witness::laws::letter_is_opaque;
 use aud_witness::{Decision, Fate, Prefix};
-use std::alloc::{Allocator, Global};
-use std::marker::Model;
+use std::alloc::Allocator;
 
 /// One expansion less, if there is one.
 fn spend(left: Option<u64>) -> Option<Option<u64>>
@@ -216,6 +215,41 @@ impl Turn {
             states,
             silent: None,
         }
+    }
+
+    /// The same, but the states have no number.
+    fn unnumbered(self) -> Turn
+        ensures { result ≡ unnumbered self }
+    {
+        Turn {
+            next: self.next,
+            states: None,
+            silent: self.silent,
+        }
+    }
+}
+
+/// Takes the numbers of all states away.
+fn forget_numbers(turns: &mut [Turn])
+    ensures { turns.new ≡ map unnumbered turns.old }
+{
+    for place in 0..turns.len() {
+        turns[place] = turns[place].unnumbered();
+    }
+}
+
+/// Begins the memo anew if it is full. Then the states of no turn have a number.
+fn make_room<N: Copy, R: Recorder<N, A>, A: Allocator + Copy>(
+    memo: &mut Memo<N, R, A>,
+    turns: &mut Vec<Turn, A>,
+    here: &mut Turn,
+)
+    ensures { HasRoomMade memo.old memo.new turns.old.items turns.new.items here.old here.new }
+{
+    if memo.is_full() {
+        memo.begin_anew();
+        forget_numbers(turns);
+        *here = here.unnumbered();
     }
 }
 
@@ -537,6 +571,7 @@ fn search_on<N: Copy, R: Recorder<N, A>, A: Allocator + Copy>(
         ready.go_on(choice.decision, cursor);
         turns.push(here)?;
         here = Turn::new(states);
+        make_room(memo, turns, &mut here);
     }
 }
 
@@ -598,7 +633,7 @@ fn search_under<'a, R: Recorder<Unnoted, A>, A: Allocator + Copy>(
 
 /// Searches the lists that begin with the prefix, with a budget or without, over what is remembered of the shape, as
 /// `search_under` says it.
-fn search<'a, R: Recorder<Unnoted, A>, A: Allocator + Copy>(
+pub(crate) fn search<'a, R: Recorder<Unnoted, A>, A: Allocator + Copy>(
     alloc: A,
     shape: &'a Shape<A>,
     first: u32,
@@ -616,108 +651,6 @@ fn search<'a, R: Recorder<Unnoted, A>, A: Allocator + Copy>(
     search_under(alloc, shape, first, &mut cursor, budget, memo)
 }
 
-/// What searches of the shape share of what there is: they share nothing where no one word marks all rows.
-fn shared_of<'a, J: Scene, A: Allocator + Copy>(
-    shape: &Shape<A>,
-    shared: Option<&'a Shared<J, A>>,
-) -> Option<&'a Shared<J, A>> {
-    if shape.table().rows().len() <= ROWS_MAX {
-        shared
-    } else {
-        None
-    }
-}
-
-/// Where the last transaction of the list did its last event.
-fn last_of<A: Allocator + Copy>(shape: &Shape<A>, list: &[Decision]) -> u32 {
-    let Some(decision) = list.last() else {
-        return 0;
-    };
-    let table = shape.table();
-    match table.place(decision.tx) {
-        Some(place) => table.rows()[place].last(),
-        None => 0,
-    }
-}
-
-/// Puts a memo of nothing in place of another.
-fn forget_all<'a, J: Scene, A: Allocator + Copy>(
-    alloc: A,
-    shape: &'a Shape<A>,
-    shared: Option<&'a Shared<J, A>>,
-    memo: &mut Memo<'a, Unnoted, Sharing<'a, J, A>, A>,
-)
-    requires { shape.now ≡ J.shape }
-    ensures { memo.new.shape ≡ shape.now }
-{
-    *memo = Memo::new(alloc, shape, Sharing { shared });
-}
-
-/// What searches of one history have refuted, for the searches that come after them: a list is not expanded where one of the same
-/// transactions and the same states was refuted before. It takes memory as it comes to know more, some gigabyte at most.
-#[derive(Drop)]
-pub struct Memory<'a, J: Scene, A: Allocator + Copy = Global> {
-    alloc: A,
-    shape: &'a Shape<A>,
-    shared: Option<&'a Shared<J, A>>,
-    memo: Memo<'a, Unnoted, Sharing<'a, J, A>, A>,
-}
-
-impl<'a, J: Scene, A: Allocator + Copy> Model for Memory<'a, J, A> {
-    ghost use Rattle.std.specs.Prelude.{◌≡◌};
-    ghost use Rattle.aud_order.specs.Shapes.{ShapeOf};
-
-    ghost Value = { ShapeOf };
-
-    ghost view = { λ m. m.shape.now };
-
-    ghost invariant = { λ m. (m.memo.shape ≡ m.shape.now) × (m.shape.now ≡ J.shape) };
-}
-
-impl<'a, J: Scene, A: Allocator + Copy> Memory<'a, J, A> {
-    /// Of nothing. It does not allocate.
-    pub fn new(alloc: A, shape: &'a Shape<A>, shared: Option<&'a Shared<J, A>>) -> Memory<'a, J, A>
-        requires { shape.now ≡ J.shape }
-        ensures { result ≡ shape.entry.now }
-    {
-        let shared = shared_of(shape, shared);
-        Memory {
-            alloc,
-            shape,
-            shared,
-            memo: Memo::new(alloc, shape, Sharing { shared }),
-        }
-    }
-
-    /// Whether some list that begins with the prefix shows the history, as `explore` says it. What it refutes is remembered, and
-    /// what was remembered costs no expansion. Where memory is refused all is forgotten.
-    pub fn explore(&mut self, prefix: &Prefix<A>, budget: u64) -> Result<Outcome<A>, OutOfMemory>
-        ensures reported { IfOk result (Reports (objects_of self.old) (history_of self.old) prefix.now (Some budget)) }
-        ensures shape { self.new ≡ self.old }
-    {
-        self.memo.move_away();
-        let first = match self.shared {
-            Some(_) => last_of(self.shape, prefix.decisions()),
-            None => 0,
-        };
-        let (alloc, shape, shared) = (self.alloc, self.shape, self.shared);
-        match search(
-            alloc,
-            shape,
-            first,
-            prefix.decisions(),
-            Some(budget),
-            &mut self.memo,
-        ) {
-            Ok(outcome) => Ok(outcome),
-            Err(error) => {
-                forget_all(alloc, shape, shared, &mut self.memo);
-                Err(error)
-            }
-        }
-    }
-}
-
 /// Whether some list that begins with the prefix shows the history, as far as the budget goes: exactly so many prefixes
 /// are expanded before it is reported as spent. A prefix is expanded when the choices after it are tried for the first time;
 /// one that is not good is refuted, and a full one is the witness, without an expansion.
@@ -729,7 +662,7 @@ pub fn explore<A: Allocator + Copy>(
 ) -> Result<Outcome<A>, OutOfMemory>
     ensures { IfOk result (Reports (objects_of shape.now) (history_of shape.now) prefix.now (Some budget)) }
 {
-    let mut memo = Memo::new(alloc, shape, Unrecorded);
+    let mut memo = Memo::new(alloc, shape, Unrecorded, BOUND);
     search(alloc, shape, 0, prefix.decisions(), Some(budget), &mut memo)
 }
 
@@ -762,7 +695,7 @@ fn search_all<'a, N: Copy, R: Recorder<N, A>, A: Allocator + Copy>(
     let _sound = shape.history();
     let _within = shape.plan();
     let choices = choices_of(alloc, shape, 0)?;
-    let mut memo = Memo::new(alloc, shape, recorder);
+    let mut memo = Memo::new(alloc, shape, recorder, BOUND);
     let ended = search_from(alloc, shape, cursor, &choices, None, &mut memo)?;
     let recorder = memo.into_recorder();
     match ended {

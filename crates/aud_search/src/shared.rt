@@ -8,7 +8,9 @@ ghost use Rattle.aud_search.specs.Known.{IsMarkedBy, IsRefutedBy, IsRefutedTo};
 ghost use Rattle.aud_search.specs.Spots.{with_place};
 
 use crate::index::{hash_of, spread};
+use crate::kept::size_of_shared;
 use crate::recorder::{Recorder, Unnoted};
+use crate::room::BOUND;
 use crate::spots::with_further;
 use aud_event::OutOfMemory;
 use aud_marks::Marks;
@@ -18,7 +20,9 @@ use boxcar::slot::{OnceSlot, SlotRule};
 use boxcar::tag::Tag;
 use std::alloc::{Allocator, Global};
 use std::marker::{Brand, Model, PhantomData};
+use std::mem::size_of;
 use std::sync::Arc;
+use std::sync::atomic::{AtomicU64, Ordering};
 
 /// Which history the searches are of. A program picks it once: it calls a function that is generic in the scene with `Brand` for
 /// it, whose member it gives there.
@@ -30,8 +34,9 @@ pub trait Scene {
 
 impl Scene for Brand {
     ghost use Rattle.std.specs.Prelude.{[]};
+    ghost use Rattle.aud_event.specs.Plans.{empty_plan};
 
-    ghost shape = { record { sealed = record { facts = record { plan = record { logs = 0; objects = [] }; facts = [] }; history = [] } } };
+    ghost shape = { record { sealed = record { facts = record { plan = empty_plan; facts = [] }; history = [] } } };
 }
 
 /// The rule of a slot asks for nothing: what is in it has an invariant of its own.
@@ -81,12 +86,21 @@ const LOOKS: usize = 12;
 
 const NEAR: usize = 4;
 
+/// How much memory slots and the states that stand in them may take, in bytes: the memos of those who share have the rest.
+const ROOM: usize = BOUND / 4 * 3;
+
+/// How many bytes the slots of a part take.
+const SLOTS: usize = PART * size_of::<OnceSlot<Refutation<Brand, Global>, Any>>();
+
 /// Refuted lists of one history of at most 63 transactions, of which all threads know that search it. Each stands in a slot that is
-/// written once, so nobody waits for another. It takes memory as more is known, some half a gigabyte at most.
+/// written once, so nobody waits for another. It takes memory as more is known. The memos of the searches and what they share here
+/// take at most 1 GiB together.
 #[derive(Drop)]
 pub struct Shared<J: Scene, A: Allocator + Copy = Global> {
     alloc: A,
     parts: Vec<Part<J, A>, A>,
+    searches: usize,
+    taken: AtomicU64,
 }
 
 /// The word of the marks that is looked for, and where its slots are.
@@ -173,35 +187,71 @@ impl<J: Scene, A: Allocator + Copy> Part<J, A> {
         self.slots.get()?.get(place % PART)
     }
 
-    /// Makes the slots, unless they are there.
-    fn make(&self, alloc: A) -> Result<(), OutOfMemory> {
-        if self.slots.get().is_none() {
-            let slots = free_slots(alloc)?;
-            // Where another thread was faster, its slots are taken.
-            let _ = self.slots.set_written(slots);
+    /// Makes the slots, if there is memory for them. Where another thread was faster, its slots are taken.
+    fn make(&self, alloc: A) -> bool {
+        match free_slots(alloc) {
+            Ok(slots) => match self.slots.set_written(slots) {
+                Ok(_) => true,
+                Err(_) => false,
+            },
+            Err(_) => false,
         }
-        Ok(())
     }
 }
 
 impl<J: Scene, A: Allocator + Copy> Shared<J, A> {
-    /// Of nothing.
-    pub fn new(alloc: A) -> Result<Shared<J, A>, OutOfMemory> {
+    /// Of nothing, for so many searches.
+    pub fn new(alloc: A, searches: usize) -> Result<Shared<J, A>, OutOfMemory> {
         let tag = Tag::empty();
         let mut parts = Vec::with_capacity(alloc, PARTS)?;
         for _ in 0..PARTS {
             let slots = OnceSlot::new(&tag);
             parts.push(Part { slots })?;
         }
-        Ok(Shared { alloc, parts })
+        Ok(Shared::of_parts(alloc, parts, searches))
     }
 
-    /// What so many searches share, where there are several, and memory for it.
+    /// Of nothing, in these parts.
+    fn of_parts(alloc: A, parts: Vec<Part<J, A>, A>, searches: usize) -> Shared<J, A> {
+        Shared {
+            alloc,
+            parts,
+            searches,
+            taken: AtomicU64::new(0),
+        }
+    }
+
+    /// What so many searches share, where there are several. Where there is no memory for it they share nothing but the room that
+    /// their memos may take.
     pub fn among(alloc: A, searches: usize) -> Option<Shared<J, A>> {
         if searches < 2 {
             return None;
         }
-        Shared::new(alloc).ok()
+        match Shared::new(alloc, searches) {
+            Ok(shared) => Some(shared),
+            Err(_) => Some(Shared::of_parts(alloc, Vec::new(alloc), searches)),
+        }
+    }
+
+    /// How much room the memo of each search has, in bytes, where they share what is refuted or the room alone.
+    pub(crate) fn room_of_each(&self, is_sharing: bool) -> usize {
+        let rest = if is_sharing { BOUND - ROOM } else { BOUND };
+        rest / self.searches.max(1)
+    }
+
+    /// Takes room for slots, or for states that stand in them, if there is so much.
+    fn takes(&self, size: u64) -> bool {
+        let before = self.taken.fetch_add(size, Ordering::SeqCst);
+        if before.saturating_add(size) <= ROOM as u64 {
+            return true;
+        }
+        self.gives(size);
+        false
+    }
+
+    /// Gives back room that was taken.
+    fn gives(&self, size: u64) {
+        self.taken.fetch_sub(size, Ordering::SeqCst);
     }
 
     /// The part of the place.
@@ -249,6 +299,16 @@ impl<J: Scene, A: Allocator + Copy> Shared<J, A> {
         self.has(spot_of(digest, word, placed.len()), states)
     }
 
+    /// Makes the slots of the part, unless they are there, if there is room and memory for them.
+    fn make(&self, part: &Part<J, A>) {
+        if part.slots.get().is_some() || !self.takes(SLOTS as u64) {
+            return;
+        }
+        if !part.make(self.alloc) {
+            self.gives(SLOTS as u64);
+        }
+    }
+
     /// Puts the refuted list where a search looks for it, if there is a free slot and memory for it.
     fn put(&self, spot: Spot, refutation: Refutation<J, A>) -> bool {
         let mut left = refutation;
@@ -257,9 +317,7 @@ impl<J: Scene, A: Allocator + Copy> Shared<J, A> {
             let Some(part) = self.part(place) else {
                 return false;
             };
-            if part.make(self.alloc).is_err() {
-                return false;
-            }
+            self.make(part);
             let Some(slot) = part.slot(place) else {
                 return false;
             };
@@ -273,22 +331,43 @@ impl<J: Scene, A: Allocator + Copy> Shared<J, A> {
         false
     }
 
-    /// Has all threads know of the refuted list, if there is room and memory for it.
+    /// Has all threads know of the refuted list, which places the rows that the word marks, if there is a free slot and memory for
+    /// it.
+    fn keep_at(&self, spot: Spot, states: &Arc<Store<A>, A>) -> bool
+        requires { IsRefutedBy J.shape states.now.value.now spot.word }
+    {
+        let Ok(states) = Arc::try_clone(states) else {
+            return false;
+        };
+        let refutation = Refutation {
+            word: spot.word,
+            states,
+            scene: PhantomData,
+        };
+        self.put(spot, refutation)
+    }
+
+    /// Has all threads know of the refuted list, if there is room and memory for it. Room is taken for its states where they stand
+    /// in no slot yet.
     fn keep(&self, digest: u64, states: &Arc<Store<A>, A>, placed: &Marks<A>) -> bool
         requires { IsRefutedTo J.shape states.now.value.now placed.now }
     {
         let Some(word) = word_of(placed, None) else {
             return false;
         };
-        let Ok(states) = Arc::try_clone(states) else {
+        let spot = spot_of(digest, word, placed.len());
+        if Arc::strong_count(states) > 1 {
+            return self.keep_at(spot, states);
+        }
+        let size = size_of_shared(states) as u64;
+        if !self.takes(size) {
             return false;
-        };
-        let refutation = Refutation {
-            word,
-            states,
-            scene: PhantomData,
-        };
-        self.put(spot_of(digest, word, placed.len()), refutation)
+        }
+        let is_kept = self.keep_at(spot, states);
+        if !is_kept {
+            self.gives(size);
+        }
+        is_kept
     }
 }
 

@@ -1,13 +1,15 @@
 //! Spots as words, all in one memory.
 
-ghost use Rattle.std.specs.Prelude.{◌≡◌, ◌+◌, ◌<◌, ◌≤◌, ◌++◌, [], ◌∷◌, true, nat_eq, IfSome, IsTrue, MatchOption, length, take, drop, slice_index_or, if◌then◌else◌, ◌⊎◌, Some};
+ghost use Rattle.std.specs.Prelude.{◌≡◌, ◌+◌, ◌<◌, ◌≤◌, ◌++◌, [], ◌∷◌, true, nat_eq, IfSome, IsTrue, MatchOption, length, take, drop, slice_index_or, if◌then◌else◌, ◌⊎◌, Some, vec_len};
 ghost use Rattle.aud_marks.specs.Marked.{IsBitWritten};
 ghost use Rattle.aud_search.specs.Spots.{IsKeptAs, with_place, WithPlace, IsSpot, IsPlaceOf, entries_over, entry};
 
 use crate::index::{Index, Look, hash_of};
+use crate::room::reserves;
 use aud_marks::Marks;
 use std::alloc::{Allocator, Global};
 use std::marker::Model;
+use std::mem::size_of;
 
 /// Spots: the number of the states, then the marks of the rows that are placed, in as many words each.
 #[derive(Drop)]
@@ -129,6 +131,30 @@ fn append<A: Allocator>(words: &mut Vec<u64, A>, states: usize, marks: &[u64]) -
     false
 }
 
+/// Forgets so many of the first elements, and keeps their memory.
+pub(crate) fn forget_first<T: Copy, A: Allocator>(list: &mut Vec<T, A>, count: usize)
+    requires { count ≤ vec_len list.old }
+    ensures { list.new.items ≡ drop count list.old.items }
+{
+    let rest = list.len() - count;
+    list.rotate_left(count);
+    list.truncate(rest);
+}
+
+/// Puts the places of the spots under their hashes, each of so many words, in place of all that was there.
+fn index_anew<A: Allocator + Copy>(by_hash: &mut Index<A>, words: &[u64], width: usize)
+    requires { 0 < width }
+{
+    by_hash.clear();
+    for (place, spot) in words.chunks(width).enumerate() {
+        if let Some((states, marks)) = spot.split_first() {
+            let hash = hash_spot(*states as usize, marks, None);
+            // As many slots as there were are enough.
+            let _ = by_hash.put(hash, place, &mut 0);
+        }
+    }
+}
+
 impl<A: Allocator + Copy> Spots<A> {
     /// No spots. It does not allocate.
     pub(crate) fn new(alloc: A) -> Spots<A>
@@ -185,8 +211,8 @@ impl<A: Allocator + Copy> Spots<A> {
         None
     }
 
-    /// Puts a spot after the others, if it has as many words as they have and there is memory for it.
-    pub(crate) fn keep(&mut self, states: usize, placed: &Marks<A>) -> bool
+    /// Puts a spot after the others, if it has as many words as they have and there is room and memory for it.
+    pub(crate) fn keep(&mut self, states: usize, placed: &Marks<A>, room: &mut usize) -> bool
         ensures { IsKeptAs (entries_over placed.now self.old) (entries_over placed.now self.new) (entry placed.now states) result }
     {
         let marks = placed.words();
@@ -194,8 +220,11 @@ impl<A: Allocator + Copy> Spots<A> {
         if !is_width(self.count, self.width, width) {
             return false;
         }
+        if !reserves(room, &mut self.words, width, size_of::<u64>()) {
+            return false;
+        }
         let hash = hash_spot(states, marks, None);
-        if self.by_hash.put(hash, self.count).is_err() {
+        if self.by_hash.put(hash, self.count, room).is_err() {
             return false;
         }
         if append(&mut self.words, states, marks) {
@@ -204,5 +233,18 @@ impl<A: Allocator + Copy> Spots<A> {
             return true;
         }
         false
+    }
+
+    /// Forgets the older half of the spots, and keeps its memory. It answers how many these are, and does not allocate.
+    pub(crate) fn forget_older(&mut self) -> usize
+        ensures fewer { result ≤ length self.old }
+        ensures rest { self.new ≡ drop result self.old }
+    {
+        let rest = self.count / 2;
+        let gone = self.count - rest;
+        forget_first(&mut self.words, gone * self.width);
+        self.count = rest;
+        index_anew(&mut self.by_hash, &self.words, self.width);
+        gone
     }
 }

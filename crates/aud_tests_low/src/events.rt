@@ -1,11 +1,11 @@
 //! Plans and checks on outside values, with each growth refused in turn.
 
 use crate::fixtures::{
-    Growths, Trial, Tried, checked_plan, each_is_right, end, holds, plan_of, record,
+    Growths, Trial, Tried, checked_plan, declared, each_is_right, end, holds, plan_of, record,
 };
 use aud_event::{
-    Answer, Dup, Event, Fact, FactFault, Key, ObjDecl, ObjKind, Op, OpName, OutOfMemory, Plan,
-    PlanFault,
+    Answer, Dup, Event, Fact, FactFault, Format, Key, ObjDecl, ObjKind, Op, OpName, OutOfMemory,
+    Plan, PlanFault,
 };
 use std::alloc::{Allocator, Global};
 use std::sync::Arc;
@@ -111,7 +111,7 @@ fn a_plan_and_its_copy_find_their_objects(rt: HostRuntime) {
 }
 
 /// The first faults of plans.
-const FAULTS: [OfPlan; 12] = [
+const FAULTS: [OfPlan; 15] = [
     OfPlan::Faults(0, "x", ObjKind::SetOf, 1, Some(PlanFault::NoLogs)),
     OfPlan::Faults(65, "x", ObjKind::SetOf, 1, Some(PlanFault::TooManyLogs)),
     OfPlan::Faults(1, "x", ObjKind::SetOf, 1, Some(PlanFault::NameTwice)),
@@ -148,6 +148,9 @@ const FAULTS: [OfPlan; 12] = [
         i64::MIN,
         None,
     ),
+    OfPlan::Faults(1, "m-n", ObjKind::MapOf, 1, Some(PlanFault::OpeningRange)),
+    OfPlan::Faults(1, "m-n", ObjKind::MapOf, 0, Some(PlanFault::BadName)),
+    OfPlan::Faults(1, "m", ObjKind::MapOf, 0, Some(PlanFault::KindFormat)),
 ];
 
 #[test]
@@ -180,6 +183,60 @@ fn a_fact_is_refused_for_its_first_fault(rt: HostRuntime) {
             OfPlan::Ends(1, 4097, Err(FactFault::LogRange)),
         ],
     );
+}
+
+/// A map and a counter.
+const LATER: [(&str, ObjKind, i64); 2] = [("m", ObjKind::MapOf, 0), ("c", ObjKind::Counter, 0)];
+
+/// What the check of a transaction's event says under a plan of these in the second format.
+fn later_check(alloc: Global, tx: u32, event: Event) -> Result<Result<(), FactFault>, PlanFault> {
+    let plan = Plan::new_in(alloc, Format::Two, 1, declared(alloc, &LATER)?)?;
+    Ok(record(0, 0, 0, tx, event).check(&plan))
+}
+
+/// Events of the second format.
+const LOOKED: Event = Event::Ret(0, OpName::Look, Answer::Empty);
+
+const SUMMED: Event = Event::Inv(1, Op::Plus(2_147_483_648));
+
+const TOO_MUCH: Event = Event::Inv(1, Op::Plus(-2_147_483_649));
+
+#[test]
+fn the_second_format_has_more(rt: HostRuntime) {
+    let alloc = rt.alloc();
+    let found = [
+        later_check(alloc, 4095, LOOKED),
+        later_check(alloc, 4096, LOOKED),
+        later_check(alloc, 0, SUMMED),
+        later_check(alloc, 0, TOO_MUCH),
+        later_check(alloc, 0, Event::Inv(0, Op::Plus(1))),
+    ];
+    let faults = [
+        Ok(Ok(())),
+        Ok(Err(FactFault::TxRange)),
+        Ok(Ok(())),
+        Ok(Err(FactFault::ArgRange)),
+        Ok(Err(FactFault::OpKind)),
+    ];
+    assert!(rt; found == faults);
+}
+
+/// Whether a plan is not the same in the other format, and has no sums there.
+fn differs_by_format(alloc: Global) -> Result<bool, PlanFault> {
+    let one = Plan::new(alloc, 1, declared(alloc, &LATER[1..])?)?;
+    let two = Plan::new_in(alloc, Format::Two, 1, declared(alloc, &LATER[1..])?)?;
+    let sums = record(0, 0, 0, 0, Event::Inv(0, Op::Plus(1)));
+    Ok(
+        !one.same(&two)
+            && one.format() == Format::One
+            && sums.check(&one) == Err(FactFault::OpKind)
+            && sums.check(&two) == Ok(()),
+    )
+}
+
+#[test]
+fn a_plan_is_of_one_format(rt: HostRuntime) {
+    assert!(rt; differs_by_format(rt.alloc()) == Ok(true));
 }
 
 /// Whether a shared plan finds its object, and is not the same as one of another number of logs.
@@ -227,8 +284,8 @@ fn a_plan_has_at_most_256_objects(rt: HostRuntime) {
 
 #[test]
 fn faults_have_their_numbers(rt: HostRuntime) {
-    let plans = [PlanFault::NoLogs.number(), PlanFault::OutOfMemory.number()];
-    let facts = [FactFault::LogRange.number(), FactFault::AnswerKind.number()];
+    let plans = [PlanFault::NoLogs.number(), PlanFault::KindFormat.number()];
+    let facts = [FactFault::LogRange.number(), FactFault::ArgRange.number()];
     let is_less = record(0, 9, 9, 9, Event::Abort) < end(0, 0);
-    assert!(rt; plans == [1, 7] && facts == [1, 7] && is_less);
+    assert!(rt; plans == [1, 8] && facts == [1, 8] && is_less);
 }

@@ -19,7 +19,8 @@ pub const READS: Event = Event::Inv(0, Op::Read);
 
 pub const READ: Event = Event::Ret(0, OpName::Read, Answer::Int(1));
 
-fn declared<A: Allocator + Copy>(
+/// The declarations of objects by their names, their kinds and their openings.
+pub fn declared<A: Allocator + Copy>(
     alloc: A,
     objects: &[(&str, ObjKind, i64)],
 ) -> Result<Vec<ObjDecl<A>, A>, OutOfMemory> {

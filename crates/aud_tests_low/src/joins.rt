@@ -1,10 +1,10 @@
 //! Sets, covers, least values and pairs at concrete types, with each growth refused in turn.
 
 use crate::fixtures::{Growths, Trial, Tried, each_is_right, end, holds, record, unless_refused};
-use aud_event::{Dup, Event, Fact, OutOfMemory};
+use aud_event::{Dup, Event, Fact, OutOfMemory, Rank};
 use aud_lattice::laws::{norm_of_firsts, norm_of_union, norm_with_norm};
 use aud_lattice::{
-    Cover, Lattice, Least, Mark, Pair, Rank, Row, Trie, UnionSet, joined, joined_both_ways,
+    Cover, Lattice, Least, Mark, Pair, Row, Trie, UnionSet, joined, joined_both_ways,
 };
 use std::alloc::{Allocator, Global};
 

@@ -1,13 +1,12 @@
-//! The four kinds of objects and the store of all objects, on outside values and with each growth refused in turn.
-
-ghost use Rattle.std.specs.Prelude.{◌≡◌};
+//! The kinds of objects and the store of all objects, on outside values and with each growth refused in turn.
 
 use crate::fixtures::{Growths, Trial, Tried, each_is_right, is_block, plan_of};
 use aud_event::{Answer, Dup, ObjKind, Op, OutOfMemory};
 use aud_object::{
-    Block, Counter, Execution, Invocation, ObjectSpec, Queue, Register, SetOf, Shown, Store, laws,
+    Block, Counter, Execution, Invocation, MapOf, Number, ObjectSpec, Queue, Register, SetOf,
+    Store, laws,
 };
-use std::alloc::{Allocator, Global};
+use std::alloc::Allocator;
 
 /// An operation with its answer.
 type Step = (Op, Answer);
@@ -23,16 +22,13 @@ struct Course {
     stays: bool,
 }
 
-/// Runs operations on an object of the kind: whether each gets its answer.
-fn run_all<S: ObjectSpec>(
-    kind: ObjKind,
-    state: &mut S::State,
-    steps: &[Step],
-) -> Result<bool, OutOfMemory>
-    requires { kind ≡ S.kind }
+/// Runs operations on an object of the kind: whether each would get its answer, and gets it.
+fn run_all<S: ObjectSpec>(state: &mut S::State, steps: &[Step]) -> Result<bool, OutOfMemory>
+where
+    S::Alloc: Clone,
 {
     for (op, answer) in steps {
-        if !op.name().is_of(kind) || S::apply(state, op)? != *answer {
+        if S::answer(state, op) != *answer || S::apply(state, op)?.0 != *answer {
             return Ok(false);
         }
     }
@@ -40,16 +36,13 @@ fn run_all<S: ObjectSpec>(
 }
 
 /// Whether the object goes as the course says.
-fn goes<S: ObjectSpec>(
-    kind: ObjKind,
-    state: &mut S::State,
-    course: &Course,
-) -> Result<bool, OutOfMemory>
-    requires { kind ≡ S.kind }
+fn goes<S: ObjectSpec>(state: &mut S::State, course: &Course) -> Result<bool, OutOfMemory>
+where
+    S::Alloc: Clone,
 {
-    let has_run = run_all::<S>(kind, state, course.before)?;
+    let has_run = run_all::<S>(state, course.before)?;
     let copy = S::copy(state)?;
-    let runs_on = run_all::<S>(kind, state, course.after)?;
+    let runs_on = run_all::<S>(state, course.after)?;
     let is_same = [S::same(&copy, &copy), S::same(state, &copy)];
     Ok(has_run && runs_on && is_same == [true, course.stays])
 }
@@ -60,19 +53,23 @@ fn kind_goes<A: Allocator + Copy>(alloc: A, course: &Course) -> Result<bool, Out
     match course.kind {
         ObjKind::Register => {
             let mut state = Register::<A>::opening(alloc, value);
-            goes::<Register<A>>(ObjKind::Register, &mut state, course)
+            goes::<Register<A>>(&mut state, course)
         }
         ObjKind::Counter => {
             let mut state = Counter::<A>::opening(alloc, value);
-            goes::<Counter<A>>(ObjKind::Counter, &mut state, course)
+            goes::<Counter<A>>(&mut state, course)
         }
         ObjKind::SetOf => {
             let mut state = SetOf::<A>::opening(alloc, value);
-            goes::<SetOf<A>>(ObjKind::SetOf, &mut state, course)
+            goes::<SetOf<A>>(&mut state, course)
         }
         ObjKind::Queue => {
             let mut state = Queue::<A>::opening(alloc, value);
-            goes::<Queue<A>>(ObjKind::Queue, &mut state, course)
+            goes::<Queue<A>>(&mut state, course)
+        }
+        ObjKind::MapOf => {
+            let mut state = MapOf::<A>::opening(alloc, value);
+            goes::<MapOf<A>>(&mut state, course)
         }
     }
 }
@@ -114,6 +111,44 @@ const FALLS: Course = Course {
     stays: true,
 };
 
+/// A counter stays where a sum is no i64.
+const SUMS: Course = Course {
+    kind: ObjKind::Counter,
+    opening: i64::MAX - 5,
+    before: &[
+        (Op::Plus(5), Answer::Done),
+        (Op::Get, Answer::Int(i64::MAX)),
+        (Op::Plus(2), Answer::Done),
+        (Op::Get, Answer::Int(i64::MAX)),
+        (Op::Plus(-2_147_483_648), Answer::Done),
+        (Op::Get, Answer::Int(i64::MAX - 2_147_483_648)),
+    ],
+    after: &[],
+    stays: true,
+};
+
+/// A map has the last value that was put under a key.
+const MAPS: Course = Course {
+    kind: ObjKind::MapOf,
+    opening: 0,
+    before: &[
+        (Op::Look(4), Answer::Empty),
+        (Op::Put(4, 9), Answer::Done),
+        (Op::Put(-4, 7), Answer::Done),
+        (Op::Look(4), Answer::Int(9)),
+        (Op::Put(4, 0), Answer::Done),
+        (Op::Look(4), Answer::Int(0)),
+        (Op::Del(4), Answer::Flag(true)),
+        (Op::Del(4), Answer::Flag(false)),
+        (Op::Look(4), Answer::Empty),
+    ],
+    after: &[
+        (Op::Look(-4), Answer::Int(7)),
+        (Op::Put(4, 1), Answer::Done),
+    ],
+    stays: false,
+};
+
 /// A set says what changed.
 const CHANGES: Course = Course {
     kind: ObjKind::SetOf,
@@ -146,16 +181,12 @@ const GIVES: Course = Course {
 };
 
 /// Runs an operation that may be refused. After one that is, another gets its answer.
-fn leaves<S: ObjectSpec>(
-    kind: ObjKind,
-    state: &mut S::State,
-    tried: Step,
-    then: Step,
-) -> Result<bool, OutOfMemory>
-    requires { kind ≡ S.kind }
+fn leaves<S: ObjectSpec>(state: &mut S::State, tried: Step, then: Step) -> Result<bool, OutOfMemory>
+where
+    S::Alloc: Clone,
 {
-    let has_run = run_all::<S>(kind, state, &[tried]);
-    if has_run.is_err() && run_all::<S>(kind, state, &[then]) != Ok(true) {
+    let has_run = run_all::<S>(state, &[tried]);
+    if has_run.is_err() && run_all::<S>(state, &[then]) != Ok(true) {
         return Ok(false);
     }
     has_run
@@ -338,32 +369,26 @@ fn reads_and_waits<A: Allocator + Copy>(
     copy_reads(store, &block)
 }
 
-/// Whether this is what a store shows after `FIRST`.
-fn is_shown<A: Allocator + Copy>(shown: &[Shown<A>]) -> bool {
-    match shown {
-        [
-            Shown::Register(5),
-            Shown::Counter(1),
-            Shown::SetOf(members),
-            Shown::Queue(items),
-        ] => members.as_slice() == [1].as_slice() && items.as_slice() == [7, 8].as_slice(),
+/// Whether the objects hold what `FIRST` leaves.
+fn holds_first<A: Allocator + Copy>(store: &Store<A>) -> bool {
+    let numbers = [store.number(0), store.number(1)];
+    let members = [
+        store.answer(2, Op::Contains(1)),
+        store.answer(2, Op::Contains(3)),
+    ];
+    let items = match store.items(3) {
+        Some([7, 8]) => true,
         _ => false,
-    }
+    };
+    numbers == [Some(Number::Register(5)), Some(Number::Counter(1))]
+        && members == [Some(Answer::Flag(true)), Some(Answer::Flag(false))]
+        && items
 }
 
-/// Whether a store that ran `FIRST` shows that, and is the same as a copy of it.
-fn is_copied<A: Allocator + Copy>(alloc: A, store: &Store<A>) -> Result<bool, OutOfMemory> {
+/// Whether a store that ran `FIRST` holds that, and is the same as a copy of it.
+fn is_copied<A: Allocator + Copy>(store: &Store<A>) -> Result<bool, OutOfMemory> {
     let copy = store.dup()?;
-    let shown = store.show(alloc)?;
-    Ok(store.same(&copy) && is_shown(&shown))
-}
-
-/// Whether the store shows more after `FIRST`.
-fn shows_more<A: Allocator + Copy>(alloc: A, store: &mut Store<A>) -> Result<bool, OutOfMemory> {
-    let before = store.show(alloc)?;
-    let has_run = runs(alloc, store, How::ForGood, &FIRST)?;
-    let after = store.show(alloc)?;
-    Ok(has_run && before.as_slice() < after.as_slice())
+    Ok(store.same(&copy) && holds_first(&copy))
 }
 
 /// Replays `FIRST`. Where that was refused, the store is as it opened, and the refusal, met once, does not come again.
@@ -405,7 +430,6 @@ fn grows_by_events<A: Allocator + Copy>(block: &mut Block<A>) -> Result<bool, Ou
 enum OfStore {
     Blocks,
     ReadsAndWaits,
-    ShowsMore,
     Replays,
 }
 
@@ -415,16 +439,15 @@ fn store_goes<A: Allocator + Copy>(alloc: A, ample: A, what: OfStore) -> Result<
     match what {
         OfStore::Blocks => blocks_run(alloc, &mut store, &BLOCKS),
         OfStore::ReadsAndWaits => reads_and_waits(alloc, &mut store),
-        OfStore::ShowsMore => shows_more(alloc, &mut store),
         OfStore::Replays => replays(ample, &mut store),
     }
 }
 
-/// A store that ran `FIRST`, copied and shown.
+/// A store that ran `FIRST`, copied.
 fn copies<A: Allocator + Copy>(alloc: A, ample: A) -> Tried {
     let mut store = opening(alloc, ample)?;
     let has_run = runs(ample, &mut store, How::ForGood, &FIRST)?;
-    let is_copied = is_copied(alloc, &store);
+    let is_copied = is_copied(&store);
     Ok(is_copied.map(|is_copied| is_copied && has_run))
 }
 
@@ -448,17 +471,12 @@ impl Trial for OfObjects {
             OfObjects::SetLeft => {
                 let mut set = SetOf::<A>::opening(alloc, 0);
                 let then = (Op::Contains(3), Answer::Flag(false));
-                Ok(leaves::<SetOf<A>>(
-                    ObjKind::SetOf,
-                    &mut set,
-                    (Op::Add(3), Answer::Flag(true)),
-                    then,
-                ))
+                Ok(leaves::<SetOf<A>>(&mut set, (Op::Add(3), Answer::Flag(true)), then))
             }
             OfObjects::QueueLeft => {
                 let mut queue = Queue::<A>::opening(alloc, 0);
                 let then = (Op::Deq, Answer::Empty);
-                Ok(leaves::<Queue<A>>(ObjKind::Queue, &mut queue, (Op::Enq(3), Answer::Done), then))
+                Ok(leaves::<Queue<A>>(&mut queue, (Op::Enq(3), Answer::Done), then))
             }
             OfObjects::Store(what) => Ok(store_goes(alloc, ample, what)),
             OfObjects::Copies => copies(alloc, ample),
@@ -476,12 +494,17 @@ fn objects_answer_as_their_kinds_do(rt: HostRuntime) {
             OfObjects::Goes(HOLDS),
             OfObjects::Goes(RISES),
             OfObjects::Goes(FALLS),
+            OfObjects::Goes(SUMS),
         ],
     );
     each_is_right(
         &rt,
         Growths::Refused(2),
-        &[OfObjects::Goes(CHANGES), OfObjects::Goes(GIVES)],
+        &[
+            OfObjects::Goes(CHANGES),
+            OfObjects::Goes(GIVES),
+            OfObjects::Goes(MAPS),
+        ],
     );
 }
 
@@ -495,14 +518,13 @@ fn a_refused_operation_leaves_the_set_and_the_queue(rt: HostRuntime) {
 }
 
 #[test]
-fn blocks_run_and_are_taken_back_and_a_store_shows_its_states(rt: HostRuntime) {
+fn blocks_run_and_are_taken_back_and_a_store_is_copied(rt: HostRuntime) {
     each_is_right(
         &rt,
         Growths::Met(4),
         &[
             OfObjects::Store(OfStore::Blocks),
             OfObjects::Store(OfStore::ReadsAndWaits),
-            OfObjects::Store(OfStore::ShowsMore),
             OfObjects::Copies,
         ],
     );
@@ -517,19 +539,22 @@ fn blocks_run_and_are_taken_back_and_a_store_shows_its_states(rt: HostRuntime) {
 #[test]
 fn only_operations_that_change_nothing_observe(rt: HostRuntime) {
     let observes = [
-        Register::<Global>::observes(&Op::Read),
-        Register::<Global>::observes(&Op::Write(9)),
-        Counter::<Global>::observes(&Op::Get),
-        Counter::<Global>::observes(&Op::Inc),
-        SetOf::<Global>::observes(&Op::Contains(3)),
-        SetOf::<Global>::observes(&Op::Add(3)),
-        Queue::<Global>::observes(&Op::Deq),
+        Op::Read.observes(),
+        Op::Write(9).observes(),
+        Op::Get.observes(),
+        Op::Inc.observes(),
+        Op::Contains(3).observes(),
+        Op::Add(3).observes(),
+        Op::Deq.observes(),
+        Op::Look(3).observes(),
+        Op::Put(3, 9).observes(),
     ];
-    assert!(rt; observes == [true, false, true, false, true, false, false]);
+    assert!(rt; observes == [true, false, true, false, true, false, false, true, false]);
 }
 
 #[test]
 fn the_laws_hold(_rt: HostRuntime) {
+    laws::each_row_counts();
     laws::replay_is_legality();
     laws::opening_is_legality();
     laws::legality_is_by_parts();

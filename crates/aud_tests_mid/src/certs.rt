@@ -232,7 +232,7 @@ const REFUSED: [(&str, usize, TextFault); 19] = [
         TextFault::TypeOrRange,
     ),
     (
-        "{\"cert\":1}\n{\"by\":\"kids\",\"p\":\"1024c\"}",
+        "{\"cert\":1}\n{\"by\":\"kids\",\"p\":\"4096c\"}",
         2,
         TextFault::TypeOrRange,
     ),

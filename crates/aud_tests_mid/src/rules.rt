@@ -9,7 +9,7 @@ use std::alloc::Global;
 use std::test::Fail;
 
 /// A history, the place of a transaction in its table, and whether it may be placed at once, with why.
-const PLACED: [(&str, &str, usize, bool); 16] = [
+const PLACED: [(&str, &str, usize, bool); 30] = [
     (
         "rmw chain fires: 1 reads 0 writes 1, 2 reads 1 writes 2",
         r#"{"format":1,"logs":1,"objects":1}
@@ -297,6 +297,264 @@ const PLACED: [(&str, &str, usize, bool); 16] = [
 {"end":8,"log":0}
 "#,
         1,
+        false,
+    ),
+    (
+        "map: puts under other keys overlap",
+        r#"{"format":2,"logs":1,"objects":1}
+{"kind":"map","name":"m"}
+{"arg":1,"at":0,"ev":"inv","log":0,"ob":"m","op":"put","stamp":0,"tx":1,"val":5}
+{"ans":"done","at":1,"ev":"ret","log":0,"ob":"m","op":"put","stamp":1,"tx":1}
+{"arg":2,"at":2,"ev":"inv","log":0,"ob":"m","op":"put","stamp":2,"tx":2,"val":6}
+{"ans":"done","at":3,"ev":"ret","log":0,"ob":"m","op":"put","stamp":3,"tx":2}
+{"at":4,"ev":"tryc","log":0,"stamp":4,"tx":1}
+{"at":5,"ev":"commit","log":0,"stamp":5,"tx":1}
+{"at":6,"ev":"tryc","log":0,"stamp":6,"tx":2}
+{"at":7,"ev":"commit","log":0,"stamp":7,"tx":2}
+{"end":8,"log":0}
+"#,
+        0,
+        true,
+    ),
+    (
+        "map: puts under one key overlap",
+        r#"{"format":2,"logs":1,"objects":1}
+{"kind":"map","name":"m"}
+{"arg":1,"at":0,"ev":"inv","log":0,"ob":"m","op":"put","stamp":0,"tx":1,"val":5}
+{"ans":"done","at":1,"ev":"ret","log":0,"ob":"m","op":"put","stamp":1,"tx":1}
+{"arg":1,"at":2,"ev":"inv","log":0,"ob":"m","op":"put","stamp":2,"tx":2,"val":6}
+{"ans":"done","at":3,"ev":"ret","log":0,"ob":"m","op":"put","stamp":3,"tx":2}
+{"at":4,"ev":"tryc","log":0,"stamp":4,"tx":1}
+{"at":5,"ev":"commit","log":0,"stamp":5,"tx":1}
+{"at":6,"ev":"tryc","log":0,"stamp":6,"tx":2}
+{"at":7,"ev":"commit","log":0,"stamp":7,"tx":2}
+{"end":8,"log":0}
+"#,
+        0,
+        false,
+    ),
+    (
+        "map: put under one key comes after",
+        r#"{"format":2,"logs":1,"objects":1}
+{"kind":"map","name":"m"}
+{"arg":1,"at":0,"ev":"inv","log":0,"ob":"m","op":"put","stamp":0,"tx":1,"val":5}
+{"ans":"done","at":1,"ev":"ret","log":0,"ob":"m","op":"put","stamp":1,"tx":1}
+{"at":2,"ev":"tryc","log":0,"stamp":2,"tx":1}
+{"at":3,"ev":"commit","log":0,"stamp":3,"tx":1}
+{"arg":1,"at":4,"ev":"inv","log":0,"ob":"m","op":"put","stamp":4,"tx":2,"val":6}
+{"ans":"done","at":5,"ev":"ret","log":0,"ob":"m","op":"put","stamp":5,"tx":2}
+{"at":6,"ev":"tryc","log":0,"stamp":6,"tx":2}
+{"at":7,"ev":"commit","log":0,"stamp":7,"tx":2}
+{"end":8,"log":0}
+"#,
+        0,
+        true,
+    ),
+    (
+        "map: look, put, and a look at what was put",
+        r#"{"format":2,"logs":1,"objects":1}
+{"kind":"map","name":"m"}
+{"arg":1,"at":0,"ev":"inv","log":0,"ob":"m","op":"look","stamp":0,"tx":1}
+{"ans":"empty","at":1,"ev":"ret","log":0,"ob":"m","op":"look","stamp":1,"tx":1}
+{"arg":1,"at":2,"ev":"inv","log":0,"ob":"m","op":"put","stamp":2,"tx":1,"val":5}
+{"ans":"done","at":3,"ev":"ret","log":0,"ob":"m","op":"put","stamp":3,"tx":1}
+{"at":4,"ev":"tryc","log":0,"stamp":4,"tx":1}
+{"arg":1,"at":5,"ev":"inv","log":0,"ob":"m","op":"look","stamp":5,"tx":2}
+{"ans":5,"at":6,"ev":"ret","log":0,"ob":"m","op":"look","stamp":6,"tx":2}
+{"arg":1,"at":7,"ev":"inv","log":0,"ob":"m","op":"put","stamp":7,"tx":2,"val":6}
+{"ans":"done","at":8,"ev":"ret","log":0,"ob":"m","op":"put","stamp":8,"tx":2}
+{"at":9,"ev":"commit","log":0,"stamp":9,"tx":1}
+{"at":10,"ev":"tryc","log":0,"stamp":10,"tx":2}
+{"at":11,"ev":"commit","log":0,"stamp":11,"tx":2}
+{"end":12,"log":0}
+"#,
+        0,
+        true,
+    ),
+    (
+        "map: the key is looked at and still empty",
+        r#"{"format":2,"logs":1,"objects":1}
+{"kind":"map","name":"m"}
+{"arg":1,"at":0,"ev":"inv","log":0,"ob":"m","op":"look","stamp":0,"tx":1}
+{"ans":"empty","at":1,"ev":"ret","log":0,"ob":"m","op":"look","stamp":1,"tx":1}
+{"arg":1,"at":2,"ev":"inv","log":0,"ob":"m","op":"put","stamp":2,"tx":1,"val":5}
+{"ans":"done","at":3,"ev":"ret","log":0,"ob":"m","op":"put","stamp":3,"tx":1}
+{"arg":1,"at":4,"ev":"inv","log":0,"ob":"m","op":"look","stamp":4,"tx":2}
+{"ans":"empty","at":5,"ev":"ret","log":0,"ob":"m","op":"look","stamp":5,"tx":2}
+{"at":6,"ev":"tryc","log":0,"stamp":6,"tx":1}
+{"at":7,"ev":"commit","log":0,"stamp":7,"tx":1}
+{"at":8,"ev":"tryc","log":0,"stamp":8,"tx":2}
+{"at":9,"ev":"commit","log":0,"stamp":9,"tx":2}
+{"end":10,"log":0}
+"#,
+        0,
+        false,
+    ),
+    (
+        "map: nothing is taken out, and the key is still empty",
+        r#"{"format":2,"logs":1,"objects":1}
+{"kind":"map","name":"m"}
+{"arg":1,"at":0,"ev":"inv","log":0,"ob":"m","op":"del","stamp":0,"tx":1}
+{"ans":false,"at":1,"ev":"ret","log":0,"ob":"m","op":"del","stamp":1,"tx":1}
+{"arg":1,"at":2,"ev":"inv","log":0,"ob":"m","op":"look","stamp":2,"tx":2}
+{"ans":"empty","at":3,"ev":"ret","log":0,"ob":"m","op":"look","stamp":3,"tx":2}
+{"at":4,"ev":"tryc","log":0,"stamp":4,"tx":1}
+{"at":5,"ev":"commit","log":0,"stamp":5,"tx":1}
+{"at":6,"ev":"tryc","log":0,"stamp":6,"tx":2}
+{"at":7,"ev":"commit","log":0,"stamp":7,"tx":2}
+{"end":8,"log":0}
+"#,
+        0,
+        true,
+    ),
+    (
+        "map: a value is put back as it was taken",
+        r#"{"format":2,"logs":1,"objects":1}
+{"kind":"map","name":"m"}
+{"arg":1,"at":0,"ev":"inv","log":0,"ob":"m","op":"put","stamp":0,"tx":3,"val":5}
+{"ans":"done","at":1,"ev":"ret","log":0,"ob":"m","op":"put","stamp":1,"tx":3}
+{"at":2,"ev":"tryc","log":0,"stamp":2,"tx":3}
+{"at":3,"ev":"commit","log":0,"stamp":3,"tx":3}
+{"arg":1,"at":4,"ev":"inv","log":0,"ob":"m","op":"look","stamp":4,"tx":1}
+{"ans":5,"at":5,"ev":"ret","log":0,"ob":"m","op":"look","stamp":5,"tx":1}
+{"arg":1,"at":6,"ev":"inv","log":0,"ob":"m","op":"put","stamp":6,"tx":1,"val":5}
+{"ans":"done","at":7,"ev":"ret","log":0,"ob":"m","op":"put","stamp":7,"tx":1}
+{"arg":1,"at":8,"ev":"inv","log":0,"ob":"m","op":"look","stamp":8,"tx":2}
+{"ans":5,"at":9,"ev":"ret","log":0,"ob":"m","op":"look","stamp":9,"tx":2}
+{"at":10,"ev":"tryc","log":0,"stamp":10,"tx":1}
+{"at":11,"ev":"commit","log":0,"stamp":11,"tx":1}
+{"at":12,"ev":"tryc","log":0,"stamp":12,"tx":2}
+{"at":13,"ev":"commit","log":0,"stamp":13,"tx":2}
+{"end":14,"log":0}
+"#,
+        0,
+        true,
+    ),
+    (
+        "map: looks only",
+        r#"{"format":2,"logs":1,"objects":1}
+{"kind":"map","name":"m"}
+{"arg":1,"at":0,"ev":"inv","log":0,"ob":"m","op":"look","stamp":0,"tx":1}
+{"ans":"empty","at":1,"ev":"ret","log":0,"ob":"m","op":"look","stamp":1,"tx":1}
+{"arg":1,"at":2,"ev":"inv","log":0,"ob":"m","op":"put","stamp":2,"tx":2,"val":5}
+{"ans":"done","at":3,"ev":"ret","log":0,"ob":"m","op":"put","stamp":3,"tx":2}
+{"at":4,"ev":"tryc","log":0,"stamp":4,"tx":1}
+{"at":5,"ev":"commit","log":0,"stamp":5,"tx":1}
+{"at":6,"ev":"tryc","log":0,"stamp":6,"tx":2}
+{"at":7,"ev":"commit","log":0,"stamp":7,"tx":2}
+{"end":8,"log":0}
+"#,
+        0,
+        true,
+    ),
+    (
+        "map: taken out while it is found",
+        r#"{"format":2,"logs":1,"objects":1}
+{"kind":"map","name":"m"}
+{"arg":1,"at":0,"ev":"inv","log":0,"ob":"m","op":"put","stamp":0,"tx":1,"val":5}
+{"ans":"done","at":1,"ev":"ret","log":0,"ob":"m","op":"put","stamp":1,"tx":1}
+{"arg":1,"at":2,"ev":"inv","log":0,"ob":"m","op":"del","stamp":2,"tx":2}
+{"ans":true,"at":3,"ev":"ret","log":0,"ob":"m","op":"del","stamp":3,"tx":2}
+{"at":4,"ev":"tryc","log":0,"stamp":4,"tx":1}
+{"at":5,"ev":"commit","log":0,"stamp":5,"tx":1}
+{"at":6,"ev":"tryc","log":0,"stamp":6,"tx":2}
+{"at":7,"ev":"commit","log":0,"stamp":7,"tx":2}
+{"end":8,"log":0}
+"#,
+        0,
+        false,
+    ),
+    (
+        "map: looked up, put, and taken out while it is found",
+        r#"{"format":2,"logs":1,"objects":1}
+{"kind":"map","name":"m"}
+{"arg":1,"at":0,"ev":"inv","log":0,"ob":"m","op":"look","stamp":0,"tx":1}
+{"ans":"empty","at":1,"ev":"ret","log":0,"ob":"m","op":"look","stamp":1,"tx":1}
+{"arg":1,"at":2,"ev":"inv","log":0,"ob":"m","op":"put","stamp":2,"tx":1,"val":5}
+{"ans":"done","at":3,"ev":"ret","log":0,"ob":"m","op":"put","stamp":3,"tx":1}
+{"at":4,"ev":"tryc","log":0,"stamp":4,"tx":1}
+{"arg":1,"at":5,"ev":"inv","log":0,"ob":"m","op":"del","stamp":5,"tx":2}
+{"ans":true,"at":6,"ev":"ret","log":0,"ob":"m","op":"del","stamp":6,"tx":2}
+{"at":7,"ev":"commit","log":0,"stamp":7,"tx":1}
+{"at":8,"ev":"tryc","log":0,"stamp":8,"tx":2}
+{"at":9,"ev":"commit","log":0,"stamp":9,"tx":2}
+{"end":10,"log":0}
+"#,
+        0,
+        true,
+    ),
+    (
+        "counter: sums overlap",
+        r#"{"format":2,"logs":1,"objects":1}
+{"kind":"counter","name":"m","open":0}
+{"arg":5,"at":0,"ev":"inv","log":0,"ob":"m","op":"plus","stamp":0,"tx":1}
+{"ans":"done","at":1,"ev":"ret","log":0,"ob":"m","op":"plus","stamp":1,"tx":1}
+{"arg":-3,"at":2,"ev":"inv","log":0,"ob":"m","op":"plus","stamp":2,"tx":2}
+{"ans":"done","at":3,"ev":"ret","log":0,"ob":"m","op":"plus","stamp":3,"tx":2}
+{"at":4,"ev":"tryc","log":0,"stamp":4,"tx":1}
+{"at":5,"ev":"commit","log":0,"stamp":5,"tx":1}
+{"at":6,"ev":"tryc","log":0,"stamp":6,"tx":2}
+{"at":7,"ev":"commit","log":0,"stamp":7,"tx":2}
+{"at":8,"ev":"inv","log":0,"ob":"m","op":"get","stamp":8,"tx":3}
+{"ans":2,"at":9,"ev":"ret","log":0,"ob":"m","op":"get","stamp":9,"tx":3}
+{"at":10,"ev":"tryc","log":0,"stamp":10,"tx":3}
+{"at":11,"ev":"commit","log":0,"stamp":11,"tx":3}
+{"end":12,"log":0}
+"#,
+        0,
+        true,
+    ),
+    (
+        "counter: the old count is read while it is moved",
+        r#"{"format":2,"logs":1,"objects":1}
+{"kind":"counter","name":"m","open":0}
+{"arg":5,"at":0,"ev":"inv","log":0,"ob":"m","op":"plus","stamp":0,"tx":1}
+{"ans":"done","at":1,"ev":"ret","log":0,"ob":"m","op":"plus","stamp":1,"tx":1}
+{"at":2,"ev":"inv","log":0,"ob":"m","op":"get","stamp":2,"tx":2}
+{"ans":0,"at":3,"ev":"ret","log":0,"ob":"m","op":"get","stamp":3,"tx":2}
+{"at":4,"ev":"tryc","log":0,"stamp":4,"tx":1}
+{"at":5,"ev":"commit","log":0,"stamp":5,"tx":1}
+{"at":6,"ev":"tryc","log":0,"stamp":6,"tx":2}
+{"at":7,"ev":"commit","log":0,"stamp":7,"tx":2}
+{"end":8,"log":0}
+"#,
+        0,
+        false,
+    ),
+    (
+        "counter: sums that cancel out, and the count is read",
+        r#"{"format":2,"logs":1,"objects":1}
+{"kind":"counter","name":"m","open":0}
+{"arg":5,"at":0,"ev":"inv","log":0,"ob":"m","op":"plus","stamp":0,"tx":1}
+{"ans":"done","at":1,"ev":"ret","log":0,"ob":"m","op":"plus","stamp":1,"tx":1}
+{"arg":-5,"at":2,"ev":"inv","log":0,"ob":"m","op":"plus","stamp":2,"tx":1}
+{"ans":"done","at":3,"ev":"ret","log":0,"ob":"m","op":"plus","stamp":3,"tx":1}
+{"at":4,"ev":"inv","log":0,"ob":"m","op":"get","stamp":4,"tx":2}
+{"ans":0,"at":5,"ev":"ret","log":0,"ob":"m","op":"get","stamp":5,"tx":2}
+{"at":6,"ev":"tryc","log":0,"stamp":6,"tx":1}
+{"at":7,"ev":"commit","log":0,"stamp":7,"tx":1}
+{"at":8,"ev":"tryc","log":0,"stamp":8,"tx":2}
+{"at":9,"ev":"commit","log":0,"stamp":9,"tx":2}
+{"end":10,"log":0}
+"#,
+        0,
+        true,
+    ),
+    (
+        "counter: near the end of its range",
+        r#"{"format":2,"logs":1,"objects":1}
+{"kind":"counter","name":"m","open":4611686018427387904}
+{"arg":5,"at":0,"ev":"inv","log":0,"ob":"m","op":"plus","stamp":0,"tx":1}
+{"ans":"done","at":1,"ev":"ret","log":0,"ob":"m","op":"plus","stamp":1,"tx":1}
+{"arg":-3,"at":2,"ev":"inv","log":0,"ob":"m","op":"plus","stamp":2,"tx":2}
+{"ans":"done","at":3,"ev":"ret","log":0,"ob":"m","op":"plus","stamp":3,"tx":2}
+{"at":4,"ev":"tryc","log":0,"stamp":4,"tx":1}
+{"at":5,"ev":"commit","log":0,"stamp":5,"tx":1}
+{"at":6,"ev":"tryc","log":0,"stamp":6,"tx":2}
+{"at":7,"ev":"commit","log":0,"stamp":7,"tx":2}
+{"end":8,"log":0}
+"#,
+        0,
         false,
     ),
 ];

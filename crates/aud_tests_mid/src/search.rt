@@ -188,7 +188,7 @@ fn remembered<J: Scene>(
 ) -> Result<(Told, Told, Told), Unread>
     requires { shape.now ≡ J.shape }
 {
-    let shared = Shared::<J>::new(alloc)?;
+    let shared = Shared::<J>::new(alloc, 2)?;
     let mut memory = Memory::new(alloc, shape, Some(&shared));
     let mut other = Memory::new(alloc, shape, Some(&shared));
     let whole = memory.explore(&order(alloc, "none")?, budget)?;

@@ -1,29 +1,29 @@
--- A value that is cut off at 1,024 on the way.
+-- A value that is cut off at 4,096 on the way.
 use Rattle.std.proofs.Common.{◌≡◌, ◌<◌, ◌≤◌, ◌+◌, ◌*◌, ◌-◌, ℕ, zero, suc, List, [], ◌∷◌, Bool, true, false, ◌&&◌, length, drop, get_or, min, nat_le, refl, arith, add-one, drop-cons}
 use Rattle.std.specs.Str.Parse.{digits_value_after}
 use Rattle.std.specs.Char.{digit_value}
 use Rattle.aud_text.specs.Orders.{all_digits}
 use Rattle.std.proofs.lemmas.Str.{digit_value_digit}
-use Rattle.aud_event.proofs.Bools.{and_true}
+use Rattle.aud_base.proofs.Bools.{and_true}
 
 pub after_grows : (x : ℕ) (cs : List ℕ) → x ≤ digits_value_after 10 x cs
 after_grows x [] = omega arith
 after_grows x (c ∷ cs) = omega (arith, after_grows (x * 10 + digit_value c) cs)
 
-cut_step : (x y z : ℕ) → x ≤ y → 1024 ≤ z → 1024 ≤ x → min z 1024 ≡ min y 1024
+cut_step : (x y z : ℕ) → x ≤ y → 4096 ≤ z → 4096 ≤ x → min z 4096 ≡ min y 4096
 cut_step x y z h g k = omega arith
 
-pub cut_early : (x : ℕ) (cs : List ℕ) → min (digits_value_after 10 (min x 1024) cs) 1024 ≡ min (digits_value_after 10 x cs) 1024
-cut_early x cs = by_test (nat_le 1024 x) refl
+pub cut_early : (x : ℕ) (cs : List ℕ) → min (digits_value_after 10 (min x 4096) cs) 4096 ≡ min (digits_value_after 10 x cs) 4096
+cut_early x cs = by_test (nat_le 4096 x) refl
   where
-    by_test : (b : Bool) → nat_le 1024 x ≡ b → min (digits_value_after 10 (min x 1024) cs) 1024 ≡ min (digits_value_after 10 x cs) 1024
+    by_test : (b : Bool) → nat_le 4096 x ≡ b → min (digits_value_after 10 (min x 4096) cs) 4096 ≡ min (digits_value_after 10 x cs) 4096
     by_test true e =
-        let k : 1024 ≤ x = grind arith in
-        let m : min x 1024 ≡ 1024 = omega arith in
-        rw m (cut_step x (digits_value_after 10 x cs) (digits_value_after 10 1024 cs) (after_grows x cs) (after_grows 1024 cs) k)
+        let k : 4096 ≤ x = grind arith in
+        let m : min x 4096 ≡ 4096 = omega arith in
+        rw m (cut_step x (digits_value_after 10 x cs) (digits_value_after 10 4096 cs) (after_grows x cs) (after_grows 4096 cs) k)
     by_test false e =
-        let k : x < 1024 = grind arith in
-        let m : min x 1024 ≡ x = omega arith in rw m refl
+        let k : x < 4096 = grind arith in
+        let m : min x 4096 ≡ x = omega arith in rw m refl
 
 pub one_digit : (c : ℕ) → (nat_le 48 c && nat_le c 57) ≡ true → digit_value c + 48 ≡ c
 one_digit c h =
@@ -38,8 +38,8 @@ digit_at (c ∷ cs) zero h a = one_digit c (and_true (nat_le 48 c && nat_le c 57
 digit_at (c ∷ cs) (suc i) h a = digit_at cs i (omega arith) (and_true (nat_le 48 c && nat_le c 57) (all_digits cs) a).1
 
 -- one more digit
-pub one_more : (s : List ℕ) (i v w : ℕ) → i < length s → all_digits s ≡ true → w ≡ min (v * 10 + (get_or s i 0 - 48)) 1024
-    → min (digits_value_after 10 w (drop (i + 1) s)) 1024 ≡ min (digits_value_after 10 v (drop i s)) 1024
+pub one_more : (s : List ℕ) (i v w : ℕ) → i < length s → all_digits s ≡ true → w ≡ min (v * 10 + (get_or s i 0 - 48)) 4096
+    → min (digits_value_after 10 w (drop (i + 1) s)) 4096 ≡ min (digits_value_after 10 v (drop i s)) 4096
 one_more s i v w h a e =
     let d : v * 10 + (get_or s i 0 - 48) ≡ v * 10 + digit_value (get_or s i 0) = omega (arith, digit_at s i h a) in
     let left : drop i s ≡ get_or s i 0 ∷ drop (i + 1) s = rw (add-one, drop-cons s i 0) refl in

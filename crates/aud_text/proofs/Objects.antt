@@ -1,6 +1,7 @@
 -- The objects of a plan's lines, as far as they were read.
 use Rattle.std.proofs.Common.{◌≡◌, ℕ, suc, List, [], ◌∷◌, ◌++◌, Result, Ok, Err, append_assoc, refl, ap, ◌∙◌, sym}
 use Rattle.aud_event.specs.Meanings.{Declared}
+use Rattle.aud_event.specs.declared.signature.Format.{Format}
 use Rattle.aud_text.specs.declared.fault.TextFault.{TextFault}
 use Rattle.aud_text.specs.declared.fault.TextFault.TheVariants as fault
 use Rattle.aud_text.specs.declared.fault.PlanTextFault.{PlanTextFault}
@@ -17,15 +18,15 @@ onto-with ds n o (Err e) = refl
 onto-with ds n o (Ok p) = ap (λ xs. Ok (xs, p.1)) (sym (append_assoc ds (o ∷ []) p.0))
 
 -- one line more
-pub one_more : (after used k j : ℕ) (ds : List Declared) (o : Declared) (ls more : List Filled) (l : Filled) → k ≡ suc j → ls ≡ l ∷ more → object_read l.line ≡ Ok o
-    → onto ds (objects_read after used k ls) ≡ onto (ds ++ o ∷ []) (objects_read after l.ends j more)
-one_more after used k j ds o ls more l e s r = rw (e, s) (ap (λ x. onto ds (with_object l.number x (objects_read after l.ends j more))) r ∙ onto-with ds l.number o (objects_read after l.ends j more))
+pub one_more : (format : Format) (after used k j : ℕ) (ds : List Declared) (o : Declared) (ls more : List Filled) (l : Filled) → k ≡ suc j → ls ≡ l ∷ more → object_read format l.line ≡ Ok o
+    → onto ds (objects_read format after used k ls) ≡ onto (ds ++ o ∷ []) (objects_read format after l.ends j more)
+one_more format after used k j ds o ls more l e s r = rw (e, s) (ap (λ x. onto ds (with_object l.number x (objects_read format after l.ends j more))) r ∙ onto-with ds l.number o (objects_read format after l.ends j more))
 
 -- a line that is refused
-pub refused : (after used k j : ℕ) (ds : List Declared) (e : TextFault) (ls more : List Filled) (l : Filled) → k ≡ suc j → ls ≡ l ∷ more → object_read l.line ≡ Err e
-    → onto ds (objects_read after used k ls) ≡ Err (at_line l.number e)
-refused after used k j ds e ls more l is s r = rw (is, s) (ap (λ x. onto ds (with_object l.number x (objects_read after l.ends j more))) r)
+pub refused : (format : Format) (after used k j : ℕ) (ds : List Declared) (e : TextFault) (ls more : List Filled) (l : Filled) → k ≡ suc j → ls ≡ l ∷ more → object_read format l.line ≡ Err e
+    → onto ds (objects_read format after used k ls) ≡ Err (at_line l.number e)
+refused format after used k j ds e ls more l is s r = rw (is, s) (ap (λ x. onto ds (with_object l.number x (objects_read format after l.ends j more))) r)
 
 -- a text that ends too early
-pub missing : (after used k j : ℕ) (ds : List Declared) (ls : List Filled) → k ≡ suc j → ls ≡ [] → onto ds (objects_read after used k ls) ≡ Err (at_line after fault.KeyMissing)
-missing after used k j ds ls e s = rw (e, s) refl
+pub missing : (format : Format) (after used k j : ℕ) (ds : List Declared) (ls : List Filled) → k ≡ suc j → ls ≡ [] → onto ds (objects_read format after used k ls) ≡ Err (at_line after fault.KeyMissing)
+missing format after used k j ds ls e s = rw (e, s) refl

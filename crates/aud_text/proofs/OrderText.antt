@@ -71,13 +71,13 @@ letter_no_space : (f : Fate) → (fate_letter f == 32) ≡ false
 letter_no_space C = refl
 letter_no_space A = refl
 
-decision_no_space : (d : Decision) → d.tx < 1024 → NoSpace (decision_text d)
+decision_no_space : (d : Decision) → d.tx < 4096 → NoSpace (decision_text d)
 decision_no_space d h =
     let n = decimal_is_IsNumeral d.tx (omega arith) in
     All-push (λ b. (b == 32) ≡ false) (decimal d.tx) (fate_letter d.fate) (digits_no_space (decimal d.tx) n.0.1) (letter_no_space d.fate)
 
 abbrev Low : Decision → Type 0
-Low d = d.tx < 1024
+Low d = d.tx < 4096
 
 texts_no_space : (ds : List Decision) → All Low ds → EachNoSpace (map decision_text ds)
 texts_no_space [] h = tt
@@ -98,7 +98,7 @@ none_apart t ds h = by_test (bytes_eq t (codes "none")) refl
         let bad : words_read (words_of (codes "none")) ≡ Err fault.UnknownWord = refl in
         absurd (cc)
 
-pub reads_back : (ds : List Decision) → All (λ d. d.tx < 1024) ds → length (order_text ds) ≤ 32768 → order_read (order_text ds) ≡ Ok ds
+pub reads_back : (ds : List Decision) → All (λ d. d.tx < 4096) ds → length (order_text ds) ≤ 32768 → order_read (order_text ds) ≡ Ok ds
 reads_back [] h l = refl
 reads_back (d ∷ ds) h l =
     let words : words_of (order_text (d ∷ ds)) ≡ map decision_text (d ∷ ds) = split_joined (decision_text d) (map decision_text ds) (texts_no_space (d ∷ ds) h) in
@@ -150,7 +150,7 @@ words_low (w ∷ ws) ds h =
     subst (All Low) (sym r.4) (All-cons Low r.0 r.1 (word_low w r.0 r.2) (words_low ws r.1 r.3))
 
 -- what reads as decisions is within the limits
-pub within : (t : List ℕ) (ds : List Decision) → order_read t ≡ Ok ds → All (λ d. d.tx < 1024) ds × (length t ≤ 32768)
+pub within : (t : List ℕ) (ds : List Decision) → order_read t ≡ Ok ds → All (λ d. d.tx < 4096) ds × (length t ≤ 32768)
 within t ds h = by_length (nat_le (length t) 32768) (bytes_eq t (codes "none")) refl h
   where
     by_length : (b c : Bool) → nat_le (length t) 32768 ≡ b → cond b (cond c (Ok []) (words_read (words_of t))) (Err fault.TooLong) ≡ Ok ds → All Low ds × (length t ≤ 32768)
@@ -172,5 +172,5 @@ further start more now mid new b n m p =
     let first : start ++ one ≡ mid = sym (append_assoc start more (b ∷ [])) ∙ (ap (λ t. t ++ b ∷ []) (sym n) ∙ sym m) in
     (one ++ p.0, sym (append_assoc start one p.0) ∙ (ap (λ t. t ++ p.0) first ∙ p.1))
 
-pub written_back : (text : List ℕ) (ds : List Decision) → text ≡ order_text ds → All (λ d. d.tx < 1024) ds → length text ≤ 32768 → order_read text ≡ Ok ds
+pub written_back : (text : List ℕ) (ds : List Decision) → text ≡ order_text ds → All (λ d. d.tx < 4096) ds → length text ≤ 32768 → order_read text ≡ Ok ds
 written_back text ds e h l = ap order_read e ∙ reads_back ds h (subst (λ t. length t ≤ 32768) e l)

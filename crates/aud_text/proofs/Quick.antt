@@ -1,5 +1,5 @@
 -- A fact that is built: its keys stand, and the types fit where no other key stands.
-use Rattle.std.proofs.Common.{◌≡◌, ℕ, ℤ, List, [], ◌∷◌, Bool, true, false, cond, Option, Some, None, Ordering, Less, Equal, Greater, is_eq, codes, is_some, option_map, option_and_then, Result, Err, bytes_eq, true≢false, refl, ap, ◌∙◌, sym}
+use Rattle.std.proofs.Common.{◌≡◌, ℕ, ℤ, List, [], ◌∷◌, Bool, true, false, cond, Option, Some, None, Ordering, Less, Equal, Greater, is_eq, codes, is_some, option_map, option_and_then, Result, Err, bytes_eq, true≢false, refl, ap, subst, ◌∙◌, sym}
 use Rattle.std.specs.Ordering.{nat_cmp, match_ordering}
 use Rattle.std.specs.Cmp.Lexicographic.{slice_cmp}
 use Rattle.std.proofs.lemmas.Map.Text.{is_eq-slice_cmp}
@@ -8,9 +8,13 @@ use Rattle.serde_json.specs.Data.{Data, null, boolean, number, string, array, ob
 use Rattle.serde_json.specs.Find.{get, get_member, as_object, as_str, as_i64}
 use Rattle.aud_event.specs.Meanings.{PlanOf}
 use Rattle.aud_event.specs.Facts.{first_fact_fault}
-use Rattle.aud_event.specs.Words.{op_of_word}
+use Rattle.aud_event.specs.Words.{op_of_word_in}
+use Rattle.aud_event.specs.Objects.{signature_of, op_with}
+use Rattle.aud_event.specs.declared.signature.Args.TheVariants as args
+use Rattle.aud_event.specs.declared.signature.Format.{Format}
+use Rattle.aud_event.specs.declared.signature.Takes.{Takes}
+use Rattle.aud_event.specs.declared.signature.Takes.TheVariants as takes
 use Rattle.aud_event.specs.declared.object.OpName.{OpName}
-use Rattle.aud_event.specs.declared.object.OpName.TheVariants as name
 use Rattle.aud_event.specs.declared.object.Answer.TheVariants.{Int}
 use Rattle.aud_event.specs.declared.fact.Event.{Event}
 use Rattle.aud_event.specs.declared.fact.Fact.{Fact}
@@ -19,8 +23,8 @@ use Rattle.aud_text.specs.declared.fault.TextFault.TheVariants.{UnknownWord, Typ
 use Rattle.aud_text.specs.declared.shape.Shape.{Shape}
 use Rattle.aud_text.specs.declared.shape.Shape.TheVariants.{EndMark, Invoke, Respond, TryCommit, TryAbort, Commit, Abort, Strange}
 use Rattle.aud_text.specs.Json.{Key, has, has_all, has_only, is_one_of, fits_at, small, whole, small_at, whole_at, word_at}
-use Rattle.aud_text.specs.FactText.{shape_of, shape_of_ev, takes_argument, base_keys, operation_keys, required, allowed, types_fit, answer_of, answer_fits, answer_at, object_number, object_at, op_at, op_with, event_of, record_of, fact_of, checked, fact_or_word, judged_as, judged}
-use Rattle.aud_event.proofs.Bools.{and_true}
+use Rattle.aud_text.specs.FactText.{shape_of, shape_of_ev, argument_keys, base_keys, operation_keys, required, allowed, types_fit, answer_of, answer_fits, answer_at, object_number, object_at, op_at, args_at, event_of, record_of, fact_of, checked, fact_or_word, judged_as, judged}
+use Rattle.aud_base.proofs.Bools.{and_true}
 
 -- ---- a key that stands
 
@@ -122,9 +126,16 @@ pub record OperationStands (d : Data) : Type 0 where
   pub ob : IsFine is_text (codes "ob") d
   pub op : IsFine is_text (codes "op") d
 
+-- the arguments stand that an operation takes
+abbrev pub ArgsStand : Data → Takes → Type 0
+ArgsStand d takes.Nothing = Unit {0}
+ArgsStand d takes.Number = IsFine is_whole (codes "arg") d
+ArgsStand d takes.Addend = IsFine is_whole (codes "arg") d
+ArgsStand d takes.Pair = IsFine is_whole (codes "arg") d × IsFine is_whole (codes "val") d
+
 pub record InvokeStands (d : Data) (o : OpName) : Type 0 where
   pub operation : OperationStands d
-  pub arg : takes_argument o ≡ true → IsFine is_whole (codes "arg") d
+  pub args : ArgsStand d (signature_of o).takes
 
 pub record RespondStands (d : Data) : Type 0 where
   pub operation : OperationStands d
@@ -164,15 +175,15 @@ is_plain Commit = true
 is_plain Abort = true
 is_plain Strange = false
 
-word_by : (b : Bool) (w : Option (List ℕ)) (d : Data) (s : Shape) → cond b EndMark (shape_of_ev d w) ≡ s → is_plain s ≡ true → is_some w ≡ true
-word_by true w d s e p = absurd (true≢false (sym p ∙ ap is_plain (sym e)))
-word_by false None d s e p = absurd (true≢false (sym p ∙ ap is_plain (sym e)))
-word_by false (Some w) d s e p = refl
+word_by : (format : Format) (b : Bool) (w : Option (List ℕ)) (d : Data) (s : Shape) → cond b EndMark (shape_of_ev format d w) ≡ s → is_plain s ≡ true → is_some w ≡ true
+word_by format true w d s e p = absurd (true≢false (sym p ∙ ap is_plain (sym e)))
+word_by format false None d s e p = absurd (true≢false (sym p ∙ ap is_plain (sym e)))
+word_by format false (Some w) d s e p = refl
 
-base_stands : (d : Data) (s : Shape) (e : Event) (f : Fact) → shape_of d ≡ s → is_plain s ≡ true → record_of d e ≡ Some f → BaseStands d
-base_stands d s e f is p h = record {
+base_stands : (format : Format) (d : Data) (s : Shape) (e : Event) (f : Fact) → shape_of format d ≡ s → is_plain s ≡ true → record_of d e ≡ Some f → BaseStands d
+base_stands format d s e f is p h = record {
   numbers = numbers_stand d e f h;
-  ev = fine as_str (codes "ev") d (word_by (has (codes "end") d) (word_at (codes "ev") d) d s is p);
+  ev = fine as_str (codes "ev") d (word_by format (has (codes "end") d) (word_at (codes "ev") d) d s is p);
 }
 
 -- ---- operations
@@ -190,55 +201,55 @@ op_by_word : (i a b c d e : Bool) (x : Option OpName) (o : OpName)
 op_by_word true a b c d e x o h = cc
 op_by_word false a b c d e x o h = absurd (not_invoke a b c d e (Some o) h)
 
-op_by : (b : Bool) (w : Option (List ℕ)) (d : Data) (o : OpName) → cond b EndMark (shape_of_ev d w) ≡ Invoke (Some o) → op_at d ≡ Some o
-op_by true w d o h = absurd (cc)
-op_by false None d o h = absurd (cc)
-op_by false (Some w) d o h =
-    op_by_word (bytes_eq w (codes "inv")) (bytes_eq w (codes "ret")) (bytes_eq w (codes "tryc")) (bytes_eq w (codes "trya")) (bytes_eq w (codes "commit")) (bytes_eq w (codes "abort")) (op_at d) o h
+op_by : (format : Format) (b : Bool) (w : Option (List ℕ)) (d : Data) (o : OpName) → cond b EndMark (shape_of_ev format d w) ≡ Invoke (Some o) → op_at format d ≡ Some o
+op_by format true w d o h = absurd (cc)
+op_by format false None d o h = absurd (cc)
+op_by format false (Some w) d o h =
+    op_by_word (bytes_eq w (codes "inv")) (bytes_eq w (codes "ret")) (bytes_eq w (codes "tryc")) (bytes_eq w (codes "trya")) (bytes_eq w (codes "commit")) (bytes_eq w (codes "abort")) (op_at format d) o h
 
 object_fine : (plan : PlanOf) (d : Data) (n : ℕ) → object_at plan d ≡ Some n → IsFine is_text (codes "ob") d
 object_fine plan d n e = fine as_str (codes "ob") d (mapped (word_at (codes "ob") d) (object_number plan) (ap is_some e))
 
-op_fine : (d : Data) (o : OpName) → op_at d ≡ Some o → IsFine is_text (codes "op") d
-op_fine d o e = let w = taken (word_at (codes "op") d) op_of_word o e in fine_some as_str (codes "op") d w.got w.first
+op_fine : (format : Format) (d : Data) (o : OpName) → op_at format d ≡ Some o → IsFine is_text (codes "op") d
+op_fine format d o e = let w = taken (word_at (codes "op") d) (op_of_word_in format) o e in fine_some as_str (codes "op") d w.got w.first
 
-argument_there : (o : OpName) (arg : Option ℤ) → takes_argument o ≡ true → is_some (op_with arg o) ≡ true → is_some arg ≡ true
-argument_there name.Read arg t e = absurd (cc)
-argument_there name.Write arg t e = mapped arg _ e
-argument_there name.Inc arg t e = absurd (cc)
-argument_there name.Dec arg t e = absurd (cc)
-argument_there name.Get arg t e = absurd (cc)
-argument_there name.Add arg t e = mapped arg _ e
-argument_there name.Remove arg t e = mapped arg _ e
-argument_there name.Contains arg t e = mapped arg _ e
-argument_there name.Enq arg t e = mapped arg _ e
-argument_there name.Deq arg t e = absurd (cc)
+both : {X Y Z : Type 0} (o : Option X) (p : Option Y) (f : X → Y → Z) → is_some (option_and_then (λ x. option_map (f x) p) o) ≡ true → (is_some o ≡ true) × (is_some p ≡ true)
+both None p f e = absurd (cc)
+both (Some x) p f e = (refl, mapped p (f x) e)
 
-invoke_stands : (plan : PlanOf) (d : Data) (o : OpName) (f : Fact) → shape_of d ≡ Invoke (Some o) → fact_of plan d (Invoke (Some o)) ≡ Some f → InvokeStands d o
+args_stand : (d : Data) (t : Takes) → is_some (args_at t d) ≡ true → ArgsStand d t
+args_stand d takes.Nothing e = tt
+args_stand d takes.Number e = fine whole (codes "arg") d (mapped (whole_at (codes "arg") d) args.Number e)
+args_stand d takes.Addend e = fine whole (codes "arg") d (mapped (whole_at (codes "arg") d) args.Number e)
+args_stand d takes.Pair e =
+    let parts = both (whole_at (codes "arg") d) (whole_at (codes "val") d) args.Pair e in
+    (fine whole (codes "arg") d parts.0, fine whole (codes "val") d parts.1)
+
+invoke_stands : (plan : PlanOf) (d : Data) (o : OpName) (f : Fact) → shape_of plan.format d ≡ Invoke (Some o) → fact_of plan d (Invoke (Some o)) ≡ Some f → InvokeStands d o
 invoke_stands plan d o f is h =
     let t = taken (event_of plan d (Invoke (Some o))) (record_of d) f h in
     let u = taken (object_at plan d) _ t.got t.first in
-    let w : is_some (op_with (whole_at (codes "arg") d) o) ≡ true = mapped (op_with (whole_at (codes "arg") d) o) _ (ap is_some u.rest) in
+    let w = taken (args_at (signature_of o).takes d) _ t.got u.rest in
     record {
       operation = record {
-        base = base_stands d (Invoke (Some o)) t.got f is refl t.rest;
+        base = base_stands plan.format d (Invoke (Some o)) t.got f is refl t.rest;
         ob = object_fine plan d u.got u.first;
-        op = op_fine d o (op_by (has (codes "end") d) (word_at (codes "ev") d) d o is);
+        op = op_fine plan.format d o (op_by plan.format (has (codes "end") d) (word_at (codes "ev") d) d o is);
       };
-      arg = λ takes. fine whole (codes "arg") d (argument_there o (whole_at (codes "arg") d) takes w);
+      args = args_stand d (signature_of o).takes (ap is_some w.first);
     }
 
-respond_stands : (plan : PlanOf) (d : Data) (f : Fact) → shape_of d ≡ Respond → fact_of plan d Respond ≡ Some f → RespondStands d
+respond_stands : (plan : PlanOf) (d : Data) (f : Fact) → shape_of plan.format d ≡ Respond → fact_of plan d Respond ≡ Some f → RespondStands d
 respond_stands plan d f is h =
     let t = taken (event_of plan d Respond) (record_of d) f h in
     let u = taken (object_at plan d) _ t.got t.first in
-    let v = taken (op_at d) _ t.got u.rest in
+    let v = taken (op_at plan.format d) _ t.got u.rest in
     let w : is_some (answer_at d) ≡ true = mapped (answer_at d) _ (ap is_some v.rest) in
     record {
       operation = record {
-        base = base_stands d Respond t.got f is refl t.rest;
+        base = base_stands plan.format d Respond t.got f is refl t.rest;
         ob = object_fine plan d u.got u.first;
-        op = op_fine d v.got v.first;
+        op = op_fine plan.format d v.got v.first;
       };
       ans = answer_fine d w;
     }
@@ -249,15 +260,15 @@ end_stands d f plan h =
     let n : is_some (small_at (codes "end") d) ≡ true = mapped (small_at (codes "end") d) _ (ap is_some a.rest) in
     record { log = fine_some small (codes "log") d a.got a.first; end = fine small (codes "end") d n }
 
-built : (plan : PlanOf) (d : Data) (s : Shape) (f : Fact) → shape_of d ≡ s → fact_of plan d s ≡ Some f → Stands d s
+built : (plan : PlanOf) (d : Data) (s : Shape) (f : Fact) → shape_of plan.format d ≡ s → fact_of plan d s ≡ Some f → Stands d s
 built plan d EndMark f is h = end_stands d f plan h
 built plan d (Invoke None) f is h = absurd (cc)
 built plan d (Invoke (Some o)) f is h = invoke_stands plan d o f is h
 built plan d Respond f is h = respond_stands plan d f is h
-built plan d TryCommit f is h = base_stands d TryCommit _ f is refl h
-built plan d TryAbort f is h = base_stands d TryAbort _ f is refl h
-built plan d Commit f is h = base_stands d Commit _ f is refl h
-built plan d Abort f is h = base_stands d Abort _ f is refl h
+built plan d TryCommit f is h = base_stands plan.format d TryCommit _ f is refl h
+built plan d TryAbort f is h = base_stands plan.format d TryAbort _ f is refl h
+built plan d Commit f is h = base_stands plan.format d Commit _ f is refl h
+built plan d Abort f is h = base_stands plan.format d Abort _ f is refl h
 built plan d Strange f is h = absurd (cc)
 
 -- ---- the required keys
@@ -271,9 +282,11 @@ operation_there d o = rw (o.ob.there, o.op.there) (base_there d o.base)
 respond_there : (d : Data) → RespondStands d → has_all (codes "ans" ∷ operation_keys) d ≡ true
 respond_there d r = rw r.ans.there (operation_there d r.operation)
 
-invoke_there : (d : Data) (o : OpName) (b : Bool) → takes_argument o ≡ b → InvokeStands d o → has_all (cond b (codes "arg" ∷ operation_keys) operation_keys) d ≡ true
-invoke_there d o true is i = let a = i.arg is in rw a.there (operation_there d i.operation)
-invoke_there d o false is i = operation_there d i.operation
+args_there : (d : Data) (t : Takes) → OperationStands d → ArgsStand d t → has_all (argument_keys t operation_keys) d ≡ true
+args_there d takes.Nothing i a = operation_there d i
+args_there d takes.Number i a = rw a.there (operation_there d i)
+args_there d takes.Addend i a = rw a.there (operation_there d i)
+args_there d takes.Pair i a = rw (a.0.there, a.1.there) (operation_there d i)
 
 end_there : (d : Data) → EndStands d → has_all (codes "end" ∷ codes "log" ∷ []) d ≡ true
 end_there d e = rw (e.end.there, e.log.there) refl
@@ -281,7 +294,7 @@ end_there d e = rw (e.end.there, e.log.there) refl
 required_there : (d : Data) (s : Shape) → Stands d s → has_all (required s) d ≡ true
 required_there d EndMark h = end_there d h
 required_there d (Invoke None) h = absurd h
-required_there d (Invoke (Some o)) h = invoke_there d o (takes_argument o) refl h
+required_there d (Invoke (Some o)) h = args_there d (signature_of o).takes h.operation h.args
 required_there d Respond h = respond_there d h
 required_there d TryCommit h = base_there d h
 required_there d TryAbort h = base_there d h
@@ -292,8 +305,8 @@ required_there d Strange h = absurd h
 -- ---- the types
 
 all_fit : (d : Data) → NumbersStand d → IsFine is_text (codes "ev") d → fits_at is_small (codes "end") d ≡ true → fits_at is_text (codes "ob") d ≡ true → fits_at is_text (codes "op") d ≡ true
-    → fits_at is_whole (codes "arg") d ≡ true → fits_at answer_fits (codes "ans") d ≡ true → types_fit d ≡ true
-all_fit d n ev end ob op arg ans = rw (n.at.fit, end, n.log.fit, n.stamp.fit, n.tx.fit, ev.fit, ob, op, arg, ans) refl
+    → fits_at is_whole (codes "arg") d ≡ true → fits_at is_whole (codes "val") d ≡ true → fits_at answer_fits (codes "ans") d ≡ true → types_fit d ≡ true
+all_fit d n ev end ob op arg val ans = rw (n.at.fit, end, n.log.fit, n.stamp.fit, n.tx.fit, ev.fit, ob, op, arg, val, ans) refl
 
 base_fits : (ms : Members) → BaseStands (object ms) → has_only base_keys ms ≡ true → types_fit (object ms) ≡ true
 base_fits ms b only = all_fit (object ms) b.numbers b.ev
@@ -301,6 +314,7 @@ base_fits ms b only = all_fit (object ms) b.numbers b.ev
     (fits_absent is_text (codes "ob") base_keys ms refl only)
     (fits_absent is_text (codes "op") base_keys ms refl only)
     (fits_absent is_whole (codes "arg") base_keys ms refl only)
+    (fits_absent is_whole (codes "val") base_keys ms refl only)
     (fits_absent answer_fits (codes "ans") base_keys ms refl only)
 
 respond_fits : (ms : Members) → RespondStands (object ms) → has_only (codes "ans" ∷ operation_keys) ms ≡ true → types_fit (object ms) ≡ true
@@ -309,25 +323,29 @@ respond_fits ms r only = all_fit (object ms) r.operation.base.numbers r.operatio
     r.operation.ob.fit
     r.operation.op.fit
     (fits_absent is_whole (codes "arg") (codes "ans" ∷ operation_keys) ms refl only)
+    (fits_absent is_whole (codes "val") (codes "ans" ∷ operation_keys) ms refl only)
     r.ans.fit
 
-invoke_fits : (ms : Members) (o : OpName) (b : Bool) → takes_argument o ≡ b → InvokeStands (object ms) o → has_only (cond b (codes "arg" ∷ operation_keys) operation_keys) ms ≡ true → types_fit (object ms) ≡ true
-invoke_fits ms o true is i only = let a = i.arg is in all_fit (object ms) i.operation.base.numbers i.operation.base.ev
-    (fits_absent is_small (codes "end") (codes "arg" ∷ operation_keys) ms refl only)
-    i.operation.ob.fit
-    i.operation.op.fit
-    a.fit
-    (fits_absent answer_fits (codes "ans") (codes "arg" ∷ operation_keys) ms refl only)
-invoke_fits ms o false is i only = all_fit (object ms) i.operation.base.numbers i.operation.base.ev
-    (fits_absent is_small (codes "end") operation_keys ms refl only)
-    i.operation.ob.fit
-    i.operation.op.fit
-    (fits_absent is_whole (codes "arg") operation_keys ms refl only)
-    (fits_absent answer_fits (codes "ans") operation_keys ms refl only)
+-- with the keys of an operation there is no other that has to fit
+invoked_fit : (ms : Members) (keys : List Key) → OperationStands (object ms) → is_one_of keys (codes "end") ≡ false → is_one_of keys (codes "ans") ≡ false → has_only keys ms ≡ true
+    → fits_at is_whole (codes "arg") (object ms) ≡ true → fits_at is_whole (codes "val") (object ms) ≡ true → types_fit (object ms) ≡ true
+invoked_fit ms keys i no_end no_ans only arg val = all_fit (object ms) i.base.numbers i.base.ev
+    (fits_absent is_small (codes "end") keys ms no_end only)
+    i.ob.fit
+    i.op.fit
+    arg
+    val
+    (fits_absent answer_fits (codes "ans") keys ms no_ans only)
+
+args_fit : (ms : Members) (t : Takes) → OperationStands (object ms) → ArgsStand (object ms) t → has_only (argument_keys t operation_keys) ms ≡ true → types_fit (object ms) ≡ true
+args_fit ms takes.Nothing i a only = invoked_fit ms operation_keys i refl refl only (fits_absent is_whole (codes "arg") operation_keys ms refl only) (fits_absent is_whole (codes "val") operation_keys ms refl only)
+args_fit ms takes.Number i a only = invoked_fit ms (codes "arg" ∷ operation_keys) i refl refl only a.fit (fits_absent is_whole (codes "val") (codes "arg" ∷ operation_keys) ms refl only)
+args_fit ms takes.Addend i a only = invoked_fit ms (codes "arg" ∷ operation_keys) i refl refl only a.fit (fits_absent is_whole (codes "val") (codes "arg" ∷ operation_keys) ms refl only)
+args_fit ms takes.Pair i a only = invoked_fit ms (codes "arg" ∷ codes "val" ∷ operation_keys) i refl refl only a.0.fit a.1.fit
 
 end_all_fit : (d : Data) → EndStands d → fits_at is_small (codes "at") d ≡ true → fits_at is_small (codes "stamp") d ≡ true → fits_at is_small (codes "tx") d ≡ true → fits_at is_text (codes "ev") d ≡ true
-    → fits_at is_text (codes "ob") d ≡ true → fits_at is_text (codes "op") d ≡ true → fits_at is_whole (codes "arg") d ≡ true → fits_at answer_fits (codes "ans") d ≡ true → types_fit d ≡ true
-end_all_fit d e at stamp tx ev ob op arg ans = rw (at, e.end.fit, e.log.fit, stamp, tx, ev, ob, op, arg, ans) refl
+    → fits_at is_text (codes "ob") d ≡ true → fits_at is_text (codes "op") d ≡ true → fits_at is_whole (codes "arg") d ≡ true → fits_at is_whole (codes "val") d ≡ true → fits_at answer_fits (codes "ans") d ≡ true → types_fit d ≡ true
+end_all_fit d e at stamp tx ev ob op arg val ans = rw (at, e.end.fit, e.log.fit, stamp, tx, ev, ob, op, arg, val, ans) refl
 
 end_fits : (ms : Members) → EndStands (object ms) → has_only (codes "end" ∷ codes "log" ∷ []) ms ≡ true → types_fit (object ms) ≡ true
 end_fits ms e only = end_all_fit (object ms) e
@@ -338,18 +356,19 @@ end_fits ms e only = end_all_fit (object ms) e
     (fits_absent is_text (codes "ob") (codes "end" ∷ codes "log" ∷ []) ms refl only)
     (fits_absent is_text (codes "op") (codes "end" ∷ codes "log" ∷ []) ms refl only)
     (fits_absent is_whole (codes "arg") (codes "end" ∷ codes "log" ∷ []) ms refl only)
+    (fits_absent is_whole (codes "val") (codes "end" ∷ codes "log" ∷ []) ms refl only)
     (fits_absent answer_fits (codes "ans") (codes "end" ∷ codes "log" ∷ []) ms refl only)
 
-types_there : (ms : Members) (s : Shape) → Stands (object ms) s → has_only (allowed s) ms ≡ true → types_fit (object ms) ≡ true
-types_there ms EndMark h only = end_fits ms h only
-types_there ms (Invoke None) h only = absurd h
-types_there ms (Invoke (Some o)) h only = invoke_fits ms o (takes_argument o) refl h only
-types_there ms Respond h only = respond_fits ms h only
-types_there ms TryCommit h only = base_fits ms h only
-types_there ms TryAbort h only = base_fits ms h only
-types_there ms Commit h only = base_fits ms h only
-types_there ms Abort h only = base_fits ms h only
-types_there ms Strange h only = absurd h
+types_there : (format : Format) (ms : Members) (s : Shape) → Stands (object ms) s → has_only (allowed format s) ms ≡ true → types_fit (object ms) ≡ true
+types_there format ms EndMark h only = end_fits ms h only
+types_there format ms (Invoke None) h only = absurd h
+types_there format ms (Invoke (Some o)) h only = args_fit ms (signature_of o).takes h.operation h.args only
+types_there format ms Respond h only = respond_fits ms h only
+types_there format ms TryCommit h only = base_fits ms h only
+types_there format ms TryAbort h only = base_fits ms h only
+types_there format ms Commit h only = base_fits ms h only
+types_there format ms Abort h only = base_fits ms h only
+types_there format ms Strange h only = absurd h
 
 -- ---- the answer
 
@@ -373,44 +392,54 @@ error_of true true false x y z w = refl
 error_of true false c x y z w = refl
 error_of false b c x y z w = refl
 
-as_built : (plan : PlanOf) (ms : Members) (s : Shape) (f : Fact) (b : Bool) → shape_of (object ms) ≡ s → fact_of plan (object ms) s ≡ Some f → has_only (allowed s) ms ≡ b
+as_built : (plan : PlanOf) (ms : Members) (s : Shape) (f : Fact) (b : Bool) → shape_of plan.format (object ms) ≡ s → fact_of plan (object ms) s ≡ Some f → has_only (allowed plan.format s) ms ≡ b
     → judged_as plan (object ms) ms s ≡ cond b (checked f (first_fact_fault plan f)) (Err KeyUnknown)
 as_built plan ms s f true is h only =
     let stands = built plan (object ms) s f is h in
-    first_choice (has_all (required s) (object ms)) (has_only (allowed s) ms) (types_fit (object ms)) (fact_or_word plan (fact_of plan (object ms) s)) (Err TypeOrRange) (Err KeyUnknown) (Err KeyMissing)
-    (required_there (object ms) s stands) only (types_there ms s stands only)
+    first_choice (has_all (required s) (object ms)) (has_only (allowed plan.format s) ms) (types_fit (object ms)) (fact_or_word plan (fact_of plan (object ms) s)) (Err TypeOrRange) (Err KeyUnknown) (Err KeyMissing)
+    (required_there (object ms) s stands) only (types_there plan.format ms s stands only)
     ∙ ap (fact_or_word plan) h
 as_built plan ms s f false is h only =
     let stands = built plan (object ms) s f is h in
-    second_choice (has_all (required s) (object ms)) (has_only (allowed s) ms) _ (Err KeyUnknown) (Err KeyMissing) (required_there (object ms) s stands) only
+    second_choice (has_all (required s) (object ms)) (has_only (allowed plan.format s) ms) _ (Err KeyUnknown) (Err KeyMissing) (required_there (object ms) s stands) only
 
 as_unbuilt : (plan : PlanOf) (d : Data) (ms : Members) (s : Shape) → fact_of plan d s ≡ None
-    → judged_as plan d ms s ≡ Err (cond (has_all (required s) d) (cond (has_only (allowed s) ms) (cond (types_fit d) UnknownWord TypeOrRange) KeyUnknown) KeyMissing)
+    → judged_as plan d ms s ≡ Err (cond (has_all (required s) d) (cond (has_only (allowed plan.format s) ms) (cond (types_fit d) UnknownWord TypeOrRange) KeyUnknown) KeyMissing)
 as_unbuilt plan d ms s h =
-    ap (λ o. cond (has_all (required s) d) (cond (has_only (allowed s) ms) (cond (types_fit d) (fact_or_word plan o) (Err TypeOrRange)) (Err KeyUnknown)) (Err KeyMissing)) h
-    ∙ error_of (has_all (required s) d) (has_only (allowed s) ms) (types_fit d) UnknownWord TypeOrRange KeyUnknown KeyMissing
+    ap (λ o. cond (has_all (required s) d) (cond (has_only (allowed plan.format s) ms) (cond (types_fit d) (fact_or_word plan o) (Err TypeOrRange)) (Err KeyUnknown)) (Err KeyMissing)) h
+    ∙ error_of (has_all (required s) d) (has_only (allowed plan.format s) ms) (types_fit d) UnknownWord TypeOrRange KeyUnknown KeyMissing
 
--- where a fact is built, only the other keys decide
-pub judged_built : (plan : PlanOf) (d : Data) (ms : Members) (s : Shape) (f : Fact) (b : Bool) → as_object d ≡ Some ms → s ≡ shape_of d → fact_of plan d s ≡ Some f → has_only (allowed s) ms ≡ b
+built_in : (plan : PlanOf) (d : Data) (ms : Members) (s : Shape) (f : Fact) (b : Bool) → as_object d ≡ Some ms → s ≡ shape_of plan.format d → fact_of plan d s ≡ Some f → has_only (allowed plan.format s) ms ≡ b
     → judged plan d ≡ cond b (checked f (first_fact_fault plan f)) (Err KeyUnknown)
-judged_built plan null ms s f b o is h only = absurd (cc)
-judged_built plan (boolean x) ms s f b o is h only = absurd (cc)
-judged_built plan (number n) ms s f b o is h only = absurd (cc)
-judged_built plan (string t) ms s f b o is h only = absurd (cc)
-judged_built plan (array ds) ms s f b o is h only = absurd (cc)
-judged_built plan (object ns) ms s f b o is h only =
+built_in plan null ms s f b o is h only = absurd (cc)
+built_in plan (boolean x) ms s f b o is h only = absurd (cc)
+built_in plan (number n) ms s f b o is h only = absurd (cc)
+built_in plan (string t) ms s f b o is h only = absurd (cc)
+built_in plan (array ds) ms s f b o is h only = absurd (cc)
+built_in plan (object ns) ms s f b o is h only =
     let same : ns ≡ ms = cc in
-    ap (judged_as plan (object ns) ns) (sym is) ∙ as_built plan ns s f b (sym is) h (ap (has_only (allowed s)) same ∙ only)
+    ap (judged_as plan (object ns) ns) (sym is) ∙ as_built plan ns s f b (sym is) h (ap (has_only (allowed plan.format s)) same ∙ only)
 
--- where none is, the faults are looked for in their order
-pub judged_unbuilt : (plan : PlanOf) (d : Data) (ms : Members) (s : Shape) → as_object d ≡ Some ms → s ≡ shape_of d → fact_of plan d s ≡ None
-    → judged plan d ≡ Err (cond (has_all (required s) d) (cond (has_only (allowed s) ms) (cond (types_fit d) UnknownWord TypeOrRange) KeyUnknown) KeyMissing)
-judged_unbuilt plan null ms s o is h = absurd (cc)
-judged_unbuilt plan (boolean x) ms s o is h = absurd (cc)
-judged_unbuilt plan (number n) ms s o is h = absurd (cc)
-judged_unbuilt plan (string t) ms s o is h = absurd (cc)
-judged_unbuilt plan (array ds) ms s o is h = absurd (cc)
-judged_unbuilt plan (object ns) ms s o is h =
+unbuilt_in : (plan : PlanOf) (d : Data) (ms : Members) (s : Shape) → as_object d ≡ Some ms → s ≡ shape_of plan.format d → fact_of plan d s ≡ None
+    → judged plan d ≡ Err (cond (has_all (required s) d) (cond (has_only (allowed plan.format s) ms) (cond (types_fit d) UnknownWord TypeOrRange) KeyUnknown) KeyMissing)
+unbuilt_in plan null ms s o is h = absurd (cc)
+unbuilt_in plan (boolean x) ms s o is h = absurd (cc)
+unbuilt_in plan (number n) ms s o is h = absurd (cc)
+unbuilt_in plan (string t) ms s o is h = absurd (cc)
+unbuilt_in plan (array ds) ms s o is h = absurd (cc)
+unbuilt_in plan (object ns) ms s o is h =
     let same : ns ≡ ms = cc in
     ap (judged_as plan (object ns) ns) (sym is) ∙ (as_unbuilt plan (object ns) ns s h
-    ∙ ap (λ m. Err (cond (has_all (required s) (object ns)) (cond (has_only (allowed s) m) (cond (types_fit (object ns)) UnknownWord TypeOrRange) KeyUnknown) KeyMissing)) same)
+    ∙ ap (λ m. Err (cond (has_all (required s) (object ns)) (cond (has_only (allowed plan.format s) m) (cond (types_fit (object ns)) UnknownWord TypeOrRange) KeyUnknown) KeyMissing)) same)
+
+-- where a fact is built, only the other keys decide
+pub judged_built : (plan : PlanOf) (format : Format) (d : Data) (ms : Members) (s : Shape) (f : Fact) (b : Bool) → format ≡ plan.format → as_object d ≡ Some ms → s ≡ shape_of format d → fact_of plan d s ≡ Some f
+    → has_only (allowed format s) ms ≡ b → judged plan d ≡ cond b (checked f (first_fact_fault plan f)) (Err KeyUnknown)
+judged_built plan format d ms s f b same o is h only = built_in plan d ms s f b o (subst (λ k. s ≡ shape_of k d) same is) h (subst (λ k. has_only (allowed k s) ms ≡ b) same only)
+
+-- where none is, the faults are looked for in their order
+pub judged_unbuilt : (plan : PlanOf) (format : Format) (d : Data) (ms : Members) (s : Shape) → format ≡ plan.format → as_object d ≡ Some ms → s ≡ shape_of format d → fact_of plan d s ≡ None
+    → judged plan d ≡ Err (cond (has_all (required s) d) (cond (has_only (allowed format s) ms) (cond (types_fit d) UnknownWord TypeOrRange) KeyUnknown) KeyMissing)
+judged_unbuilt plan format d ms s same o is h =
+    subst (λ k. judged plan d ≡ Err (cond (has_all (required s) d) (cond (has_only (allowed k s) ms) (cond (types_fit d) UnknownWord TypeOrRange) KeyUnknown) KeyMissing)) (sym same)
+    (unbuilt_in plan d ms s o (subst (λ k. s ≡ shape_of k d) same is) h)

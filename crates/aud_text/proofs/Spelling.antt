@@ -16,7 +16,7 @@ use Rattle.json.proofs.Printed.Decimals.{IsNumber-decimal, IsNumber-signed_decim
 use Rattle.json.proofs.Printed.Strings.{escape_byte_plain}
 use Rattle.json.proofs.Printed.Tokens.{tokens-print}
 use Rattle.json.proofs.Printed.Trees.{value-json_tokens, ArePrintable-json_tokens}
-use Rattle.serde_json.specs.Data.{Data, unsigned, number, object, member}
+use Rattle.serde_json.specs.Data.{Data, unsigned, number, object, Members, no_members, member}
 use Rattle.serde_json.specs.Find.{of_integer}
 use Rattle.serde_json.specs.Read.{read, of_json, number_of}
 use Rattle.serde_json.specs.Written.{compact_text, members_text, number_text, outline}
@@ -26,11 +26,13 @@ use Rattle.aud_event.specs.Meanings.{Declared, PlanOf}
 use Rattle.aud_event.specs.Facts.{first_fact_fault}
 use Rattle.aud_event.specs.Laws.{NumberIsOwn}
 use Rattle.aud_event.specs.Plans.{first_plan_fault, is_name, is_name_byte}
-use Rattle.aud_event.specs.Objects.{name_of}
+use Rattle.aud_event.specs.Objects.{name_of, args_of}
+use Rattle.aud_event.specs.declared.signature.Args.{Args}
+use Rattle.aud_event.specs.declared.signature.Args.TheVariants as args
+use Rattle.aud_event.proofs.Rows.{word-is_name}
 use Rattle.aud_event.specs.Words.{word_of_op}
 use Rattle.aud_event.specs.declared.object.Op.{Op}
 use Rattle.aud_event.specs.declared.object.OpName.{OpName}
-use Rattle.aud_event.specs.declared.object.OpName.TheVariants as name
 use Rattle.aud_event.specs.declared.object.Answer.{Answer}
 use Rattle.aud_event.specs.declared.object.Answer.TheVariants.{Done, Int, Flag, Empty}
 use Rattle.aud_event.specs.declared.fact.EndMark.{EndMark}
@@ -40,11 +42,11 @@ use Rattle.aud_event.specs.declared.fact.Event.TheVariants as event
 use Rattle.aud_event.specs.declared.fact.Fact.{Fact}
 use Rattle.aud_event.specs.declared.fact.Fact.TheVariants.{Rec, End}
 use Rattle.aud_text.specs.FactText.{fact_read}
-use Rattle.aud_text.specs.Spelled.{place_text, log_text, use_text, tail_text, answer_text, called_text, invoked_text, record_text, spelled_text}
-use Rattle.aud_text.specs.Written.{data_of, record_members, end_members, object_name, argument_of, whole_data, answer_data, headed, tailed, operated, with_argument, AnswerFits, EventFits, FactFits}
+use Rattle.aud_text.specs.Spelled.{place_text, log_text, use_text, tail_text, answer_text, end_text, argument_text, called_text, invoked_text, record_text, spelled_text}
+use Rattle.aud_text.specs.Written.{data_of, record_members, end_members, object_name, whole_data, answer_data, headed, tailed, operated, invoked, with_value, first_of, AnswerFits, ArgsFit, EventFits, FactFits}
 use Rattle.aud_text.proofs.Back.{written_reads}
 use Rattle.aud_text.proofs.Sound.{IsSound, sound, named_at, RecordInRange, EndInRange, record_in_range, end_in_range}
-use Rattle.aud_event.proofs.Bools.{and_true}
+use Rattle.aud_base.proofs.Bools.{and_true}
 
 -- ---- names and words are not escaped
 
@@ -69,17 +71,7 @@ plain_object plan ob s = by_get (slice_get plan.objects ob) refl
     by_get (Some d) same = plain_name d.name (named_at plan.objects ob d s.named same)
 
 plain_word : (o : OpName) → escape (word_of_op o) ≡ word_of_op o
-unfolding escape_byte
-plain_word name.Read = refl
-plain_word name.Write = refl
-plain_word name.Inc = refl
-plain_word name.Dec = refl
-plain_word name.Get = refl
-plain_word name.Add = refl
-plain_word name.Remove = refl
-plain_word name.Contains = refl
-plain_word name.Enq = refl
-plain_word name.Deq = refl
+plain_word o = plain_name (word_of_op o) (word-is_name o)
 
 pub quoted_then : (s rest : List ℕ) → escape s ≡ s → quoted s ++ rest ≡ 34 ∷ (s ++ 34 ∷ rest)
 quoted_then s rest e = rw e (ap (λ l. 34 ∷ l) (append_assoc s (34 ∷ []) rest))
@@ -98,44 +90,56 @@ answer_is (Flag true) = refl
 answer_is (Flag false) = refl
 answer_is Empty = refl
 
-tail_is : (r : Record) → members_text true (tailed r) ≡ tail_text r.stamp r.tx
+value_is : (a : Args) → members_text true (with_value a) ≡ end_text a
 unfolding escape_byte
-tail_is r = refl
+value_is args.Nothing = refl
+value_is (args.Number v) = refl
+value_is (args.Pair k v) = ap (λ l. codes ",\"val\":" ++ (l ++ codes "}")) (whole_is v)
 
-use_is : (plan : PlanOf) (r : Record) (ob : ℕ) (o : OpName) → IsSound plan → members_text true (operated plan ob o (tailed r)) ≡ use_text (object_name plan ob) (word_of_op o) (tail_text r.stamp r.tx)
+use_is : (plan : PlanOf) (r : Record) (ob : ℕ) (o : OpName) (rest : Members) → IsSound plan
+    → members_text true (operated plan ob o (tailed r rest)) ≡ use_text (object_name plan ob) (word_of_op o) (tail_text r.stamp r.tx (members_text true rest))
 unfolding escape_byte
-use_is plan r ob o s =
+use_is plan r ob o rest s =
     ap (λ l. codes ",\"ob\":" ++ l) (quoted_then (object_name plan ob) _ (plain_object plan ob s))
     ∙ ap (λ l. codes ",\"ob\":\"" ++ (object_name plan ob ++ (codes "\",\"op\":" ++ l))) (quoted_then (word_of_op o) _ (plain_word o))
 
-invoked_is : (b : Bool) (plan : PlanOf) (r : Record) (ob : ℕ) (o : OpName) → IsSound plan
-    → members_text true (headed r (codes "inv") (operated plan ob o (tailed r))) ≡ 44 ∷ called_text plan r (codes "inv") ob o
+invoked_is : (plan : PlanOf) (r : Record) (ob : ℕ) (o : OpName) (rest : Members) → IsSound plan
+    → members_text true (headed r (codes "inv") (operated plan ob o (tailed r rest))) ≡ 44 ∷ called_text plan r (codes "inv") ob o (members_text true rest)
 unfolding escape_byte
-invoked_is b plan r ob o s = ap (λ l. 44 ∷ place_text r.at (log_text (codes "inv") r.log l)) (use_is plan r ob o s)
+invoked_is plan r ob o rest s = ap (λ l. 44 ∷ place_text r.at (log_text (codes "inv") r.log l)) (use_is plan r ob o rest s)
 
-asked_is : (plan : PlanOf) (r : Record) (ob : ℕ) (o : OpName) → IsSound plan
-    → members_text false (headed r (codes "inv") (operated plan ob o (tailed r))) ≡ called_text plan r (codes "inv") ob o
+asked_is : (plan : PlanOf) (r : Record) (ob : ℕ) (o : OpName) (rest : Members) → IsSound plan
+    → members_text false (headed r (codes "inv") (operated plan ob o (tailed r rest))) ≡ called_text plan r (codes "inv") ob o (members_text true rest)
 unfolding escape_byte
-asked_is plan r ob o s = ap (λ l. place_text r.at (log_text (codes "inv") r.log l)) (use_is plan r ob o s)
+asked_is plan r ob o rest s = ap (λ l. place_text r.at (log_text (codes "inv") r.log l)) (use_is plan r ob o rest s)
 
 answered_is : (plan : PlanOf) (r : Record) (ob : ℕ) (o : OpName) → IsSound plan
-    → members_text true (headed r (codes "ret") (operated plan ob o (tailed r))) ≡ 44 ∷ called_text plan r (codes "ret") ob o
+    → members_text true (headed r (codes "ret") (operated plan ob o (tailed r no_members))) ≡ 44 ∷ called_text plan r (codes "ret") ob o (codes "}")
 unfolding escape_byte
-answered_is plan r ob o s = ap (λ l. 44 ∷ place_text r.at (log_text (codes "ret") r.log l)) (use_is plan r ob o s)
+answered_is plan r ob o s = ap (λ l. 44 ∷ place_text r.at (log_text (codes "ret") r.log l)) (use_is plan r ob o no_members s)
 
-invocation_is : (plan : PlanOf) (r : Record) (ob : ℕ) (o : OpName) (z : Option ℤ) → IsSound plan
-    → compact_text (object (with_argument z (headed r (codes "inv") (operated plan ob o (tailed r))))) ≡ invoked_text plan r ob o z
+-- an invocation with a first argument
+first_is : (plan : PlanOf) (r : Record) (ob : ℕ) (o : OpName) (z : ℤ) (rest : Members) → IsSound plan
+    → compact_text (object (member (codes "arg") (whole_data z) (headed r (codes "inv") (operated plan ob o (tailed r rest)))))
+    ≡ codes "{\"arg\":" ++ (signed_decimal z ++ (codes "," ++ called_text plan r (codes "inv") ob o (members_text true rest)))
 unfolding escape_byte
-invocation_is plan r ob o None s = ap (λ l. 123 ∷ l) (asked_is plan r ob o s)
-invocation_is plan r ob o (Some z) s =
-    ap (λ l. codes "{\"arg\":" ++ (l ++ members_text true (headed r (codes "inv") (operated plan ob o (tailed r))))) (whole_is z)
-    ∙ ap (λ l. codes "{\"arg\":" ++ (signed_decimal z ++ l)) (invoked_is true plan r ob o s)
+first_is plan r ob o z rest s =
+    ap (λ l. codes "{\"arg\":" ++ (l ++ members_text true (headed r (codes "inv") (operated plan ob o (tailed r rest))))) (whole_is z)
+    ∙ ap (λ l. codes "{\"arg\":" ++ (signed_decimal z ++ l)) (invoked_is plan r ob o rest s)
+
+invocation_is : (plan : PlanOf) (r : Record) (ob : ℕ) (o : OpName) (a : Args) → IsSound plan → compact_text (object (invoked plan r ob o a)) ≡ invoked_text plan r ob o a
+unfolding escape_byte
+invocation_is plan r ob o args.Nothing s = ap (λ l. 123 ∷ l) (asked_is plan r ob o no_members s)
+invocation_is plan r ob o (args.Number z) s = first_is plan r ob o z no_members s
+invocation_is plan r ob o (args.Pair z v) s =
+    first_is plan r ob o z (with_value (args.Pair z v)) s
+    ∙ ap (λ l. codes "{\"arg\":" ++ (signed_decimal z ++ (codes "," ++ called_text plan r (codes "inv") ob o l))) (value_is (args.Pair z v))
 
 record_is : (plan : PlanOf) (r : Record) (e : Event) → IsSound plan → compact_text (object (record_members plan r e)) ≡ record_text plan r e
 unfolding escape_byte
-record_is plan r (event.Inv ob o) s = invocation_is plan r ob (name_of o) (argument_of o) s
+record_is plan r (event.Inv ob o) s = invocation_is plan r ob (name_of o) (args_of o) s
 record_is plan r (event.Ret ob o a) s =
-    ap (λ l. codes "{\"ans\":" ++ (l ++ members_text true (headed r (codes "ret") (operated plan ob o (tailed r))))) (answer_is a)
+    ap (λ l. codes "{\"ans\":" ++ (l ++ members_text true (headed r (codes "ret") (operated plan ob o (tailed r no_members))))) (answer_is a)
     ∙ ap (λ l. codes "{\"ans\":" ++ (answer_text a ++ l)) (answered_is plan r ob o s)
 record_is plan r event.TryC s = refl
 record_is plan r event.TryA s = refl
@@ -187,14 +191,14 @@ answer_plain (Int z) h = whole_plain z h
 answer_plain (Flag b) h = record { same = refl; numbers = tt; flat = omega arith }
 answer_plain Empty h = record { same = refl; numbers = tt; flat = omega arith }
 
-ended_plain : (r : Record) (w : List ℕ) → RecordInRange r → IsPlain 1 (object (headed r w (tailed r)))
+ended_plain : (r : Record) (w : List ℕ) → RecordInRange r → IsPlain 1 (object (headed r w (tailed r no_members)))
 ended_plain r w h = record {
   same = rw (small_read r.at h.at, small_read r.log h.log, small_read r.stamp h.stamp, small_read r.tx h.tx) refl;
   numbers = (small_number r.at h.at, (tt, (small_number r.log h.log, (small_number r.stamp h.stamp, (small_number r.tx h.tx, tt)))));
   flat = omega arith;
 }
 
-called_plain : (plan : PlanOf) (r : Record) (w : List ℕ) (ob : ℕ) (o : OpName) → RecordInRange r → IsPlain 1 (object (headed r w (operated plan ob o (tailed r))))
+called_plain : (plan : PlanOf) (r : Record) (w : List ℕ) (ob : ℕ) (o : OpName) → RecordInRange r → IsPlain 1 (object (headed r w (operated plan ob o (tailed r no_members))))
 called_plain plan r w ob o h = record {
   same = rw (small_read r.at h.at, small_read r.log h.log, small_read r.stamp h.stamp, small_read r.tx h.tx) refl;
   numbers = (small_number r.at h.at, (tt, (small_number r.log h.log, (tt, (tt, (small_number r.stamp h.stamp, (small_number r.tx h.tx, tt)))))));
@@ -202,7 +206,7 @@ called_plain plan r w ob o h = record {
 }
 
 argued_plain : (plan : PlanOf) (r : Record) (ob : ℕ) (o : OpName) (d : Data) → RecordInRange r → IsPlain 0 d
-    → IsPlain 1 (object (member (codes "arg") d (headed r (codes "inv") (operated plan ob o (tailed r)))))
+    → IsPlain 1 (object (member (codes "arg") d (headed r (codes "inv") (operated plan ob o (tailed r no_members)))))
 argued_plain plan r ob o d h p = record {
   same = rw (p.same, small_read r.at h.at, small_read r.log h.log, small_read r.stamp h.stamp, small_read r.tx h.tx) refl;
   numbers = (p.numbers, (small_number r.at h.at, (tt, (small_number r.log h.log, (tt, (tt, (small_number r.stamp h.stamp, (small_number r.tx h.tx, tt))))))));
@@ -210,20 +214,28 @@ argued_plain plan r ob o d h p = record {
 }
 
 answered_plain : (plan : PlanOf) (r : Record) (ob : ℕ) (o : OpName) (d : Data) → RecordInRange r → IsPlain 0 d
-    → IsPlain 1 (object (member (codes "ans") d (headed r (codes "ret") (operated plan ob o (tailed r)))))
+    → IsPlain 1 (object (member (codes "ans") d (headed r (codes "ret") (operated plan ob o (tailed r no_members)))))
 answered_plain plan r ob o d h p = record {
   same = rw (p.same, small_read r.at h.at, small_read r.log h.log, small_read r.stamp h.stamp, small_read r.tx h.tx) refl;
   numbers = (p.numbers, (small_number r.at h.at, (tt, (small_number r.log h.log, (tt, (tt, (small_number r.stamp h.stamp, (small_number r.tx h.tx, tt))))))));
   flat = omega (arith, p.flat);
 }
 
-invoked_plain : (plan : PlanOf) (r : Record) (ob : ℕ) (o : OpName) (z : Option ℤ) → RecordInRange r → IfSome z (λ v. FitsSigned w64 v)
-    → IsPlain 1 (object (with_argument z (headed r (codes "inv") (operated plan ob o (tailed r)))))
-invoked_plain plan r ob o None h f = called_plain plan r (codes "inv") ob o h
-invoked_plain plan r ob o (Some z) h f = argued_plain plan r ob o (whole_data z) h (whole_plain z f)
+paired_plain : (plan : PlanOf) (r : Record) (ob : ℕ) (o : OpName) (d e : Data) → RecordInRange r → IsPlain 0 d → IsPlain 0 e
+    → IsPlain 1 (object (member (codes "arg") d (headed r (codes "inv") (operated plan ob o (tailed r (member (codes "val") e no_members))))))
+paired_plain plan r ob o d e h p q = record {
+  same = rw (p.same, small_read r.at h.at, small_read r.log h.log, small_read r.stamp h.stamp, small_read r.tx h.tx, q.same) refl;
+  numbers = (p.numbers, (small_number r.at h.at, (tt, (small_number r.log h.log, (tt, (tt, (small_number r.stamp h.stamp, (small_number r.tx h.tx, (q.numbers, tt)))))))));
+  flat = omega (arith, p.flat, q.flat);
+}
+
+invoked_plain : (plan : PlanOf) (r : Record) (ob : ℕ) (o : OpName) (a : Args) → RecordInRange r → ArgsFit a → IsPlain 1 (object (invoked plan r ob o a))
+invoked_plain plan r ob o args.Nothing h f = called_plain plan r (codes "inv") ob o h
+invoked_plain plan r ob o (args.Number z) h f = argued_plain plan r ob o (whole_data z) h (whole_plain z f)
+invoked_plain plan r ob o (args.Pair k v) h f = paired_plain plan r ob o (whole_data k) (whole_data v) h (whole_plain k f.0) (whole_plain v f.1)
 
 record_plain : (plan : PlanOf) (r : Record) (e : Event) → RecordInRange r → EventFits e → IsPlain 1 (object (record_members plan r e))
-record_plain plan r (event.Inv ob o) h f = invoked_plain plan r ob (name_of o) (argument_of o) h f
+record_plain plan r (event.Inv ob o) h f = invoked_plain plan r ob (name_of o) (args_of o) h f
 record_plain plan r (event.Ret ob o a) h f = answered_plain plan r ob o (answer_data a) h (answer_plain a f)
 record_plain plan r event.TryC h f = ended_plain r (codes "tryc") h
 record_plain plan r event.TryA h f = ended_plain r (codes "trya") h
@@ -250,7 +262,7 @@ plain_reads d p =
     ∙ p.same
 
 -- a line that is spelled as a fact that fits is that fact
-pub spelled_reads : (plan : PlanOf) (f : Fact) (line : List ℕ) → first_plan_fault plan.logs plan.objects ≡ None → NumberIsOwn → FactFits f → first_fact_fault plan f ≡ None
+pub spelled_reads : (plan : PlanOf) (f : Fact) (line : List ℕ) → first_plan_fault plan ≡ None → NumberIsOwn → FactFits f → first_fact_fault plan f ≡ None
     → line ≡ spelled_text plan f → IsUtf8 line → fact_read plan line ≡ Ok f
 spelled_reads plan f line sane own fits none spelled utf8 =
     let s = sound plan sane in
@@ -259,7 +271,8 @@ spelled_reads plan f line sane own fits none spelled utf8 =
 
 -- ---- the parts of an invocation with an argument
 
-pub argued_is : (plan : PlanOf) (r : Record) (ob : ℕ) (o : Op) (n : OpName) (z : ℤ) (line l1 l2 l3 l4 l5 l6 : List ℕ) → name_of o ≡ n → argument_of o ≡ Some z
+pub argued_is : (plan : PlanOf) (r : Record) (ob : ℕ) (o : Op) (n : OpName) (z : ℤ) (a : Args) (line l1 l2 l3 l4 l5 l6 l7 : List ℕ) → name_of o ≡ n → args_of o ≡ a → first_of a ≡ Some z
     → line ≡ codes "{\"arg\":" ++ l1 → l1 ≡ signed_decimal z ++ l2 → l2 ≡ codes "," ++ l3 → l3 ≡ place_text r.at l4 → l4 ≡ log_text (codes "inv") r.log l5
-    → l5 ≡ use_text (object_name plan ob) (word_of_op n) l6 → l6 ≡ tail_text r.stamp r.tx → line ≡ record_text plan r (event.Inv ob o)
-argued_is plan r ob o n z line l1 l2 l3 l4 l5 l6 named with_z e1 e2 e3 e4 e5 e6 e7 = rw (named, with_z, e1, e2, e3, e4, e5, e6, e7) refl
+    → l5 ≡ use_text (object_name plan ob) (word_of_op n) l6 → l6 ≡ tail_text r.stamp r.tx l7 → l7 ≡ end_text a → line ≡ record_text plan r (event.Inv ob o)
+argued_is plan r ob o n z a line l1 l2 l3 l4 l5 l6 l7 named with_a first e1 e2 e3 e4 e5 e6 e7 e8 =
+    rw (named, with_a, first, e1, e2, e3, e4, e5, e6, e7, e8) refl

@@ -6,11 +6,16 @@ use Rattle.serde_json.specs.Find.{get, as_object, as_i64}
 use Rattle.aud_event.specs.Meanings.{PlanOf}
 use Rattle.aud_event.specs.Plans.{number_of}
 use Rattle.aud_event.specs.Facts.{first_fact_fault}
-use Rattle.aud_event.specs.Words.{op_of_word}
+use Rattle.aud_event.specs.Words.{op_of_word_in}
+use Rattle.aud_event.specs.Limits.{most_objects}
+use Rattle.aud_event.specs.Objects.{signature_of, op_with}
+use Rattle.aud_event.specs.declared.signature.Args.{Args}
+use Rattle.aud_event.specs.declared.signature.Args.TheVariants as args
+use Rattle.aud_event.specs.declared.signature.Format.{Format}
+use Rattle.aud_event.specs.declared.signature.Format.TheVariants.{One, Two}
+use Rattle.aud_event.specs.declared.signature.Takes.{Takes}
+use Rattle.aud_event.specs.declared.signature.Takes.TheVariants as takes
 use Rattle.aud_event.specs.declared.object.OpName.{OpName}
-use Rattle.aud_event.specs.declared.object.OpName.TheVariants as name
-use Rattle.aud_event.specs.declared.object.Op.{Op}
-use Rattle.aud_event.specs.declared.object.Op.TheVariants as op
 use Rattle.aud_event.specs.declared.object.Answer.{Answer}
 use Rattle.aud_event.specs.declared.object.Answer.TheVariants.{Done, Int, Flag, Empty}
 use Rattle.aud_event.specs.declared.fact.Event.{Event}
@@ -31,35 +36,27 @@ answer_of_word w = if bytes_eq w (codes "done") then Some Done else (if bytes_eq
 
 -- ---- which keys
 
+-- the operation of the format that `op` has the word of
+abbrev pub op_at : Format → Data → Option OpName
+op_at format d = option_and_then (op_of_word_in format) (word_at (codes "op") d)
+
 -- what a word at `ev` makes of a line; an invocation is known by its operation, where `op` has the word of one
-abbrev pub shape_of_event : Data → List ℕ → Shape
-shape_of_event d w =
-    if bytes_eq w (codes "inv") then Invoke (option_and_then op_of_word (word_at (codes "op") d))
+abbrev pub shape_of_event : Format → Data → List ℕ → Shape
+shape_of_event format d w =
+    if bytes_eq w (codes "inv") then Invoke (op_at format d)
     else (if bytes_eq w (codes "ret") then Respond
     else (if bytes_eq w (codes "tryc") then TryCommit
     else (if bytes_eq w (codes "trya") then TryAbort
     else (if bytes_eq w (codes "commit") then Commit
     else (if bytes_eq w (codes "abort") then Abort else Strange)))))
 
-abbrev pub shape_of_ev : Data → Option (List ℕ) → Shape
-shape_of_ev d None = Strange
-shape_of_ev d (Some w) = shape_of_event d w
+abbrev pub shape_of_ev : Format → Data → Option (List ℕ) → Shape
+shape_of_ev format d None = Strange
+shape_of_ev format d (Some w) = shape_of_event format d w
 
 -- a line with the key `end` is an end mark, and any other is a record
-abbrev pub shape_of : Data → Shape
-shape_of d = if has (codes "end") d then EndMark else shape_of_ev d (word_at (codes "ev") d)
-
-abbrev pub takes_argument : OpName → Bool
-takes_argument name.Read = false
-takes_argument name.Write = true
-takes_argument name.Inc = false
-takes_argument name.Dec = false
-takes_argument name.Get = false
-takes_argument name.Add = true
-takes_argument name.Remove = true
-takes_argument name.Contains = true
-takes_argument name.Enq = true
-takes_argument name.Deq = false
+abbrev pub shape_of : Format → Data → Shape
+shape_of format d = if has (codes "end") d then EndMark else shape_of_ev format d (word_at (codes "ev") d)
 
 abbrev pub base_keys : List Key
 base_keys = codes "at" ∷ codes "ev" ∷ codes "log" ∷ codes "stamp" ∷ codes "tx" ∷ []
@@ -67,13 +64,22 @@ base_keys = codes "at" ∷ codes "ev" ∷ codes "log" ∷ codes "stamp" ∷ code
 abbrev pub operation_keys : List Key
 operation_keys = codes "ob" ∷ codes "op" ∷ base_keys
 
-abbrev pub all_keys : List Key
-all_keys = codes "ans" ∷ codes "arg" ∷ operation_keys
+-- the keys of what an operation takes, then the others
+abbrev pub argument_keys : Takes → List Key → List Key
+argument_keys takes.Nothing keys = keys
+argument_keys takes.Number keys = codes "arg" ∷ keys
+argument_keys takes.Addend keys = codes "arg" ∷ keys
+argument_keys takes.Pair keys = codes "arg" ∷ codes "val" ∷ keys
+
+-- the keys that a line of a record can have at all
+abbrev pub all_keys : Format → List Key
+all_keys One = codes "ans" ∷ codes "arg" ∷ operation_keys
+all_keys Two = codes "ans" ∷ codes "arg" ∷ codes "val" ∷ operation_keys
 
 -- the keys that must stand
 abbrev pub required : Shape → List Key
 required EndMark = codes "end" ∷ codes "log" ∷ []
-required (Invoke (Some o)) = if takes_argument o then codes "arg" ∷ operation_keys else operation_keys
+required (Invoke (Some o)) = argument_keys (signature_of o).takes operation_keys
 required (Invoke None) = operation_keys
 required Respond = codes "ans" ∷ operation_keys
 required TryCommit = base_keys
@@ -83,16 +89,16 @@ required Abort = base_keys
 required Strange = base_keys
 
 -- the keys that may stand: no others than those that must, where event and operation are known
-abbrev pub allowed : Shape → List Key
-allowed EndMark = required EndMark
-allowed (Invoke (Some o)) = required (Invoke (Some o))
-allowed (Invoke None) = all_keys
-allowed Respond = required Respond
-allowed TryCommit = required TryCommit
-allowed TryAbort = required TryAbort
-allowed Commit = required Commit
-allowed Abort = required Abort
-allowed Strange = all_keys
+abbrev pub allowed : Format → Shape → List Key
+allowed format EndMark = required EndMark
+allowed format (Invoke (Some o)) = required (Invoke (Some o))
+allowed format (Invoke None) = all_keys format
+allowed format Respond = required Respond
+allowed format TryCommit = required TryCommit
+allowed format TryAbort = required TryAbort
+allowed format Commit = required Commit
+allowed format Abort = required Abort
+allowed format Strange = all_keys format
 
 -- ---- types
 
@@ -110,7 +116,7 @@ abbrev pub types_fit : Data → Bool
 types_fit d =
     list_all (λ k. small_fits k d) (codes "at" ∷ codes "end" ∷ codes "log" ∷ codes "stamp" ∷ codes "tx" ∷ [])
     && (list_all (λ k. text_fits k d) (codes "ev" ∷ codes "ob" ∷ codes "op" ∷ [])
-    && (whole_fits (codes "arg") d && fits_at answer_fits (codes "ans") d))
+    && (whole_fits (codes "arg") d && (whole_fits (codes "val") d && fits_at answer_fits (codes "ans") d)))
 
 -- ---- the fact
 
@@ -125,33 +131,26 @@ answer_of (object ms) = None
 abbrev pub answer_at : Data → Option Answer
 answer_at d = option_and_then answer_of (get (codes "ans") d)
 
--- an object's number, or 256, which no object has
+-- an object's number, or the first past the greatest, which no object has
 abbrev pub object_number : PlanOf → List ℕ → ℕ
-object_number plan w = unwrap_or (number_of w plan.objects) 256
+object_number plan w = unwrap_or (number_of w plan.objects) most_objects
 
 abbrev pub object_at : PlanOf → Data → Option ℕ
 object_at plan d = option_map (object_number plan) (word_at (codes "ob") d)
 
-abbrev pub op_at : Data → Option OpName
-op_at d = option_and_then op_of_word (word_at (codes "op") d)
-
-abbrev pub op_with : Option ℤ → OpName → Option Op
-op_with arg name.Read = Some op.Read
-op_with arg name.Write = option_map op.Write arg
-op_with arg name.Inc = Some op.Inc
-op_with arg name.Dec = Some op.Dec
-op_with arg name.Get = Some op.Get
-op_with arg name.Add = option_map op.Add arg
-op_with arg name.Remove = option_map op.Remove arg
-op_with arg name.Contains = option_map op.Contains arg
-op_with arg name.Enq = option_map op.Enq arg
-op_with arg name.Deq = Some op.Deq
+-- the arguments that stand, where an operation takes such
+abbrev pub args_at : Takes → Data → Option Args
+args_at takes.Nothing d = Some args.Nothing
+args_at takes.Number d = option_map args.Number (whole_at (codes "arg") d)
+args_at takes.Addend d = option_map args.Number (whole_at (codes "arg") d)
+args_at takes.Pair d = option_and_then (λ key. option_map (args.Pair key) (whole_at (codes "val") d)) (whole_at (codes "arg") d)
 
 abbrev pub event_of : PlanOf → Data → Shape → Option Event
 event_of plan d EndMark = None
 event_of plan d (Invoke None) = None
-event_of plan d (Invoke (Some o)) = option_and_then (λ ob. option_map (event.Inv ob) (op_with (whole_at (codes "arg") d) o)) (object_at plan d)
-event_of plan d Respond = option_and_then (λ ob. option_and_then (λ o. option_map (event.Ret ob o) (answer_at d)) (op_at d)) (object_at plan d)
+event_of plan d (Invoke (Some o)) =
+    option_and_then (λ ob. option_and_then (λ a. option_map (event.Inv ob) (op_with o a)) (args_at (signature_of o).takes d)) (object_at plan d)
+event_of plan d Respond = option_and_then (λ ob. option_and_then (λ o. option_map (event.Ret ob o) (answer_at d)) (op_at plan.format d)) (object_at plan d)
 event_of plan d TryCommit = Some event.TryC
 event_of plan d TryAbort = Some event.TryA
 event_of plan d Commit = Some event.Commit
@@ -191,14 +190,14 @@ fact_or_word plan (Some f) = checked f (first_fact_fault plan f)
 abbrev pub judged_as : PlanOf → Data → Members → Shape → Result Fact TextFault
 judged_as plan d ms s =
     if has_all (required s) d
-    then (if has_only (allowed s) ms
+    then (if has_only (allowed plan.format s) ms
     then (if types_fit d then fact_or_word plan (fact_of plan d s) else Err fault.TypeOrRange)
     else Err fault.KeyUnknown)
     else Err fault.KeyMissing
 
 abbrev pub judged_members : PlanOf → Data → Option Members → Result Fact TextFault
 judged_members plan d None = Err fault.NotObject
-judged_members plan d (Some ms) = judged_as plan d ms (shape_of d)
+judged_members plan d (Some ms) = judged_as plan d ms (shape_of plan.format d)
 
 -- what a JSON value says in the plan
 abbrev pub judged : PlanOf → Data → Result Fact TextFault

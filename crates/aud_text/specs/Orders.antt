@@ -2,7 +2,7 @@
 use Rattle.std.specs.Prelude.{ℕ, ◌-◌, ◌==◌, ◌&&◌, ◌||◌, List, [], ◌∷◌, ◌++◌, map, Bool, not, Option, Some, None, Result, Ok, Err, nat_lt, nat_le, if◌then◌else◌, length, take, slice_index, codes, bytes_eq, decimal, ◌≡◌, ◌<◌, ◌≤◌, All}
 use Rattle.std.specs.List.{list_all, slice_split, join_with_byte}
 use Rattle.std.specs.Str.Parse.{digits_value}
-use Rattle.aud_event.specs.Limits.{transactions}
+use Rattle.aud_event.specs.Limits.{most_transactions}
 use Rattle.aud_witness.specs.declared.decision.Fate.{Fate}
 use Rattle.aud_witness.specs.declared.decision.Fate.TheVariants.{C, A}
 use Rattle.aud_witness.specs.declared.decision.Decision.{Decision}
@@ -21,7 +21,7 @@ abbrev pub is_plain : List ℕ → Bool
 is_plain ds = not (length ds == 0) && (all_digits ds && ((length ds == 1) || not (slice_index ds 0 == 48)))
 
 abbrev pub id_read : List ℕ → Fate → WordRead
-id_read ds fate = if is_plain ds then (if nat_lt (digits_value 10 ds) transactions then Decided (record { tx = digits_value 10 ds; fate = fate }) else TooGreat) else Unknown
+id_read ds fate = if is_plain ds then (if nat_lt (digits_value 10 ds) most_transactions then Decided (record { tx = digits_value 10 ds; fate = fate }) else TooGreat) else Unknown
 
 abbrev pub ended_read : ℕ → List ℕ → WordRead
 ended_read last ds = if last == 99 then id_read ds C else (if last == 97 then id_read ds A else Unknown)
@@ -73,4 +73,4 @@ order_text (d ∷ ds) = join_with_byte 32 (map decision_text (d ∷ ds))
 
 -- the text reads as the decisions, where their ids and the text are within the limits
 abbrev pub ReadsBackAs : List Decision → List ℕ → Type 0
-ReadsBackAs ds text = All (λ d. d.tx < transactions) ds → length text ≤ 32768 → order_read text ≡ Ok ds
+ReadsBackAs ds text = All (λ d. d.tx < most_transactions) ds → length text ≤ 32768 → order_read text ≡ Ok ds

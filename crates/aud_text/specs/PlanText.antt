@@ -3,11 +3,15 @@ use Rattle.std.specs.Prelude.{ℕ, zero, suc, ◌+◌, ◌-◌, ◌==◌, ℤ, p
 use Rattle.serde_json.specs.Data.{Data, Members}
 use Rattle.serde_json.specs.Find.{as_object}
 use Rattle.aud_event.specs.Meanings.{Declared, PlanOf}
-use Rattle.aud_event.specs.Plans.{first_plan_fault}
-use Rattle.aud_event.specs.Words.{kind_of_word}
+use Rattle.aud_event.specs.Objects.{row_of_kind}
+use Rattle.aud_event.specs.Plans.{plan_of, first_plan_fault}
+use Rattle.aud_event.specs.Words.{kind_of_word_in}
+use Rattle.aud_event.specs.declared.signature.Format.{Format}
+use Rattle.aud_event.specs.declared.signature.Format.TheVariants.{One, Two}
+use Rattle.aud_event.specs.declared.signature.Opens.{Opens}
+use Rattle.aud_event.specs.declared.signature.Opens.TheVariants as opens
 use Rattle.aud_event.specs.Limits.{most_logs, most_objects}
 use Rattle.aud_event.specs.declared.object.ObjKind.{ObjKind}
-use Rattle.aud_event.specs.declared.object.ObjKind.TheVariants.{Register, Counter, SetOf, Queue}
 use Rattle.aud_event.specs.declared.plan.PlanFault.{PlanFault}
 use Rattle.aud_event.specs.declared.plan.PlanFault.TheVariants.{NoLogs, TooManyLogs, TooManyObjects, OutOfMemory}
 use Rattle.aud_text.specs.declared.fault.TextFault.{TextFault}
@@ -23,12 +27,15 @@ use Rattle.aud_text.specs.Lines.{Filled, lines_of, filled_left, filled_lines}
 abbrev pub header_keys : List Key
 header_keys = codes "format" ∷ codes "logs" ∷ codes "objects" ∷ []
 
--- `format` is 1, and the others are whole numbers from 0 to 4,294,967,295
+-- the format of a number
+abbrev pub format_of : ℕ → Option Format
+format_of n = if n == 1 then Some One else (if n == 2 then Some Two else None)
+
+-- `format` is 1 or 2, and the others are whole numbers from 0 to 4,294,967,295
 abbrev pub header_of : Data → Option Header
 header_of d =
-    if unwrap_or (small_at (codes "format") d) 0 == 1
-    then option_and_then (λ logs. option_map (λ objects. record { logs = logs; objects = objects }) (small_at (codes "objects") d)) (small_at (codes "logs") d)
-    else None
+    option_and_then (λ format. option_and_then (λ logs. option_map (λ objects. record { format = format; logs = logs; objects = objects })
+    (small_at (codes "objects") d)) (small_at (codes "logs") d)) (option_and_then format_of (small_at (codes "format") d))
 
 abbrev pub header_or_type : Option Header → Result Header TextFault
 header_or_type None = Err fault.TypeOrRange
@@ -59,16 +66,18 @@ header_fault h =
 
 -- ---- an object line
 
--- a register and a counter say where they open, a set and a queue do not
-abbrev pub says_opening : ObjKind → Bool
-says_opening Register = true
-says_opening Counter = true
-says_opening SetOf = false
-says_opening Queue = false
+-- whether an object that opens so says where: all do but those that open empty
+abbrev pub is_said : Opens → Bool
+is_said opens.Anywhere = true
+is_said opens.InRange = true
+is_said opens.Empty = false
 
--- the kind, where `kind` has the word of one
-abbrev pub kind_at : Data → Option ObjKind
-kind_at d = option_and_then kind_of_word (word_at (codes "kind") d)
+abbrev pub says_opening : ObjKind → Bool
+says_opening k = is_said (row_of_kind k).opens
+
+-- the kind of the format, where `kind` has the word of one
+abbrev pub kind_at : Format → Data → Option ObjKind
+kind_at format d = option_and_then (kind_of_word_in format) (word_at (codes "kind") d)
 
 abbrev pub closed_keys : List Key
 closed_keys = codes "kind" ∷ codes "name" ∷ []
@@ -111,20 +120,20 @@ object_as d ms k =
     else Err fault.KeyUnknown)
     else Err fault.KeyMissing
 
-abbrev pub object_members : Data → Option Members → Result Declared TextFault
-object_members d None = Err fault.NotObject
-object_members d (Some ms) = object_as d ms (kind_at d)
+abbrev pub object_members : Format → Data → Option Members → Result Declared TextFault
+object_members format d None = Err fault.NotObject
+object_members format d (Some ms) = object_as d ms (kind_at format d)
 
-abbrev pub object_judged : Data → Result Declared TextFault
-object_judged d = object_members d (as_object d)
+abbrev pub object_judged : Format → Data → Result Declared TextFault
+object_judged format d = object_members format d (as_object d)
 
-abbrev pub object_json : Result Data TextFault → Result Declared TextFault
-object_json (Err e) = Err e
-object_json (Ok d) = object_judged d
+abbrev pub object_json : Format → Result Data TextFault → Result Declared TextFault
+object_json format (Err e) = Err e
+object_json format (Ok d) = object_judged format d
 
 -- what a line says as an object
-abbrev pub object_read : List ℕ → Result Declared TextFault
-object_read line = object_json (json_read 4096 line)
+abbrev pub object_read : Format → List ℕ → Result Declared TextFault
+object_read format line = object_json format (json_read 4096 line)
 
 -- what a line says, as a declaration
 abbrev pub declared : ObjectLine → Declared
@@ -142,14 +151,14 @@ with_object n (Ok o) (Err e) = Err e
 with_object n (Ok o) (Ok p) = Ok (o ∷ p.0, p.1)
 
 -- the objects of so many lines, and the bytes up to the end of the last of them; `after` is the number of the line after the text's last
-abbrev pub objects_read : ℕ → ℕ → ℕ → List Filled → Result (List Declared × ℕ) PlanTextFault
-objects_read after used zero ls = Ok ([], used)
-objects_read after used (suc k) [] = Err (at_line after fault.KeyMissing)
-objects_read after used (suc k) (l ∷ ls) = with_object l.number (object_read l.line) (objects_read after l.ends k ls)
+abbrev pub objects_read : Format → ℕ → ℕ → ℕ → List Filled → Result (List Declared × ℕ) PlanTextFault
+objects_read format after used zero ls = Ok ([], used)
+objects_read format after used (suc k) [] = Err (at_line after fault.KeyMissing)
+objects_read format after used (suc k) (l ∷ ls) = with_object l.number (object_read format l.line) (objects_read format after l.ends k ls)
 
 -- the objects of so many lines of what is left of a text, from a line of this number on
-abbrev pub objects_left : List ℕ → List ℕ → ℕ → ℕ → Result (List Declared × ℕ) PlanTextFault
-objects_left text left number count = objects_read (length (lines_of text) + 1) (length text - length left) count (filled_left (length text) number left)
+abbrev pub objects_left : Format → List ℕ → List ℕ → ℕ → ℕ → Result (List Declared × ℕ) PlanTextFault
+objects_left format text left number count = objects_read format (length (lines_of text) + 1) (length text - length left) count (filled_left (length text) number left)
 
 -- a fault of the objects together, as it is reported
 abbrev pub reported_as : PlanFault → TextFault
@@ -160,13 +169,13 @@ abbrev pub plan_checked : PlanOf → ℕ → Option PlanFault → Result (PlanOf
 plan_checked plan used None = Ok (plan, used)
 plan_checked plan used (Some e) = Err (at_line 0 (fault.Plan e))
 
-abbrev pub plan_made : ℕ → Result (List Declared × ℕ) PlanTextFault → Result (PlanOf × ℕ) PlanTextFault
-plan_made logs (Err e) = Err e
-plan_made logs (Ok p) = plan_checked (record { logs = logs; objects = p.0 }) p.1 (first_plan_fault logs p.0)
+abbrev pub plan_made : Format → ℕ → Result (List Declared × ℕ) PlanTextFault → Result (PlanOf × ℕ) PlanTextFault
+plan_made format logs (Err e) = Err e
+plan_made format logs (Ok p) = plan_checked (plan_of format logs p.0) p.1 (first_plan_fault (plan_of format logs p.0))
 
 abbrev pub plan_begun : ℕ → Filled → List Filled → Header → Option PlanFault → Result (PlanOf × ℕ) PlanTextFault
 plan_begun after l ls h (Some e) = Err (at_line l.number (fault.Plan e))
-plan_begun after l ls h None = plan_made h.logs (objects_read after l.ends h.objects ls)
+plan_begun after l ls h None = plan_made h.format h.logs (objects_read h.format after l.ends h.objects ls)
 
 abbrev pub plan_headed : ℕ → Filled → List Filled → Result Header TextFault → Result (PlanOf × ℕ) PlanTextFault
 plan_headed after l ls (Err e) = Err (at_line l.number e)

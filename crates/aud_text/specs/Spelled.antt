@@ -2,7 +2,9 @@
 use Rattle.std.specs.Prelude.{ℕ, ℤ, List, ◌++◌, true, false, Option, Some, None, codes, decimal}
 use Rattle.std.specs.Fmt.{signed_decimal}
 use Rattle.aud_event.specs.Meanings.{PlanOf}
-use Rattle.aud_event.specs.Objects.{name_of}
+use Rattle.aud_event.specs.Objects.{name_of, args_of}
+use Rattle.aud_event.specs.declared.signature.Args.{Args}
+use Rattle.aud_event.specs.declared.signature.Args.TheVariants as args
 use Rattle.aud_event.specs.Words.{word_of_op}
 use Rattle.aud_event.specs.declared.object.OpName.{OpName}
 use Rattle.aud_event.specs.declared.object.Answer.{Answer}
@@ -13,7 +15,7 @@ use Rattle.aud_event.specs.declared.fact.EndMark.{EndMark}
 use Rattle.aud_event.specs.declared.fact.Record.{Record}
 use Rattle.aud_event.specs.declared.fact.Fact.{Fact}
 use Rattle.aud_event.specs.declared.fact.Fact.TheVariants.{Rec, End}
-use Rattle.aud_text.specs.Written.{object_name, argument_of}
+use Rattle.aud_text.specs.Written.{object_name, first_of}
 
 -- the place in the log, before the event's word
 abbrev pub place_text : ℕ → List ℕ → List ℕ
@@ -27,9 +29,15 @@ log_text word log rest = word ++ (codes "\",\"log\":" ++ (decimal log ++ rest))
 abbrev pub use_text : List ℕ → List ℕ → List ℕ → List ℕ
 use_text name op rest = codes ",\"ob\":\"" ++ (name ++ (codes "\",\"op\":\"" ++ (op ++ (codes "\"" ++ rest))))
 
--- the stamp and the transaction, to the end
-abbrev pub tail_text : ℕ → ℕ → List ℕ
-tail_text stamp tx = codes ",\"stamp\":" ++ (decimal stamp ++ (codes ",\"tx\":" ++ (decimal tx ++ codes "}")))
+-- the stamp and the transaction
+abbrev pub tail_text : ℕ → ℕ → List ℕ → List ℕ
+tail_text stamp tx rest = codes ",\"stamp\":" ++ (decimal stamp ++ (codes ",\"tx\":" ++ (decimal tx ++ rest)))
+
+-- the end of a line, before which the value of a pair stands
+abbrev pub end_text : Args → List ℕ
+end_text args.Nothing = codes "}"
+end_text (args.Number _) = codes "}"
+end_text (args.Pair _ v) = codes ",\"val\":" ++ (signed_decimal v ++ codes "}")
 
 abbrev pub answer_text : Answer → List ℕ
 answer_text Done = codes "\"done\""
@@ -48,20 +56,24 @@ end_word event.Commit = Some (codes "commit")
 end_word event.Abort = Some (codes "abort")
 
 -- from the place on, of an event with an object
-abbrev pub called_text : PlanOf → Record → List ℕ → ℕ → OpName → List ℕ
-called_text plan r word ob o = place_text r.at (log_text word r.log (use_text (object_name plan ob) (word_of_op o) (tail_text r.stamp r.tx)))
+abbrev pub called_text : PlanOf → Record → List ℕ → ℕ → OpName → List ℕ → List ℕ
+called_text plan r word ob o rest = place_text r.at (log_text word r.log (use_text (object_name plan ob) (word_of_op o) (tail_text r.stamp r.tx rest)))
 
 -- the same of an event without one
 abbrev pub ended_text : Record → List ℕ → List ℕ
-ended_text r word = codes "{" ++ place_text r.at (log_text word r.log (tail_text r.stamp r.tx))
+ended_text r word = codes "{" ++ place_text r.at (log_text word r.log (tail_text r.stamp r.tx (codes "}")))
 
-abbrev pub invoked_text : PlanOf → Record → ℕ → OpName → Option ℤ → List ℕ
-invoked_text plan r ob o None = codes "{" ++ called_text plan r (codes "inv") ob o
-invoked_text plan r ob o (Some z) = codes "{\"arg\":" ++ (signed_decimal z ++ (codes "," ++ called_text plan r (codes "inv") ob o))
+-- the number or the key, which is the first
+abbrev pub argument_text : Option ℤ → List ℕ → List ℕ
+argument_text None rest = codes "{" ++ rest
+argument_text (Some z) rest = codes "{\"arg\":" ++ (signed_decimal z ++ (codes "," ++ rest))
+
+abbrev pub invoked_text : PlanOf → Record → ℕ → OpName → Args → List ℕ
+invoked_text plan r ob o a = argument_text (first_of a) (called_text plan r (codes "inv") ob o (end_text a))
 
 abbrev pub record_text : PlanOf → Record → Event → List ℕ
-record_text plan r (event.Inv ob o) = invoked_text plan r ob (name_of o) (argument_of o)
-record_text plan r (event.Ret ob o a) = codes "{\"ans\":" ++ (answer_text a ++ (codes "," ++ called_text plan r (codes "ret") ob o))
+record_text plan r (event.Inv ob o) = invoked_text plan r ob (name_of o) (args_of o)
+record_text plan r (event.Ret ob o a) = codes "{\"ans\":" ++ (answer_text a ++ (codes "," ++ called_text plan r (codes "ret") ob o (codes "}")))
 record_text plan r event.TryC = ended_text r (codes "tryc")
 record_text plan r event.TryA = ended_text r (codes "trya")
 record_text plan r event.Commit = ended_text r (codes "commit")

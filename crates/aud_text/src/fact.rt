@@ -3,7 +3,7 @@
 ghost use Rattle.std.specs.Prelude.{◌≡◌, ◌⊎◌, Err, if◌then◌else◌};
 ghost use Rattle.serde_json.specs.View.{view, members_view};
 ghost use Rattle.aud_text.specs.Json.{fits_at, has_all, has_only};
-ghost use Rattle.aud_text.specs.FactText.{fact_read, judged, required, allowed, types_fit, answer_fits, answer_of, answer_of_word, answer_at, object_number, object_at, op_with, fact_of, event_of, record_of, end_of};
+ghost use Rattle.aud_text.specs.FactText.{fact_read, judged, required, allowed, types_fit, answer_fits, answer_of, answer_of_word, answer_at, object_number, object_at, args_at, fact_of, event_of, record_of, end_of};
 
 use crate::fault::TextFault;
 use crate::shape::{Shape, allowed_keys, op_of, required_keys, shape_in};
@@ -12,7 +12,8 @@ use crate::value::{
     has_only_allowed, has_required, json_in, small_if_there, small_of, text_if_there,
     whole_if_there, whole_of, word_of,
 };
-use aud_event::{Answer, EndMark, Event, Fact, Op, OpName, Plan, Record};
+use aud_event::limits::OBJECTS_MAX;
+use aud_event::{Answer, Args, EndMark, Event, Fact, Format, OpName, Plan, Record, Takes};
 use serde_json::{Map, Value};
 use std::alloc::{Allocator, Global};
 
@@ -49,6 +50,7 @@ fn all_types_fit(value: &Value) -> bool
         && text_if_there(value, "ob")
         && text_if_there(value, "op")
         && whole_if_there(value, "arg")
+        && whole_if_there(value, "val")
         && answer_if_there(value, "ans")
 }
 
@@ -89,12 +91,13 @@ fn answer_at_key(value: &Value) -> Option<Answer>
     }
 }
 
+/// The number of the object of the name, or the first past the greatest that an object can have.
 fn number_in<A: Allocator>(plan: &Plan<A>, name: &str) -> u16
     ensures { result ≡ object_number plan.now name.now }
 {
     match plan.number(name) {
         Some(number) => number,
-        None => 256,
+        None => OBJECTS_MAX as u16,
     }
 }
 
@@ -107,20 +110,17 @@ fn object_in<A: Allocator>(plan: &Plan<A>, value: &Value) -> Option<u16>
     }
 }
 
-pub(crate) fn op_of_argument(op: OpName, argument: Option<i64>) -> Option<Op>
-    ensures { result ≡ op_with argument op }
+/// The arguments that stand, where an operation takes such.
+fn args_in(takes: Takes, value: &Value) -> Option<Args>
+    ensures { result ≡ args_at takes (view value.now) }
 {
-    match op {
-        OpName::Read => Some(Op::Read),
-        OpName::Write => Some(Op::Write(argument?)),
-        OpName::Inc => Some(Op::Inc),
-        OpName::Dec => Some(Op::Dec),
-        OpName::Get => Some(Op::Get),
-        OpName::Add => Some(Op::Add(argument?)),
-        OpName::Remove => Some(Op::Remove(argument?)),
-        OpName::Contains => Some(Op::Contains(argument?)),
-        OpName::Enq => Some(Op::Enq(argument?)),
-        OpName::Deq => Some(Op::Deq),
+    match takes {
+        Takes::Nothing => Some(Args::Nothing),
+        Takes::Number | Takes::Addend => Some(Args::Number(whole_of(value, "arg")?)),
+        Takes::Pair => {
+            let key = whole_of(value, "arg")?;
+            Some(Args::Pair(key, whole_of(value, "val")?))
+        }
     }
 }
 
@@ -128,7 +128,8 @@ fn invocation<A: Allocator>(plan: &Plan<A>, value: &Value, name: OpName) -> Opti
     ensures { result ≡ event_of plan.now (view value.now) (Shape.Invoke (Some name)) }
 {
     let object = object_in(plan, value)?;
-    let op = op_of_argument(name, whole_of(value, "arg"))?;
+    let args = args_in(name.signature().takes, value)?;
+    let op = name.with(args)?;
     Some(Event::Inv(object, op))
 }
 
@@ -136,7 +137,7 @@ fn response<A: Allocator>(plan: &Plan<A>, value: &Value) -> Option<Event>
     ensures { result ≡ event_of plan.now (view value.now) Shape.Respond }
 {
     let object = object_in(plan, value)?;
-    let op = op_of(value)?;
+    let op = op_of(plan.format(), value)?;
     let answer = answer_at_key(value)?;
     Some(Event::Ret(object, op, answer))
 }
@@ -190,16 +191,16 @@ fn fact_in<A: Allocator>(plan: &Plan<A>, value: &Value, shape: Shape) -> Option<
 // ---- the answer
 
 /// The least fault of a value of which no fact comes.
-fn fault_of(value: &Value, members: &Map<String, Value>, shape: Shape) -> TextFault
+fn fault_of(format: Format, value: &Value, members: &Map<String, Value>, shape: Shape) -> TextFault
     ensures { result ≡ (if has_all (required shape) (view value.now)
-        then (if has_only (allowed shape) (members_view members.now.entries)
+        then (if has_only (allowed format shape) (members_view members.now.entries)
         then (if types_fit (view value.now) then TextFault.UnknownWord else TextFault.TypeOrRange)
         else TextFault.KeyUnknown)
         else TextFault.KeyMissing) }
 {
     if !has_required(value, required_keys(shape)) {
         TextFault::KeyMissing
-    } else if !has_only_allowed(members, allowed_keys(shape)) {
+    } else if !has_only_allowed(members, allowed_keys(format, shape)) {
         TextFault::KeyUnknown
     } else if !all_types_fit(value) {
         TextFault::TypeOrRange
@@ -215,13 +216,14 @@ pub fn judge<A: Allocator>(plan: &Plan<A>, value: &Value) -> Result<Fact, TextFa
     let Some(members) = value.as_object() else {
         return Err(TextFault::NotObject);
     };
-    let shape = shape_in(value);
+    let format = plan.format();
+    let shape = shape_in(format, value);
     // A fact that is built has its keys and their types, so that no more than the other keys are left to look at.
     let fact = match fact_in(plan, value, shape) {
         Some(fact) => fact,
-        None => return Err(fault_of(value, members, shape)),
+        None => return Err(fault_of(format, value, members, shape)),
     };
-    if !has_only_allowed(members, allowed_keys(shape)) {
+    if !has_only_allowed(members, allowed_keys(format, shape)) {
         return Err(TextFault::KeyUnknown);
     }
     match fact.check(plan) {

@@ -2,20 +2,21 @@
 
 ghost use Rattle.std.specs.Prelude.{◌≡◌, ◌⊎◌, Err, map};
 ghost use Rattle.serde_json.specs.View.{view};
-ghost use Rattle.aud_text.specs.PlanText.{header_of, header_keys, header_read, header_members, header_fault};
+ghost use Rattle.aud_text.specs.PlanText.{format_of, header_of, header_keys, header_read, header_members, header_fault};
 ghost use Rattle.serde_json.specs.Find.{as_object};
 
 use crate::fact::LINE_MAX;
 use crate::fault::TextFault;
 use crate::value::{has_only_allowed, has_required, json_in, small_of};
-use aud_event::PlanFault;
 use aud_event::limits::{LOGS_MAX, OBJECTS_MAX};
+use aud_event::{Format, PlanFault};
 use serde_json::Value;
 use std::alloc::Global;
 
-/// How many logs a plan has, and how many lines of objects follow.
+/// The format of a plan, how many logs it has, and how many lines of objects follow.
 #[derive(Clone, Copy, PartialEq, Eq)]
 pub(crate) struct Header {
+    pub format: Format,
     pub logs: u32,
     pub objects: u32,
 }
@@ -28,15 +29,27 @@ fn keys_of_header() -> &'static [&'static str]
     HEADER_KEYS.as_slice()
 }
 
+fn format_of(number: u32) -> Option<Format>
+    ensures { result ≡ format_of number }
+{
+    match number {
+        1 => Some(Format::One),
+        2 => Some(Format::Two),
+        _ => None,
+    }
+}
+
 fn header_in(value: &Value) -> Option<Header>
     ensures { result ≡ header_of (view value.now) }
 {
-    if small_of(value, "format").unwrap_or(0) != 1 {
-        return None;
-    }
+    let format = format_of(small_of(value, "format")?)?;
     let logs = small_of(value, "logs")?;
     let objects = small_of(value, "objects")?;
-    Some(Header { logs, objects })
+    Some(Header {
+        format,
+        logs,
+        objects,
+    })
 }
 
 fn judge_header(value: &Value) -> Result<Header, TextFault>

@@ -9,7 +9,7 @@ use crate::fault::TextFault;
 use crate::value::{
     has_only_allowed, has_required, json_in, text_if_there, whole_if_there, whole_of, word_of,
 };
-use aud_event::{ObjDecl, ObjKind};
+use aud_event::{Format, ObjDecl, ObjKind, Opens};
 use serde_json::Value;
 use std::alloc::Global;
 
@@ -28,17 +28,17 @@ struct ObjectLine<'v> {
 fn has_opening(kind: ObjKind) -> bool
     ensures { result ≡ says_opening kind }
 {
-    match kind {
-        ObjKind::Register | ObjKind::Counter => true,
-        ObjKind::SetOf | ObjKind::Queue => false,
+    match kind.row().opens {
+        Opens::Anywhere | Opens::InRange => true,
+        Opens::Empty => false,
     }
 }
 
-fn kind_in(value: &Value) -> Option<ObjKind>
-    ensures { result ≡ kind_at (view value.now) }
+fn kind_in(format: Format, value: &Value) -> Option<ObjKind>
+    ensures { result ≡ kind_at format (view value.now) }
 {
     match word_of(value, "kind") {
-        Some(word) => ObjKind::from_word(word),
+        Some(word) => ObjKind::from_word_in(format, word),
         None => None,
     }
 }
@@ -96,14 +96,14 @@ fn object_in<'v>(value: &'v Value, kind: Option<ObjKind>) -> Option<ObjectLine<'
     })
 }
 
-fn judge_object(value: &Value) -> Result<ObjectLine<'_>, TextFault>
-    ensures { MatchResult result (λ o. object_judged (view value.now) ≡ Ok (declared o))
-        (λ e. object_judged (view value.now) ≡ Err e) }
+fn judge_object(format: Format, value: &Value) -> Result<ObjectLine<'_>, TextFault>
+    ensures { MatchResult result (λ o. object_judged format (view value.now) ≡ Ok (declared o))
+        (λ e. object_judged format (view value.now) ≡ Err e) }
 {
     let Some(members) = value.as_object() else {
         return Err(TextFault::NotObject);
     };
-    let kind = kind_in(value);
+    let kind = kind_in(format, value);
     if !has_required(value, required_of(kind)) {
         return Err(TextFault::KeyMissing);
     }
@@ -119,11 +119,11 @@ fn judge_object(value: &Value) -> Result<ObjectLine<'_>, TextFault>
     }
 }
 
-fn declare(alloc: Global, value: &Value) -> Result<ObjDecl, TextFault>
-    ensures { MatchResult result (λ o. object_judged (view value.now) ≡ Ok o)
-        (λ e. (e ≡ TextFault.OutOfMemory) ⊎ (object_judged (view value.now) ≡ Err e)) }
+fn declare(alloc: Global, format: Format, value: &Value) -> Result<ObjDecl, TextFault>
+    ensures { MatchResult result (λ o. object_judged format (view value.now) ≡ Ok o)
+        (λ e. (e ≡ TextFault.OutOfMemory) ⊎ (object_judged format (view value.now) ≡ Err e)) }
 {
-    let object = match judge_object(value) {
+    let object = match judge_object(format, value) {
         Ok(object) => object,
         Err(fault) => return Err(fault),
     };
@@ -137,14 +137,14 @@ fn declare(alloc: Global, value: &Value) -> Result<ObjDecl, TextFault>
     })
 }
 
-/// The object that a line declares.
-pub(crate) fn read_object(alloc: Global, line: &[u8]) -> Result<ObjDecl, TextFault>
-    ensures { MatchResult result (λ o. object_read line.now ≡ Ok o)
-        (λ e. (e ≡ TextFault.OutOfMemory) ⊎ (object_read line.now ≡ Err e)) }
+/// The object that a line declares in the format.
+pub(crate) fn read_object(alloc: Global, format: Format, line: &[u8]) -> Result<ObjDecl, TextFault>
+    ensures { MatchResult result (λ o. object_read format line.now ≡ Ok o)
+        (λ e. (e ≡ TextFault.OutOfMemory) ⊎ (object_read format line.now ≡ Err e)) }
 {
     let value = match json_in(alloc, line, LINE_MAX) {
         Ok(value) => value,
         Err(fault) => return Err(fault),
     };
-    declare(alloc, &value)
+    declare(alloc, format, &value)
 }

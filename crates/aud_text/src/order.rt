@@ -155,7 +155,7 @@ pub fn push_order<A: Allocator, B: Allocator>(
 
 /// The text of the decisions.
 ///
-/// It reads as the decisions where their ids are below 1,024 and the text is not too long.
+/// It reads as the decisions where their ids are below 4,096 and the text is not too long.
 pub fn write_order<A: Allocator + Drop, B: Allocator>(
     alloc: A,
     order: &Prefix<B>,

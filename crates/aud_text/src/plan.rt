@@ -5,7 +5,7 @@ ghost use Rattle.aud_text.specs.Lines.{lines_of};
 ghost use Rattle.aud_text.specs.PlanText.{plan_read, objects_left, at_line, reported_as};
 
 use crate::fault::{PlanTextFault, TextFault};
-use crate::header::{fault_of_header, read_header};
+use crate::header::{Header, fault_of_header, read_header};
 use crate::line::{count_lines, next_filled};
 use crate::object::read_object;
 use aud_event::{ObjDecl, Plan, PlanFault};
@@ -38,26 +38,26 @@ fn whole_fault(fault: PlanFault) -> PlanTextFault
 /// The objects of so many lines of what is left of the text, and the bytes of the text up to the end of the last of them.
 fn read_objects(
     alloc: Global,
+    header: Header,
     text: &[u8],
     left: &[u8],
     number: usize,
-    count: u32,
 ) -> Result<(Vec<ObjDecl>, usize), PlanTextFault>
     requires within { length left.now ≤ length text.now }
     requires room { number + length left.now ≤ length text.now + 1 }
     ensures { MatchResult result
-        (λ p. objects_left text.now left.now number count ≡ Ok (p.0.items, p.1))
-        (λ e. (e.fault ≡ TextFault.OutOfMemory) ⊎ (objects_left text.now left.now number count ≡ Err e)) }
+        (λ p. objects_left header.format text.now left.now number header.objects ≡ Ok (p.0.items, p.1))
+        (λ e. (e.fault ≡ TextFault.OutOfMemory) ⊎ (objects_left header.format text.now left.now number header.objects ≡ Err e)) }
 {
     let mut objects = Vec::new(alloc);
     let mut rest = left;
     let mut line = number;
-    for i in 0..count {
+    for i in 0..header.objects {
         let Some(next) = next_filled(rest, line) else {
             return Err(ends_early(text));
         };
         line = next.number;
-        let object = match read_object(alloc, next.line) {
+        let object = match read_object(alloc, header.format, next.line) {
             Ok(object) => object,
             Err(fault) => return Err(PlanTextFault { line, fault }),
         };
@@ -94,11 +94,11 @@ pub fn read_plan(alloc: Global, text: &[u8]) -> Result<(Plan, usize), PlanTextFa
             fault: TextFault::Plan(fault),
         });
     }
-    let (objects, used) = match read_objects(alloc, text, first.rest, line + 1, header.objects) {
+    let (objects, used) = match read_objects(alloc, header, text, first.rest, line + 1) {
         Ok(read) => read,
         Err(fault) => return Err(fault),
     };
-    match Plan::new(alloc, header.logs, objects) {
+    match Plan::new_in(alloc, header.format, header.logs, objects) {
         Ok(plan) => Ok((plan, used)),
         Err(fault) => Err(whole_fault(fault)),
     }

@@ -2,17 +2,17 @@
 
 ghost use Rattle.std.specs.Prelude.{◌≡◌, map};
 ghost use Rattle.serde_json.specs.View.{view};
-ghost use Rattle.aud_text.specs.FactText.{shape_of, shape_of_event, required, allowed, op_at, takes_argument};
+ghost use Rattle.aud_text.specs.FactText.{shape_of, shape_of_event, required, allowed, op_at, all_keys};
 
 use crate::value::word_of;
-use aud_event::OpName;
+use aud_event::{Format, OpName, Takes};
 use serde_json::Value;
 
 /// What kind of line it is, as far as its keys hang on that.
 #[derive(Clone, Copy, PartialEq, Eq)]
 pub(crate) enum Shape {
     EndMark,
-    /// An invocation, of an operation where `op` has the word of one.
+    /// An invocation, of an operation where `op` has the word of one that the format has.
     Invoke(Option<OpName>),
     Respond,
     TryCommit,
@@ -23,47 +23,38 @@ pub(crate) enum Shape {
     Strange,
 }
 
-pub(crate) fn op_of(value: &Value) -> Option<OpName>
-    ensures { result ≡ op_at (view value.now) }
+pub(crate) fn op_of(format: Format, value: &Value) -> Option<OpName>
+    ensures { result ≡ op_at format (view value.now) }
 {
     match word_of(value, "op") {
-        Some(word) => OpName::from_word(word),
+        Some(word) => OpName::from_word_in(format, word),
         None => None,
     }
 }
 
-pub(crate) fn shape_in(value: &Value) -> Shape
-    ensures { result ≡ shape_of (view value.now) }
+pub(crate) fn shape_in(format: Format, value: &Value) -> Shape
+    ensures { result ≡ shape_of format (view value.now) }
 {
     if value.get("end").is_some() {
         return Shape::EndMark;
     }
     match word_of(value, "ev") {
-        Some(word) => shape_by(value, word),
+        Some(word) => shape_by(format, value, word),
         None => Shape::Strange,
     }
 }
 
-fn shape_by(value: &Value, word: &str) -> Shape
-    ensures { result ≡ shape_of_event (view value.now) word.now }
+fn shape_by(format: Format, value: &Value, word: &str) -> Shape
+    ensures { result ≡ shape_of_event format (view value.now) word.now }
 {
     match word {
-        "inv" => Shape::Invoke(op_of(value)),
+        "inv" => Shape::Invoke(op_of(format, value)),
         "ret" => Shape::Respond,
         "tryc" => Shape::TryCommit,
         "trya" => Shape::TryAbort,
         "commit" => Shape::Commit,
         "abort" => Shape::Abort,
         _ => Shape::Strange,
-    }
-}
-
-fn has_argument(op: OpName) -> bool
-    ensures { result ≡ takes_argument op }
-{
-    match op {
-        OpName::Write | OpName::Add | OpName::Remove | OpName::Contains | OpName::Enq => true,
-        OpName::Read | OpName::Inc | OpName::Dec | OpName::Get | OpName::Deq => false,
     }
 }
 
@@ -77,15 +68,31 @@ static ARGUMENT_KEYS: [&str; 8] = ["arg", "ob", "op", "at", "ev", "log", "stamp"
 
 static ANSWER_KEYS: [&str; 8] = ["ans", "ob", "op", "at", "ev", "log", "stamp", "tx"];
 
+static PAIR_KEYS: [&str; 9] = ["arg", "val", "ob", "op", "at", "ev", "log", "stamp", "tx"];
+
 static ALL_KEYS: [&str; 9] = ["ans", "arg", "ob", "op", "at", "ev", "log", "stamp", "tx"];
+
+static ALL_KEYS_TWO: [&str; 10] = [
+    "ans", "arg", "val", "ob", "op", "at", "ev", "log", "stamp", "tx",
+];
 
 fn operation_keys(op: OpName) -> &'static [&'static str]
     ensures { map (λ k. k.now) result.now ≡ required (Shape.Invoke (Some op)) }
 {
-    if has_argument(op) {
-        ARGUMENT_KEYS.as_slice()
-    } else {
-        OPERATION_KEYS.as_slice()
+    match op.signature().takes {
+        Takes::Nothing => OPERATION_KEYS.as_slice(),
+        Takes::Number | Takes::Addend => ARGUMENT_KEYS.as_slice(),
+        Takes::Pair => PAIR_KEYS.as_slice(),
+    }
+}
+
+/// The keys that a line of a record can have at all.
+fn all_keys(format: Format) -> &'static [&'static str]
+    ensures { map (λ k. k.now) result.now ≡ all_keys format }
+{
+    match format {
+        Format::One => ALL_KEYS.as_slice(),
+        Format::Two => ALL_KEYS_TWO.as_slice(),
     }
 }
 
@@ -103,12 +110,12 @@ pub(crate) fn required_keys(shape: Shape) -> &'static [&'static str]
     }
 }
 
-pub(crate) fn allowed_keys(shape: Shape) -> &'static [&'static str]
-    ensures { map (λ k. k.now) result.now ≡ allowed shape }
+pub(crate) fn allowed_keys(format: Format, shape: Shape) -> &'static [&'static str]
+    ensures { map (λ k. k.now) result.now ≡ allowed format shape }
 {
     match shape {
-        Shape::Invoke(None) => ALL_KEYS.as_slice(),
-        Shape::Strange => ALL_KEYS.as_slice(),
+        Shape::Invoke(None) => all_keys(format),
+        Shape::Strange => all_keys(format),
         other => required_keys(other),
     }
 }

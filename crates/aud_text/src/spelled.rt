@@ -1,19 +1,18 @@
 //! Reading a line that is spelled as `write_fact` spells it, with no JSON value in between.
 //! What stands at a place is guessed from its bytes, and then looked for as it is written.
 
-ghost use Rattle.std.specs.Prelude.{◌≡◌, ◌≢◌, ◌++◌, ℕ, List, Ok, Some, IfSome, FitsSigned, MatchOption, decimal};
+ghost use Rattle.std.specs.Prelude.{◌≡◌, ◌≢◌, ◌++◌, ℕ, List, Ok, Some, IfSome, FitsSigned, MatchOption, codes, decimal};
 ghost use Rattle.std.specs.Int.{w64};
 ghost use Rattle.std.specs.Fmt.{signed_decimal};
 ghost use Rattle.aud_event.specs.Meanings.{PlanOf};
-ghost use Rattle.aud_event.specs.Objects.{name_of};
+ghost use Rattle.aud_event.specs.Objects.{name_of, args_of};
 ghost use Rattle.aud_event.specs.Words.{word_of_op};
 ghost use Rattle.aud_text.specs.FactText.{fact_read};
-ghost use Rattle.aud_text.specs.Written.{object_name, argument_of, AnswerFits, EventFits, FactFits};
-ghost use Rattle.aud_text.specs.Spelled.{place_text, log_text, use_text, tail_text, answer_text, end_word, mark_text, record_text, spelled_text};
+ghost use Rattle.aud_text.specs.Written.{first_of, object_name, AnswerFits, ArgsFit, EventFits, FactFits};
+ghost use Rattle.aud_text.specs.Spelled.{place_text, log_text, use_text, tail_text, end_text, argument_text, answer_text, end_word, mark_text, record_text, spelled_text};
 
-use crate::fact::op_of_argument;
-use crate::write::{argument_in, name_at};
-use aud_event::{Answer, EndMark, Event, Fact, Op, OpName, Plan, Record};
+use crate::write::name_at;
+use aud_event::{Answer, Args, EndMark, Event, Fact, Op, OpName, Plan, Record};
 use std::alloc::Allocator;
 
 /// What stands after the text, where the line begins with it; else nothing. It does not allocate.
@@ -116,33 +115,58 @@ fn use_at<'l, A: Allocator>(plan: &Plan<A>, line: &'l [u8]) -> Option<(u16, OpNa
     Some((object, op, rest))
 }
 
-/// The stamp and the transaction, which end the line.
-fn tail_in(line: &[u8]) -> Option<(u32, u32)>
-    ensures { IfSome result (λ r. line.now ≡ tail_text r.0 r.1) }
+/// The stamp and the transaction.
+fn tail_at(line: &[u8]) -> Option<(u32, u32, &[u8])>
+    ensures { IfSome result (λ r. line.now ≡ tail_text r.0 r.1 r.2.now) }
 {
     let digits = after(line, ",\"stamp\":")?;
     let (stamp, rest) = small_at(digits)?;
     let digits = after(rest, ",\"tx\":")?;
     let (tx, rest) = small_at(digits)?;
-    if after(rest, "}")?.is_empty() {
-        Some((stamp, tx))
+    Some((stamp, tx, rest))
+}
+
+/// The end of the line.
+fn end_at(line: &[u8]) -> Option<()>
+    ensures { IfSome result (λ _. line.now ≡ codes "}") }
+{
+    if after(line, "}")?.is_empty() {
+        Some(())
     } else {
         None
     }
 }
 
-/// The operation of a name with this argument or none.
-fn op_read(name: OpName, argument: Option<i64>) -> Option<Op>
-    ensures name { IfSome result (λ o. name_of o ≡ name) }
-    ensures argument { IfSome result (λ o. argument_of o ≡ argument) }
-    ensures fits { IfSome result (λ o. IfSome (argument_of o) (λ z. FitsSigned w64 z)) }
+/// The value of a pair, which ends the line.
+fn value_at(line: &[u8]) -> Option<i64>
+    ensures spelled { IfSome result (λ v. line.now ≡ codes ",\"val\":" ++ (signed_decimal v ++ codes "}")) }
+    ensures fits { IfSome result (λ v. FitsSigned w64 v) }
 {
-    let op = op_of_argument(name, argument)?;
-    if argument_in(op) == argument && op.name() == name {
-        Some(op)
-    } else {
-        None
+    let digits = after(line, ",\"val\":")?;
+    let (value, rest) = whole_at(digits)?;
+    let _end = end_at(rest)?;
+    Some(value)
+}
+
+/// The arguments of which the first is this number, by what ends the line.
+fn args_at(first: i64, line: &[u8]) -> Option<Args>
+    ensures spelled { IfSome result (λ a. line.now ≡ end_text a) }
+    ensures first { IfSome result (λ a. first_of a ≡ Some first) }
+    ensures fits { FitsSigned w64 first → IfSome result (λ a. ArgsFit a) }
+{
+    if end_at(line).is_some() {
+        return Some(Args::Number(first));
     }
+    let value = value_at(line)?;
+    Some(Args::Pair(first, value))
+}
+
+/// The operation of a name with these arguments.
+fn op_read(name: OpName, args: Args) -> Option<Op>
+    ensures name { IfSome result (λ o. name_of o ≡ name) }
+    ensures args { IfSome result (λ o. args_of o ≡ args) }
+{
+    name.with(args)
 }
 
 /// An invocation with an argument.
@@ -151,12 +175,13 @@ fn argued<A: Allocator>(plan: &Plan<A>, line: &[u8]) -> Option<Record>
     ensures fits { IfSome result (λ r. EventFits r.event) }
 {
     let digits = after(line, "{\"arg\":")?;
-    let (argument, rest) = whole_at(digits)?;
+    let (first, rest) = whole_at(digits)?;
     let (at, rest) = place_at(after(rest, ",")?)?;
     let (log, rest) = log_at(rest, "inv")?;
     let (object, name, rest) = use_at(plan, rest)?;
-    let (stamp, tx) = tail_in(rest)?;
-    let op = op_read(name, Some(argument))?;
+    let (stamp, tx, rest) = tail_at(rest)?;
+    let args = args_at(first, rest)?;
+    let op = op_read(name, args)?;
     Some(Record {
         log,
         at,
@@ -174,8 +199,9 @@ fn asked<A: Allocator>(plan: &Plan<A>, line: &[u8]) -> Option<Record>
     let (at, rest) = place_at(after(line, "{")?)?;
     let (log, rest) = log_at(rest, "inv")?;
     let (object, name, rest) = use_at(plan, rest)?;
-    let (stamp, tx) = tail_in(rest)?;
-    let op = op_read(name, None)?;
+    let (stamp, tx, rest) = tail_at(rest)?;
+    let _end = end_at(rest)?;
+    let op = op_read(name, Args::Nothing)?;
     Some(Record {
         log,
         at,
@@ -195,7 +221,8 @@ fn answered<A: Allocator>(plan: &Plan<A>, line: &[u8]) -> Option<Record>
     let (at, rest) = place_at(after(rest, ",")?)?;
     let (log, rest) = log_at(rest, "ret")?;
     let (object, name, rest) = use_at(plan, rest)?;
-    let (stamp, tx) = tail_in(rest)?;
+    let (stamp, tx, rest) = tail_at(rest)?;
+    let _end = end_at(rest)?;
     Some(Record {
         log,
         at,
@@ -236,7 +263,8 @@ fn ended(line: &[u8]) -> Option<Record>
     let (at, rest) = place_at(after(line, "{")?)?;
     let event = guess_end(rest)?;
     let (log, rest) = log_at(rest, end_word(event)?)?;
-    let (stamp, tx) = tail_in(rest)?;
+    let (stamp, tx, rest) = tail_at(rest)?;
+    let _end = end_at(rest)?;
     Some(Record {
         log,
         at,

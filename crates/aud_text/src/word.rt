@@ -2,6 +2,7 @@
 
 ghost use Rattle.std.specs.Prelude.{◌≡◌, min, true};
 ghost use Rattle.std.specs.Str.Parse.{digits_value};
+ghost use Rattle.aud_event.specs.declared.limits.TheConstants.{TRANSACTIONS};
 ghost use Rattle.aud_text.specs.Orders.{word_read, id_read, is_plain, all_digits};
 
 use aud_event::limits::TRANSACTIONS;
@@ -27,15 +28,15 @@ fn has_plain_form(digits: &[u8]) -> bool
     !digits.is_empty() && has_only_digits(digits) && (digits.len() == 1 || digits[0] != 48)
 }
 
-/// The number that digits say, or 1,024 where it is greater.
+/// The number that digits say, or 4,096 where it is greater.
 fn capped_value(digits: &[u8]) -> u32
     requires { all_digits digits.now ≡ true }
-    ensures { result ≡ min (digits_value 10 digits.now) 1024 }
+    ensures { result ≡ min (digits_value 10 digits.now) TRANSACTIONS }
 {
     let mut value = 0u32;
     for digit in digits {
         let next = value * 10 + (*digit - 48) as u32;
-        value = next.min(1024);
+        value = next.min(TRANSACTIONS);
     }
     value
 }

@@ -9,9 +9,9 @@ ghost use Rattle.aud_event.specs.declared.fact.Fact.{Fact as FactOf};
 ghost use Rattle.aud_event.specs.Meanings.{PlanOf};
 ghost use Rattle.aud_event.specs.Facts.{first_fact_fault};
 ghost use Rattle.aud_text.specs.FactText.{fact_read, judged};
-ghost use Rattle.aud_text.specs.Written.{data_of, answer_data, argument_of, object_name, small_data, headed, tailed, operated, record_members, end_members, AnswerFits, EventFits, FactFits, IsFactOf};
+ghost use Rattle.aud_text.specs.Written.{data_of, answer_data, object_name, small_data, headed, tailed, operated, first_of, with_value, record_members, end_members, AnswerFits, ArgsFit, EventFits, FactFits, IsFactOf};
 
-use aud_event::{Answer, EndMark, Event, Fact, Op, OpName, OutOfMemory, Plan, Record};
+use aud_event::{Answer, Args, EndMark, Event, Fact, Op, OpName, OutOfMemory, Plan, Record};
 use serde_json::{Map, Value};
 use std::alloc::{AllocError, Allocator, Global};
 
@@ -21,16 +21,6 @@ pub(crate) fn name_at<A: Allocator>(plan: &Plan<A>, object: u16) -> &str
     match plan.object(usize::from(object)) {
         Some(decl) => decl.name.as_str(),
         None => "",
-    }
-}
-
-pub(crate) fn argument_in(op: Op) -> Option<i64>
-    ensures value { result ≡ argument_of op }
-    ensures fits { IfSome result (λ z. FitsSigned w64 z) }
-{
-    match op {
-        Op::Write(v) | Op::Add(v) | Op::Remove(v) | Op::Contains(v) | Op::Enq(v) => Some(v),
-        Op::Read | Op::Inc | Op::Dec | Op::Get | Op::Deq => None,
     }
 }
 
@@ -80,11 +70,29 @@ fn end_map(alloc: Global, mark: &EndMark) -> Result<Map<String, Value>, AllocErr
     Ok(map)
 }
 
-/// The keys that each record has.
-fn base_map(alloc: Global, r: &Record, word: &str) -> Result<Map<String, Value>, AllocError>
-    ensures { IfOk result (λ m. members_view m.entries ≡ headed r.now word.now (tailed r.now)) }
+/// The value of a pair, where there is one.
+fn value_map(alloc: Global, args: Args) -> Result<Map<String, Value>, AllocError>
+    ensures members { IfOk result (λ m. members_view m.entries ≡ with_value args) }
+    ensures fits { ArgsFit args }
 {
     let mut map = Map::new(alloc);
+    if let Args::Pair(_, value) = args {
+        serde_json::put(&mut map, alloc, "val", Value::from(value))?;
+    }
+    Ok(map)
+}
+
+/// The keys that each record has, and what ends it.
+fn base_map(
+    alloc: Global,
+    r: &Record,
+    word: &str,
+    args: Args,
+) -> Result<Map<String, Value>, AllocError>
+    ensures members { IfOk result (λ m. members_view m.entries ≡ headed r.now word.now (tailed r.now (with_value args))) }
+    ensures fits { ArgsFit args }
+{
+    let mut map = value_map(alloc, args)?;
     put_number(alloc, &mut map, "tx", r.tx)?;
     put_number(alloc, &mut map, "stamp", r.stamp)?;
     put_number(alloc, &mut map, "log", r.log)?;
@@ -101,14 +109,27 @@ fn operation_map<A: Allocator>(
     word: &str,
     object: u16,
     op: OpName,
+    args: Args,
 ) -> Result<Map<String, Value>, AllocError>
-    ensures { IfOk result (λ m. members_view m.entries
-        ≡ headed r.now word.now (operated plan.now object op (tailed r.now))) }
+    ensures members { IfOk result (λ m. members_view m.entries
+        ≡ headed r.now word.now (operated plan.now object op (tailed r.now (with_value args)))) }
+    ensures fits { ArgsFit args }
 {
-    let mut map = base_map(alloc, r, word)?;
+    let mut map = base_map(alloc, r, word, args)?;
     put_text(alloc, &mut map, "op", op.word())?;
     put_text(alloc, &mut map, "ob", name_at(plan, object))?;
     Ok(map)
+}
+
+/// The number or the key, which is the first of the arguments.
+fn first_of(args: Args) -> Option<i64>
+    ensures { result ≡ first_of args }
+{
+    match args {
+        Args::Nothing => None,
+        Args::Number(number) => Some(number),
+        Args::Pair(key, _) => Some(key),
+    }
 }
 
 fn invocation_map<A: Allocator>(
@@ -121,9 +142,10 @@ fn invocation_map<A: Allocator>(
     ensures members { IfOk result (λ m. members_view m.entries ≡ record_members plan.now r.now (Event.Inv object op)) }
     ensures fits { OnOk result (EventFits (Event.Inv object op)) }
 {
-    let mut map = operation_map(alloc, plan, r, "inv", object, op.name())?;
-    if let Some(argument) = argument_in(op) {
-        serde_json::put(&mut map, alloc, "arg", Value::from(argument))?;
+    let args = op.args();
+    let mut map = operation_map(alloc, plan, r, "inv", object, op.name(), args)?;
+    if let Some(first) = first_of(args) {
+        serde_json::put(&mut map, alloc, "arg", Value::from(first))?;
     }
     Ok(map)
 }
@@ -139,7 +161,7 @@ fn response_map<A: Allocator>(
     ensures members { IfOk result (λ m. members_view m.entries ≡ record_members plan.now r.now (Event.Ret object op answer)) }
     ensures fits { OnOk result (EventFits (Event.Ret object op answer)) }
 {
-    let mut map = operation_map(alloc, plan, r, "ret", object, op)?;
+    let mut map = operation_map(alloc, plan, r, "ret", object, op, Args::Nothing)?;
     let value = answer_value(alloc, answer)?;
     serde_json::put(&mut map, alloc, "ans", value)?;
     Ok(map)
@@ -156,10 +178,10 @@ fn record_map<A: Allocator>(
     match r.event {
         Event::Inv(object, op) => invocation_map(alloc, plan, r, object, op),
         Event::Ret(object, op, answer) => response_map(alloc, plan, r, object, op, answer),
-        Event::TryC => base_map(alloc, r, "tryc"),
-        Event::TryA => base_map(alloc, r, "trya"),
-        Event::Commit => base_map(alloc, r, "commit"),
-        Event::Abort => base_map(alloc, r, "abort"),
+        Event::TryC => base_map(alloc, r, "tryc", Args::Nothing),
+        Event::TryA => base_map(alloc, r, "trya", Args::Nothing),
+        Event::Commit => base_map(alloc, r, "commit", Args::Nothing),
+        Event::Abort => base_map(alloc, r, "abort", Args::Nothing),
     }
 }
 

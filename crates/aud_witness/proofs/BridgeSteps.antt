@@ -10,8 +10,10 @@ use Rattle.aud_event.specs.declared.fact.Event.{Event}
 use Rattle.aud_event.specs.declared.fact.Event.TheVariants.{Inv, Ret, TryC, TryA, Commit, Abort}
 use Rattle.aud_event.specs.Meanings.{Declared, PlanOf}
 use Rattle.aud_event.specs.Objects.{name_of}
-use Rattle.aud_event.specs.Facts.{first_event_fault, first_use_fault}
-use Rattle.aud_event.proofs.Bools.{or_true, and_true, or_right, true_or, not_true, split, is_false, nat_eq-is, nat_eq-refl, nat_eq-sym}
+use Rattle.aud_event.specs.Facts.{first_event_fault, first_use_fault, or_else_fault}
+use Rattle.aud_event.specs.declared.fact.FactFault.{FactFault}
+use Rattle.aud_event.specs.declared.signature.Format.{Format}
+use Rattle.aud_base.proofs.Bools.{or_true, and_true, or_right, true_or, not_true, split, is_false, nat_eq-is, nat_eq-refl, nat_eq-sym}
 use Rattle.aud_object.specs.Objects.{ObjState, opening_of, on_object, IsInSeq}
 use Rattle.aud_object.specs.Executions.{AreExecutions, no_execution, execution, states_after, states_after_from, state_after, IsLegalFrom}
 use Rattle.aud_object.specs.Blocks.{BlockOf, events_of_block, AreThere}
@@ -61,28 +63,45 @@ block-same h d es fine ob =
     ∙ ap (λ l. on_object ob es ++ l) (on_object-block_of (events_of d.tx h) (Passes-from_IsTransaction (events_of d.tx h) (fine d.tx)) ob ∙ sym (on_object-block ob h d))
     ∙ sym (on_object-append ob es (block h d))
 
--- each event fits the objects
+unreported : (o : Option FactFault) (fits : Bool) (last : FactFault) → or_else_fault o fits last ≡ None → o ≡ None
+unreported None fits last e = refl
+unreported (Some fault) fits last e = cc
+
+used : (format : Format) (objects : List Declared) (ob : ℕ) (name : OpName) → first_use_fault format (slice_get objects ob) name ≡ None → ob < length objects
+used format [] ob name fits = cc
+used format (d ∷ ds) zero name fits = omega arith
+used format (d ∷ ds) (suc ob) name fits = let below : ob < length ds = used format ds ob name fits in omega arith
+
+-- an invocation is on an object that is there
+abbrev IsOnObject : List Declared → Event → Type 0
+IsOnObject objects (Inv ob op) = ob < length objects
+IsOnObject objects _ = Unit {0}
+
+on_object-from_fit : (plan : PlanOf) (e : Event) → first_event_fault plan e ≡ None → IsOnObject plan.objects e
+on_object-from_fit plan (Inv ob op) fit = used plan.format plan.objects ob (name_of op) (unreported _ _ _ fit)
+on_object-from_fit plan (Ret _ _ _) fit = tt
+on_object-from_fit plan TryC fit = tt
+on_object-from_fit plan TryA fit = tt
+on_object-from_fit plan Commit fit = tt
+on_object-from_fit plan Abort fit = tt
+
+-- each invocation is on an object that is there
 abbrev pub AllFit : List Declared → List Event → Type 0
 AllFit objects [] = Unit {0}
-AllFit objects (e ∷ es) = (first_event_fault objects e ≡ None) × AllFit objects es
+AllFit objects (e ∷ es) = IsOnObject objects e × AllFit objects es
 
 pub fit-from_plan : (plan : PlanOf) (t : ℕ) (h : History) → All (FitsPlan plan) h → AllFit plan.objects (events_of t h)
 fit-from_plan plan t [] all = tt
 fit-from_plan plan t (e ∷ h) all =
     let rest = fit-from_plan plan t h (λ k d inside. all (suc k) d (omega arith)) in
-    let here = (all 0 e (omega arith)).1 in
+    let here = on_object-from_fit plan e.1 (all 0 e (omega arith)).1 in
     elim (nat_eq e.0 t) as (λ k. AllFit plan.objects (cond k (e.1 ∷ events_of t h) (events_of t h))) [ true ↦ (here, rest) | false ↦ rest ]
-
-used : (objects : List Declared) (ob : ℕ) (name : OpName) → first_use_fault (slice_get objects ob) name ≡ None → ob < length objects
-used [] ob name fits = cc
-used (d ∷ ds) zero name fits = omega arith
-used (d ∷ ds) (suc ob) name fits = let below : ob < length ds = used ds ob name fits in omega arith
 
 there-from_fit : (objects : List Declared) (states : List ObjState) (es : List Event) → length states ≡ length objects → AllFit objects es → AreThere states (block_of es).executions
 there-from_fit objects states [] same fit = tt
 there-from_fit objects states (Inv o op ∷ []) same fit = tt
 there-from_fit objects states (Inv o op ∷ Ret o' name answer ∷ es) same fit =
-    let below : o < length objects = used objects o (name_of op) fit.0 in
+    let below : o < length objects = fit.0 in
     (omega arith, there-from_fit objects states es same fit.1.1)
 there-from_fit objects states (Inv o op ∷ Inv _ _ ∷ es) same fit = tt
 there-from_fit objects states (Inv o op ∷ TryC ∷ es) same fit = tt

@@ -57,7 +57,11 @@ const KEYS: &str = r#"5 0|{"at":0,"ev":"tryc","log":0,"ob":"x","stamp":0,"tx":1}
 7 0|{"ans":1,"at":0,"ev":"inv","log":0,"ob":"x","op":"push","stamp":0,"tx":1}
 4 0|{"arg":1,"at":0,"ev":"inv","log":0,"op":"push","stamp":0,"tx":1}
 4 0|{"at":0,"ev":"ret","log":0,"ob":"x","op":"push","stamp":0,"tx":1}
-7 0|{"ans":1,"at":0,"ev":"ret","log":0,"ob":"x","op":"push","stamp":0,"tx":1}"#;
+7 0|{"ans":1,"at":0,"ev":"ret","log":0,"ob":"x","op":"push","stamp":0,"tx":1}
+7 0|{"arg":1,"at":0,"ev":"inv","log":0,"ob":"x","op":"plus","stamp":0,"tx":1}
+5 0|{"arg":1,"at":0,"ev":"inv","log":0,"ob":"x","op":"put","stamp":0,"tx":1,"val":2}
+5 0|{"arg":1,"at":0,"ev":"inv","log":0,"ob":"x","op":"write","stamp":0,"tx":1,"val":2}
+5 0|{"at":0,"ev":"begin","log":0,"stamp":0,"tx":1,"val":2}"#;
 
 const TYPES: &str = r#"6 0|{"at":0,"ev":7,"log":0,"stamp":0,"tx":1}
 6 0|{"at":0,"ev":"inv","log":0,"ob":"x","op":5,"stamp":0,"tx":1}

@@ -42,7 +42,8 @@ const HEADERS: &str = r#"1 10 2|{"format":1,"logs":65,"objects":0}
 1 4 0|
 1 10 1|{"format":1,"logs":0,"objects":300}
 2 10 3|~{"format":1,"logs":64,"objects":257}~[]
-1 6 0|{"format":2,"logs":1,"objects":0}
+1 6 0|{"format":3,"logs":1,"objects":0}
+1 6 0|{"format":0,"logs":1,"objects":0}
 1 6 0|{"format":"1","logs":1,"objects":0}
 1 6 0|{"format":1,"logs":1,"objects":-1}
 1 4 0|{"format":1,"logs":1}
@@ -72,6 +73,8 @@ const OBJECTS: &str = r#"2 4 0|{"format":1,"logs":1,"objects":1}~{"kind":"regist
 2 5 0|{"format":1,"logs":1,"objects":1}~{"kind":"set","name":"s","open":0}
 2 7 0|{"format":1,"logs":1,"objects":1}~{"kind":"stack","name":"s","open":0}
 2 7 0|{"format":1,"logs":1,"objects":1}~{"kind":"stack","name":"s"}
+2 7 0|{"format":1,"logs":1,"objects":1}~{"kind":"map","name":"m"}
+2 5 0|{"format":2,"logs":1,"objects":1}~{"kind":"map","name":"m","open":0}
 2 6 0|{"format":1,"logs":1,"objects":1}~{"kind":5,"name":"s","open":0}
 2 6 0|{"format":1,"logs":1,"objects":1}~{"kind":"stack","name":"s","open":1.5}
 4 4 0|{"format":1,"logs":1,"objects":1}~~~{"kind":"queue"}

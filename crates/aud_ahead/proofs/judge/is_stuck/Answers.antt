@@ -20,7 +20,7 @@ returns-then-holds g c = λ closed.
     let marks : c.placed-placed.result.now ≡ map (is_named at.path) (transactions h) =
     c.placed-placed.ensures ∙ ap (λ s. map (is_named at.path) (transactions (history_of s))) c.requires.shape in
     let states : c.store.result.now.now ≡ reached (objects_of own) h at.path = c.store.ensures ∙ ap (λ s. reached (objects_of s) (history_of s) at.path) c.requires.shape in
-    let outlook : OutlookOf = record { now = c.store.result.now.now; loose = c.args.loose.now; spans = c.args.spans.now } in
+    let outlook : OutlookOf = record { now = c.store.result.now.now; loose = c.args.loose.now; spans = c.args.spans.now; queues = c.args.queues.now } in
     let nowhere : RunNowhere (MayBe outlook) row.block.executions =
     subst (λ xs. RunNowhere (MayBe outlook) xs) (c.executions.ensures ∙ ap (λ b. b.executions) c.block.ensures) (c.may_run.ensures c.if-may_run.false) in
     let holds : MayBe outlook (reached (objects_of own) h at.path) = may-be-now outlook (objects_of own) h at.path states (c.holds.ensures c.if-holds.true) in

@@ -5,7 +5,7 @@ abbrev pub invariant-digits : goal.invariant-digits
 invariant-digits l = record {
   spelled : l.text ≡ decimal l.number ++ l.rest;
   some : 0 < l.number;
-  low : l.number < 1024;
+  low : l.number < 4096;
 }
 
 abbrev pub decreases-digits : goal.decreases-digits

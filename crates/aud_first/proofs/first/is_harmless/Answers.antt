@@ -2,7 +2,7 @@ use Rattle.std.specs.Prelude.{◌≡◌, false, Some}
 use Rattle.std.proofs.Common.{◌∙◌, ap, arith}
 use Rattle.std.specs.Prelude.{slice_get}
 use Rattle.std.proofs.lemmas.Option.{slice_get_within}
-use Rattle.aud_object.specs.Objects.{is_observing}
+use Rattle.aud_event.specs.Objects.{is_observing}
 use Rattle.aud_history.specs.Table.{RowOf}
 use Rattle.aud_first.specs.Tests.{IsSuited}
 use Rattle.aud_first.proofs.Tabling.{each-more, row-is}

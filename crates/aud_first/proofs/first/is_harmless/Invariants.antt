@@ -1,5 +1,5 @@
 use Rattle.std.specs.Prelude.{◌≡◌, ℕ, ◌<◌, false, Some, slice_get}
-use Rattle.aud_object.specs.Objects.{is_observing}
+use Rattle.aud_event.specs.Objects.{is_observing}
 use Rattle.aud_object.specs.declared.execution.Execution.{Execution}
 use Rattle.aud_history.specs.Table.{RowOf}
 use Rattle.aud_first.specs.Tests.{IsSuited}

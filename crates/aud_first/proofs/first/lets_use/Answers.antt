@@ -1,6 +1,6 @@
 use Rattle.std.specs.Prelude.{nat_eq}
 use Rattle.std.proofs.Common.{◌∙◌, subst}
-use Rattle.aud_event.proofs.Bools.{is_false, nat_eq-is}
+use Rattle.aud_base.proofs.Bools.{is_false, nat_eq-is}
 use Rattle.aud_first.specs.Tests.{Lets}
 use Rattle.aud_first.proofs.Tabling.{row-is}
 use Rattle.aud_first.proofs.first.lets_use.Goals as goal

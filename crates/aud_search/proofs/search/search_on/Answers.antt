@@ -15,6 +15,7 @@ use Rattle.aud_search.specs.Recorders.{HasNote}
 use Rattle.aud_search.specs.Tried.{IsFollowed, IsWitnessOf, ReportsAt, no_choice}
 use Rattle.aud_search.proofs.MemoLemmas.{way-further, way-deeper, way-back}
 use Rattle.aud_search.proofs.Readiness.{ready-on, ready-still}
+use Rattle.aud_search.proofs.Anew.{room-next, room-nexts, room-silent, room-way, room-opens}
 use Rattle.aud_search.proofs.Recording.{IsHeard, AreOpen, kept-none, note-on, round, round-follows, round-reason, round-over, round-back, round-known, round-deeper}
 use Rattle.aud_search.proofs.Steps.{weight, next_of, states_of, more-turns, Grounds, went-back, loop-known, loop-known-lighter, loop-refuted, step-at, spends-start, spends-more, spent-from, loop-witness, reports-witness, loop-spent, loop-deeper, loop-deeper-lighter, loop-over, loop-back, loop-back-lighter, going-on, tried-found}
 use Rattle.aud_search.proofs.search.search_on.Goals as goal
@@ -304,10 +305,15 @@ search-smaller g c =
     let f = round-follows r c.prefer.new.cursor k c.in_ok-taken.taken.is_enough w in
     let (named, stays) = rw c.in-Fresh.is at c.in_ok-states.ensures.arrived in
     let turn : Turn = record { next = c.next_place.result; states = at.here.states; silent = c.silent_at-here.result } in
-    subst (λ (v : CursorOf). weight start.shape cs v.path c.new-here-in-search.result.next (map next_of c.push.new.self.items) < weight start.shape cs at.cursor.path at.here.next (map next_of at.turns.items)) (sym stays)
-    (subst (λ (t : Turn). weight start.shape cs new.path t.next (map next_of c.push.new.self.items) < weight start.shape cs at.cursor.path at.here.next (map next_of at.turns.items)) (sym c.new-here-in-search.ensures)
-    (loop-deeper-lighter start at.cursor new cs at.here.next k c.next_place.result (map next_of at.turns.items) (map next_of c.push.new.self.items) f c.next_place.ensures.past
-    (more-turns next_of at.turns.items c.push.new.self.items turn c.in_ok-push.ensures.items)))
+    let here = c.new-here-in-search.result in
+    let turns = c.push.new.self.items in
+    let made = c.make_room.ensures in
+    let before = weight start.shape cs at.cursor.path at.here.next (map next_of at.turns.items) in
+    subst (λ n. weight start.shape cs c.arrive.new.cursor.path n (map next_of c.make_room.new.turns.items) < before) (sym (room-next _ _ _ _ _ _ made))
+    (subst (λ ns. weight start.shape cs c.arrive.new.cursor.path here.next ns < before) (sym (room-nexts _ _ _ _ _ _ made))
+    (subst (λ (v : CursorOf). weight start.shape cs v.path here.next (map next_of turns) < before) (sym stays)
+    (subst (λ (t : Turn). weight start.shape cs new.path t.next (map next_of turns) < before) (sym c.new-here-in-search.ensures)
+    (loop-deeper-lighter start at.cursor new cs at.here.next k c.next_place.result (map next_of at.turns.items) (map next_of turns) f c.next_place.ensures.past (more-turns next_of at.turns.items turns turn c.in_ok-push.ensures.items)))))
 
 pub search-preserved : goal.search-preserved
 search-preserved g c =
@@ -326,7 +332,11 @@ search-preserved g c =
     let on : Grounds start.shape cs = record { fine = c.requires.fine; within = c.requires.within; choices = c.requires.choices } in
     let turn : Turn = record { next = c.next_place.result; states = at.here.states; silent = c.silent_at-here.result } in
     let now = c.arrive.new.memo in
-    let P = HasNote (g.R.Recorder.noted now.recorder) in
+    let here = c.new-here-in-search.result in
+    let own = c.make_room.new.here in
+    let later = c.make_room.new.turns.items in
+    let made = c.make_room.ensures in
+    let P = HasNote (g.R.Recorder.noted c.make_room.new.memo.recorder) in
     let further = c.in_ok-states.ensures.further in
     let w : IsFollowed at.cursor new cs from k enough = subst (λ (v : CursorOf). IsFollowed at.cursor v cs from k enough) (sym stays)
     (going-on at.cursor c.seek.new.cursor was cs from c.in-Some.place k enough found c.in_ok-taken.ensures.taken) in
@@ -335,21 +345,25 @@ search-preserved g c =
       same = f.shape;
       used = at.invariant.used + 1;
       spends = spends-more c.args.budget at.left c.in-Some-spend.rest at.invariant.used at.invariant.spends (rw c.in-Some-spend.is at c.spend.ensures);
-      memo = further.shape ∙ r.memo_same;
-      way = subst (λ (t : Turn). NameWay start.shape now.states (t.states ∷ reverse (map states_of c.push.new.self.items)) new.path) (sym c.new-here-in-search.ensures)
+      memo = made.shape ∙ further.shape ∙ r.memo_same;
+      way = room-way _ _ _ _ _ _ made start.shape new.path (subst (λ (t : Turn). NameWay start.shape now.states (t.states ∷ reverse (map states_of c.push.new.self.items)) new.path) (sym c.new-here-in-search.ensures)
           (way-deeper start.shape now.states at.here.states c.in-Fresh.states (map states_of at.turns.items) (map states_of c.push.new.self.items) at.cursor.path new.path f.choice.decision
           (way-further g.R.Recorder.grows start.shape memo now (at.here.states ∷ reverse (map states_of at.turns.items)) at.cursor.path further r.way) f.path
           (subst (λ (s : ShapeOf). Names now.states c.in-Fresh.states (states_reached s new.path)) f.shape
           (subst (λ (v : CursorOf). Names now.states c.in-Fresh.states (states_reached v.shape v.path)) (sym stays) named))
-          (more-turns states_of at.turns.items c.push.new.self.items turn c.in_ok-push.ensures.items));
-      searching = subst (λ (t : Turn). IsSearching (objects_of start.shape) (history_of start.shape) start.path cs (at.invariant.used + 1) new.path t.next (reverse (map next_of c.push.new.self.items))) (sym c.new-here-in-search.ensures)
+          (more-turns states_of at.turns.items c.push.new.self.items turn c.in_ok-push.ensures.items)));
+      searching = subst (λ n. IsSearching (objects_of start.shape) (history_of start.shape) start.path cs (at.invariant.used + 1) new.path n (reverse (map next_of later))) (sym (room-next _ _ _ _ _ _ made))
+          (subst (λ ns. IsSearching (objects_of start.shape) (history_of start.shape) start.path cs (at.invariant.used + 1) new.path here.next (reverse ns)) (sym (room-nexts _ _ _ _ _ _ made))
+          (subst (λ (t : Turn). IsSearching (objects_of start.shape) (history_of start.shape) start.path cs (at.invariant.used + 1) new.path t.next (reverse (map next_of c.push.new.self.items))) (sym c.new-here-in-search.ensures)
           (loop-deeper start at.cursor new cs at.invariant.used at.here.next k c.next_place.result (map next_of at.turns.items) (map next_of c.push.new.self.items) on r.before f
           (subst (λ (v : CursorOf). IsFull (history_of v.shape) v.path → ⊥) (sym stays) unfull) c.next_place.ensures
-          (more-turns next_of at.turns.items c.push.new.self.items turn c.in_ok-push.ensures.items));
-      heard = subst (λ (t : Turn). IsHeard P start.shape cs new.path t.next t.silent) (sym c.new-here-in-search.ensures) (kept-none P start.shape cs new.path 0);
-      opens = round-deeper r now.recorder (note-on g.R.Recorder.noted g.R.Recorder.grows g.met.R.Recorder.noted_stays g.met.R.Recorder.grows_onward memo.recorder now.recorder further.recorder) new k c.next_place.result enough c.silent_at-here.result turn c.push.new.self.items c.requires.choices w
+          (more-turns next_of at.turns.items c.push.new.self.items turn c.in_ok-push.ensures.items))));
+      heard = subst (λ n. IsHeard P start.shape cs new.path n own.silent) (sym (room-next _ _ _ _ _ _ made)) (subst (λ s. IsHeard P start.shape cs new.path here.next s) (sym (room-silent _ _ _ _ _ _ made))
+          (subst (λ (t : Turn). IsHeard P start.shape cs new.path t.next t.silent) (sym c.new-here-in-search.ensures) (kept-none P start.shape cs new.path 0)));
+      opens = room-opens _ _ _ _ _ _ made P start.shape cs new.path (subst (λ v. AreOpen (HasNote (g.R.Recorder.noted v)) start.shape cs (reverse c.push.new.self.items) new.path) (sym made.recorder)
+          (round-deeper r now.recorder (note-on g.R.Recorder.noted g.R.Recorder.grows g.met.R.Recorder.noted_stays g.met.R.Recorder.grows_onward memo.recorder now.recorder further.recorder) new k c.next_place.result enough c.silent_at-here.result turn c.push.new.self.items c.requires.choices w
           (λ on q. note-on g.R.Recorder.noted g.R.Recorder.grows g.met.R.Recorder.noted_stays g.met.R.Recorder.grows_onward memo.recorder now.recorder further.recorder q (c.in_ok-taken.ensures.deaf on q))
-          c.next_place.ensures c.silent_at-here.ensures refl refl c.in_ok-push.ensures.items;
+          c.next_place.ensures c.silent_at-here.ensures refl refl c.in_ok-push.ensures.items));
       choices = c.go_on.ensures.choices ∙ at.invariant.choices;
       ready = c.go_on.ensures.ready;
       rules = c.in_ok-states.ensures.same ∙ c.seek.ensures.rules ∙ at.invariant.rules;

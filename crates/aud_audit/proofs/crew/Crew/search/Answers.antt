@@ -4,7 +4,7 @@ use Rattle.aud_audit.proofs.Seating.{crew_later}
 use Rattle.aud_audit.proofs.Ending.{share_later}
 use Rattle.aud_audit.proofs.crew.Crew.search.Goals as goal
 use Rattle.aud_audit.proofs.crew.Crew.search.Goals.{then-self, else-self}
-use Rattle.aud_event.proofs.Bools.{unnegated}
+use Rattle.aud_base.proofs.Bools.{unnegated}
 
 pub post_news-requires : goal.post_news-requires
 post_news-requires g c =

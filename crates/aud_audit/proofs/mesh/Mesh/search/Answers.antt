@@ -5,7 +5,7 @@ use Rattle.aud_audit.specs.Meshes.{IsMesh}
 use Rattle.aud_audit.specs.Searches.{SharesHaveEnded}
 use Rattle.aud_audit.proofs.Meshing.{all_ended}
 use Rattle.aud_audit.proofs.mesh.Mesh.search.Goals as goal
-use Rattle.aud_event.proofs.Results.{on_ok}
+use Rattle.aud_base.proofs.Results.{on_ok}
 
 pub returns-clause-ended : goal.returns-clause-ended
 returns-clause-ended g c =

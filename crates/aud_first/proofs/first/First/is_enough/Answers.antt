@@ -27,4 +27,4 @@ returns-in-Some g c = λ suited.
     subst (λ rows. AreSuited c.in-Some.total c.store-store.result.now.now rows c.placed.result.now c.args.place row) table (c.is_harmless.ensures suited row (ap (λ rows. slice_get rows c.args.place) table ∙ found)) in
     subst (λ s. IsEnough (record { shape = s; path = at.path }) (slice_index_or (transactions (history_of s)) c.args.place 0)) (sym back)
     (suited-enough (plan_of own) h at.path c.args.place row c.placed.result.now c.store-store.result.now.now c.in-Some.total c.history-sound.ensures.sound inside found marks c.plan-within.ensures.sound
-    (c.self.invariant.count c.in-Some.total c.in-Some.is) states (ap (λ s. status_allows s A) (sym c.status.ensures) ∙ c.must_commit.ensures c.if-not-must_commit.false) each)
+    (c.self.invariant.sum c.in-Some.total c.in-Some.is) states (ap (λ s. status_allows s A) (sym c.status.ensures) ∙ c.must_commit.ensures c.if-not-must_commit.false) each)

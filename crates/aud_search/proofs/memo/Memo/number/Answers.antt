@@ -3,8 +3,8 @@ use Rattle.std.proofs.Common.{sym, ◌∙◌, subst}
 use Rattle.aud_object.specs.Objects.{ObjState}
 use Rattle.aud_order.specs.Shapes.{history_of}
 use Rattle.aud_search.specs.Kept.{LeadsTo, states_of}
-use Rattle.aud_search.specs.Memos.{MemoOf, Names, IsGrown, states_reached}
-use Rattle.aud_search.proofs.MemoLemmas.{true-states, seen-states, grown-states}
+use Rattle.aud_search.specs.Memos.{MemoOf, Names}
+use Rattle.aud_search.proofs.MemoLemmas.{true-states, seen-states}
 use Rattle.aud_search.proofs.memo.Memo.number.Goals as goal
 
 pub keep_states-number-requires : goal.keep_states-number-requires
@@ -19,17 +19,5 @@ pub see-requires : goal.see-requires
 see-requires g c =
     subst (λ (s : List ObjState). Names (states_of (history_of c.self.inside.shape.now) c.keep_states-number.new.kept.items) (Some c.in-Some.number) s) (c.store.ensures ∙ sym c.store-in-Some.ensures) (rw c.in-Some.is at c.keep_states-number.ensures.there)
 
-pub returns-in-Some-clause-grown : goal.returns-in-Some-clause-grown
-returns-in-Some-clause-grown g c =
-    subst (λ (m : MemoOf _). IsGrown c.args.self.now m) (sym c.see.ensures) (grown-states c.self.inside.shape.now c.self.inside.recorder c.args.self.now _ _ c.self.view_is c.keep_states-number.ensures.grown)
-
-pub returns-in-Some-clause-named : goal.returns-in-Some-clause-named
-returns-in-Some-clause-named g c =
-    subst (λ (m : MemoOf _). Names m.states (Some c.in-Some.number) (states_reached c.args.cursor.now.shape c.args.cursor.now.path)) (sym c.see.ensures)
-    (subst (λ (s : List ObjState). Names (states_of (history_of c.self.inside.shape.now) c.keep_states-number.new.kept.items) (Some c.in-Some.number) s) c.store.ensures (rw c.in-Some.is at c.keep_states-number.ensures.there))
-
-pub returns-in_default-clause-grown : goal.returns-in_default-clause-grown
-returns-in_default-clause-grown g c = grown-states c.self.inside.shape.now c.self.inside.recorder c.args.self.now _ _ c.self.view_is c.keep_states-number.ensures.grown
-
-pub invariant_of-self-in_default : goal.invariant_of-self-in_default
-invariant_of-self-in_default g c = (true-states _ _ _ _ _ _ _ c.keep_states-number.ensures.grown c.self.invariant.0, c.self.invariant.1, seen-states _ _ _ c.keep_states-number.ensures.grown c.self.invariant.2)
+pub invariant_of-self-in-None : goal.invariant_of-self-in-None
+invariant_of-self-in-None g c = (true-states _ _ _ _ _ _ _ c.keep_states-number.ensures.grown c.self.invariant.0, c.self.invariant.1, seen-states _ _ _ c.keep_states-number.ensures.grown c.self.invariant.2)

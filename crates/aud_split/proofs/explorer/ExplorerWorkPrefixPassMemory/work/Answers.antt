@@ -1,5 +1,5 @@
 use Rattle.std.proofs.Common.{OnOk, Result, Option, sym, subst}
-use Rattle.aud_event.specs.declared.memory.OutOfMemory.{OutOfMemory}
+use Rattle.aud_base.specs.declared.memory.OutOfMemory.{OutOfMemory}
 use Rattle.aud_know.specs.Findings.{FindingOf}
 use Rattle.aud_node.specs.Meanings.{PassOf}
 use Rattle.aud_split.specs.Pools.{HasSearched, IsFound, IsSettled}

@@ -1,0 +1,10 @@
+#![tactic(auto)]
+//! What all crates stand on: want of memory as an ordinary error, copies that may meet it, and orders that sets and maps can trust.
+
+mod key;
+mod memory;
+mod rank;
+
+pub use key::Key;
+pub use memory::{Dup, OutOfMemory};
+pub use rank::Rank;
