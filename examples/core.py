@@ -478,7 +478,7 @@ def main(words):
         if len(words) == 3:
             with open(words[2], "w", encoding="utf-8") as file:
                 file.write(search.part.text())
-        print("\n".join(told(run, search)))
+        recorded.say("\n".join(told(run, search)))
     except OSError as error:
         fail(FAILED, f"{error.filename}: {error.strerror}")
     return NOT_OPAQUE

@@ -4,7 +4,9 @@ Nothing is checked here: what a text has to be is opaq's to say.
 """
 
 import json
+import os
 import subprocess
+import sys
 
 ENDS = {"commit": "committed", "abort": "aborted"}
 
@@ -118,3 +120,11 @@ def ask(program, words, text):
     """What opaq answers of a text in bytes: its exit status, and its line."""
     answer = subprocess.run([program, *words], input=text, stdout=subprocess.PIPE, stderr=subprocess.PIPE)
     return answer.returncode, (answer.stdout or answer.stderr).decode().rstrip("\n")
+
+
+def say(text):
+    """Prints a text. Who reads it may go before its end, as head does."""
+    try:
+        print(text, flush=True)
+    except BrokenPipeError:
+        os.dup2(os.open(os.devnull, os.O_WRONLY), sys.stdout.fileno())

@@ -544,9 +544,9 @@ def main(words):
         fail(REFUSED, f"{len(run.transactions())} transactions are too many for a story: core.py finds the few that matter")
     found = lines_of(run)
     if found:
-        print("\n".join(found[0]))
+        recorded.say("\n".join(found[0]))
         return TOLD
-    print("\n".join(["Values and real time make no circle of such sentences. The run, in the order of its stamps:", *table(run)]))
+    recorded.say("\n".join(["Values and real time make no circle of such sentences. The run, in the order of its stamps:", *table(run)]))
     return NOT_TOLD
 
 

@@ -1,7 +1,7 @@
 -- Where a prefix leads, in a few numbers.
 use Rattle.std.specs.Prelude.{◌≡◌, List, [], ◌∷◌, map, length}
 use Rattle.aud_marks.specs.Marked.{marks_of}
-use Rattle.aud_object.specs.Numbers.{numbered}
+use Rattle.aud_object.specs.Kinds.{numbered}
 use Rattle.aud_object.specs.Objects.{opening_of}
 use Rattle.aud_object.specs.Executions.{states_after}
 use Rattle.aud_history.specs.Table.{transactions}

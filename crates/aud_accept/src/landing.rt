@@ -2,7 +2,7 @@
 
 ghost use Rattle.std.specs.Prelude.{◌≡◌, ◌∷◌, [], length, map, IfSome, IsTrue};
 ghost use Rattle.aud_marks.specs.Marked.{marks_of};
-ghost use Rattle.aud_object.specs.Numbers.{numbered};
+ghost use Rattle.aud_object.specs.Kinds.{numbered};
 ghost use Rattle.aud_accept.specs.Landings.{IsLandingOf};
 
 use arrayvec::ArrayVec;

@@ -5,11 +5,11 @@ use Rattle.std.proofs.Common.{sym, ◌∙◌, ap, subst, cond, inl, inr, append_
 use Rattle.std.proofs.lemmas.List.{append-nil, take_more}
 use Rattle.std.proofs.lemmas.Option.{slice_get-get_or, slice_get_within}
 use Rattle.aud_event.specs.declared.object.Op.{Op}
-use Rattle.aud_event.specs.declared.object.Op.TheVariants.{Read, Write, Inc, Dec, Add, Remove, Contains, Enq, Deq, Plus, Put, Look, Del}
+use Rattle.aud_event.specs.declared.object.Op.TheVariants.{Read, Write, Inc, Add, Remove, Contains, Put, Look, Del}
 use Rattle.aud_event.specs.declared.object.Answer.{Answer}
 use Rattle.aud_event.specs.declared.object.Answer.TheVariants.{Int, Flag, Empty}
 use Rattle.aud_base.proofs.Bools.{split, nat_eq-is, nat_eq-refl}
-use Rattle.aud_object.specs.Objects.{ObjState, register, counter, set_of, queue, answer_of, after_op, has_member, with_member, without_member, map_of, found}
+use Rattle.aud_object.specs.Objects.{ObjState, register, set_of, answer_of, after_op, has_member, with_member, without_member, map_of, found}
 use Rattle.aud_object.specs.Entries.{value_at, with_entry, without_entry}
 use Rattle.aud_object.specs.Replayed.{same_answer, answers, answer_at, after_at, executed}
 use Rattle.aud_object.specs.declared.execution.Execution.{Execution}
@@ -19,8 +19,9 @@ use Rattle.aud_ahead.specs.declared.cell.Key.{Key}
 use Rattle.aud_ahead.specs.declared.cell.Key.TheVariants.{Own, Element, Entry}
 use Rattle.aud_ahead.specs.declared.cell.Cell.{Cell}
 use Rattle.aud_ahead.specs.Ranges.{RunNowhere, StayWithin}
-use Rattle.aud_ahead.specs.Cells.{IsProper, one_if, cell_of, same_key, same_value, element, entry, seen_by, told_by, told_of, newer, told, may_hold, may_hold_by, HoldAfter, Hold, may_see, may_answer, TellWithin}
-use Rattle.aud_ahead.proofs.SetLemmas.{has-with, has-without, value-with, value-without, proper-after}
+use Rattle.aud_ahead.specs.Cells.{one_if, cell_of, same_key, same_value, element, entry, seen_by, told_by, told_of, newer, told, may_hold, may_hold_by, HoldAfter, Hold, may_see, may_answer, TellWithin}
+use Rattle.aud_object.specs.Proper.{IsProper}
+use Rattle.aud_object.proofs.Proper.{has-with, has-without, value-with, value-without, proper-after}
 
 -- # Keys
 
@@ -90,41 +91,20 @@ gone-none (Some u) e = absurd (cc)
 -- what an operation was answered tells the value of the cell before it
 pub seen-is : (s : ObjState) (op : Op) (answer : Answer) (c : Cell) → answer_of s op ≡ answer → seen_by op answer ≡ Some c → cell_of s c.key ≡ Some c.value
 seen-is (register v) Read (Int w) c right seen = cc
-seen-is (counter n) Read (Int w) c right seen = absurd (cc)
-seen-is (set_of s) Read (Int w) c right seen = absurd (cc)
-seen-is (queue q) Read (Int w) c right seen = absurd (cc)
-seen-is (map_of m) Read (Int w) c right seen = absurd (cc)
 seen-is (set_of s) (Add e) (Flag b) c right seen = flagged s e (not b) (not (not (has_member s e))) c (ap not (unflag right)) (twice (has_member s e)) seen
-seen-is (register v) (Add e) (Flag b) c right seen = absurd (cc)
-seen-is (counter n) (Add e) (Flag b) c right seen = absurd (cc)
-seen-is (queue q) (Add e) (Flag b) c right seen = absurd (cc)
-seen-is (map_of m) (Add e) (Flag b) c right seen = absurd (cc)
 seen-is (set_of s) (Remove e) (Flag b) c right seen = flagged s e b (has_member s e) c (unflag right) refl seen
-seen-is (register v) (Remove e) (Flag b) c right seen = absurd (cc)
-seen-is (counter n) (Remove e) (Flag b) c right seen = absurd (cc)
-seen-is (queue q) (Remove e) (Flag b) c right seen = absurd (cc)
-seen-is (map_of m) (Remove e) (Flag b) c right seen = absurd (cc)
 seen-is (set_of s) (Contains e) (Flag b) c right seen = flagged s e b (has_member s e) c (unflag right) refl seen
-seen-is (register v) (Contains e) (Flag b) c right seen = absurd (cc)
-seen-is (counter n) (Contains e) (Flag b) c right seen = absurd (cc)
-seen-is (queue q) (Contains e) (Flag b) c right seen = absurd (cc)
-seen-is (map_of m) (Contains e) (Flag b) c right seen = absurd (cc)
 seen-is (map_of m) (Look k) (Int v) c right seen = looked m k (Some v) c (found-some (value_at m k) v right) seen
-seen-is (register x) (Look k) (Int v) c right seen = absurd (cc)
-seen-is (counter x) (Look k) (Int v) c right seen = absurd (cc)
-seen-is (set_of x) (Look k) (Int v) c right seen = absurd (cc)
-seen-is (queue x) (Look k) (Int v) c right seen = absurd (cc)
 seen-is (map_of m) (Look k) Empty c right seen = looked m k None c (found-none (value_at m k) right) seen
-seen-is (register x) (Look k) Empty c right seen = absurd (cc)
-seen-is (counter x) (Look k) Empty c right seen = absurd (cc)
-seen-is (set_of x) (Look k) Empty c right seen = absurd (cc)
-seen-is (queue x) (Look k) Empty c right seen = absurd (cc)
 seen-is (map_of m) (Del k) (Flag false) c right seen = looked m k None c (gone-none (value_at m k) (unflag right)) seen
-seen-is (register x) (Del k) (Flag false) c right seen = absurd (cc)
-seen-is (counter x) (Del k) (Flag false) c right seen = absurd (cc)
-seen-is (set_of x) (Del k) (Flag false) c right seen = absurd (cc)
-seen-is (queue x) (Del k) (Flag false) c right seen = absurd (cc)
-seen-is s _ _ c right seen = absurd (cc)
+seen-is _ Read (Int w) c right seen = absurd (cc)
+seen-is _ (Add e) (Flag b) c right seen = absurd (cc)
+seen-is _ (Remove e) (Flag b) c right seen = absurd (cc)
+seen-is _ (Contains e) (Flag b) c right seen = absurd (cc)
+seen-is _ (Look k) (Int v) c right seen = absurd (cc)
+seen-is _ (Look k) Empty c right seen = absurd (cc)
+seen-is _ (Del k) (Flag false) c right seen = absurd (cc)
+seen-is _ _ _ c right seen = absurd (cc)
 
 other-way : (a b : ℤ) → int_eq a b ≡ false → int_eq b a ≡ false
 other-way a b e =
@@ -168,13 +148,6 @@ leaves (set_of s) (Write w) (Element k) v p h = (λ same. absurd (cc), λ other.
 leaves (set_of s) (Put j w) (Element k) v p h = (λ same. absurd (cc), λ other. h)
 leaves (set_of s) (Del j) (Element k) v p h = (λ same. absurd (cc), λ other. h)
 leaves (set_of s) _ (Element k) v p h = h
-leaves (counter n) Inc key v p h = absurd (cc)
-leaves (counter n) Dec key v p h = absurd (cc)
-leaves (counter n) (Plus k) key v p h = absurd (cc)
-leaves (counter n) _ key v p h = absurd (cc)
-leaves (queue q) (Enq w) key v p h = absurd (cc)
-leaves (queue q) Deq key v p h = absurd (cc)
-leaves (queue q) _ key v p h = absurd (cc)
 leaves (map_of m) (Put k w) Own v p h = absurd (cc)
 leaves (map_of m) (Del k) Own v p h = absurd (cc)
 leaves (map_of m) _ Own v p h = absurd (cc)
@@ -207,6 +180,8 @@ leaves (map_of m) (Write w) (Entry j) v p h = (λ same. absurd (cc), λ other. h
 leaves (map_of m) (Add e) (Entry j) v p h = (λ same. absurd (cc), λ other. h)
 leaves (map_of m) (Remove e) (Entry j) v p h = (λ same. absurd (cc), λ other. h)
 leaves (map_of m) _ (Entry j) v p h = h
+leaves _ Inc key v p h = absurd (cc)
+leaves _ _ key v p h = absurd (cc)
 
 -- # Executions of an object
 

@@ -1,5 +1,4 @@
 pub mod HullLemmas
-pub mod SetLemmas
 pub mod CellLemmas
 pub mod SpanLemmas
 pub mod QueueLemmas

@@ -17,11 +17,12 @@ use Rattle.aud_ahead.specs.declared.cell.Key.{Key}
 use Rattle.aud_ahead.specs.declared.cell.Cell.{Cell}
 use Rattle.aud_ahead.specs.Hulls.{reached}
 use Rattle.aud_ahead.specs.Ranges.{RunNowhere, StayWithin}
-use Rattle.aud_ahead.specs.Cells.{IsProper, cell_of, same_value, is_now, is_cell, Hold}
+use Rattle.aud_ahead.specs.Cells.{cell_of, same_value, is_now, is_cell, Hold}
 use Rattle.aud_ahead.specs.Spans.{AreWithin}
 use Rattle.aud_ahead.specs.Queues.{QueuesOf, gone_of, come_of, is_among, IsLeft, AreLeft}
 use Rattle.aud_ahead.specs.Outlooks.{OutlookOf, MayBe}
-use Rattle.aud_ahead.proofs.SetLemmas.{proper-after, proper-opening}
+use Rattle.aud_object.specs.Proper.{IsProper}
+use Rattle.aud_object.proofs.Proper.{proper-after, proper-opening}
 use Rattle.aud_ahead.proofs.CellLemmas.{unsome, same_value-itself}
 
 -- # States that are reached are proper

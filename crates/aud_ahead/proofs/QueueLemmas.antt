@@ -6,11 +6,11 @@ use Rattle.std.proofs.Common.{sym, ◌∙◌, ap, subst, cond, inl, inr, arith, 
 use Rattle.std.proofs.lemmas.Bool.Decides.{nat_tests}
 use Rattle.std.proofs.lemmas.Option.{slice_get_within}
 use Rattle.aud_event.specs.declared.object.Op.{Op}
-use Rattle.aud_event.specs.declared.object.Op.TheVariants.{Write, Inc, Dec, Add, Remove, Enq, Deq, Plus, Put, Del}
+use Rattle.aud_event.specs.declared.object.Op.TheVariants.{Inc, Enq, Deq}
 use Rattle.aud_event.specs.declared.object.Answer.{Answer}
 use Rattle.aud_event.specs.declared.object.Answer.TheVariants.{Int, Empty}
 use Rattle.aud_base.proofs.Bools.{split, and_true, true_and, or_false, nat_eq-is, nat_eq-refl}
-use Rattle.aud_object.specs.Objects.{ObjState, register, counter, set_of, queue, map_of, items_of, answer_of, after_op}
+use Rattle.aud_object.specs.Objects.{ObjState, queue, items_of, answer_of, after_op}
 use Rattle.aud_object.specs.Replayed.{answers, answer_at, after_at, executed}
 use Rattle.aud_object.specs.declared.execution.Execution.{Execution}
 use Rattle.aud_object.proofs.Ints.{eq-is, eq-itself}
@@ -61,19 +61,8 @@ turns such left added (queue q) (Enq v) is fine adds = record {
   fine = such-more such added v fine (adds v refl);
 }
 turns such left added (queue q) Deq is fine adds = subst (λ z. Turns such left (queue z) Deq) (sym is) (taken such left added fine)
-turns such left added (queue q) _ is fine adds = record { next = left; added = added; leads = refl; is = is; fine = fine }
-turns such left added (register v) (Write w) is fine adds = record { next = left; added = added; leads = refl; is = is; fine = fine }
-turns such left added (register v) _ is fine adds = record { next = left; added = added; leads = refl; is = is; fine = fine }
-turns such left added (counter n) Inc is fine adds = record { next = left; added = added; leads = refl; is = is; fine = fine }
-turns such left added (counter n) Dec is fine adds = record { next = left; added = added; leads = refl; is = is; fine = fine }
-turns such left added (counter n) (Plus k) is fine adds = record { next = left; added = added; leads = refl; is = is; fine = fine }
-turns such left added (counter n) _ is fine adds = record { next = left; added = added; leads = refl; is = is; fine = fine }
-turns such left added (set_of s) (Add v) is fine adds = record { next = left; added = added; leads = refl; is = is; fine = fine }
-turns such left added (set_of s) (Remove v) is fine adds = record { next = left; added = added; leads = refl; is = is; fine = fine }
-turns such left added (set_of s) _ is fine adds = record { next = left; added = added; leads = refl; is = is; fine = fine }
-turns such left added (map_of m) (Put k v) is fine adds = record { next = left; added = added; leads = refl; is = is; fine = fine }
-turns such left added (map_of m) (Del k) is fine adds = record { next = left; added = added; leads = refl; is = is; fine = fine }
-turns such left added (map_of m) _ is fine adds = record { next = left; added = added; leads = refl; is = is; fine = fine }
+turns such left added _ Inc is fine adds = record { next = left; added = added; leads = refl; is = is; fine = fine }
+turns such left added _ _ is fine adds = record { next = left; added = added; leads = refl; is = is; fine = fine }
 
 -- # Executions in turn
 

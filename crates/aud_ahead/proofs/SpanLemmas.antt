@@ -4,11 +4,11 @@ use Rattle.std.proofs.Common.{sym, ◌∙◌, ap, subst, cond, inl, inr, arith}
 use Rattle.std.proofs.lemmas.Option.{slice_get_within}
 use Rattle.std.proofs.lemmas.Grind.{common_steps}
 use Rattle.aud_event.specs.declared.object.Op.{Op}
-use Rattle.aud_event.specs.declared.object.Op.TheVariants.{Write, Inc, Dec, Get, Add, Remove, Enq, Deq, Plus, Put, Del}
+use Rattle.aud_event.specs.declared.object.Op.TheVariants.{Inc, Dec, Get, Plus}
 use Rattle.aud_event.specs.declared.object.Answer.{Answer}
 use Rattle.aud_base.proofs.Bools.{split, and_true, true_and, nat_eq-is, nat_eq-refl}
 use Rattle.std.specs.Int.{int_min, int_max}
-use Rattle.aud_object.specs.Objects.{ObjState, register, counter, set_of, queue, answer_of, after_op, greatest, least, map_of, plus_or_stay, is_within as is_i64}
+use Rattle.aud_object.specs.Objects.{ObjState, counter, answer_of, after_op, greatest, least, plus_or_stay, is_within as is_i64}
 use Rattle.aud_object.specs.Replayed.{answers, answer_at, after_at, executed}
 use Rattle.aud_object.specs.declared.execution.Execution.{Execution}
 use Rattle.aud_object.proofs.Ints.{eq-is}
@@ -112,10 +112,7 @@ inside-within one other n i w =
 
 inside-fits : (one other : Span) (s : ObjState) → is_inside one other ≡ true → fits one s ≡ true → fits other s ≡ true
 inside-fits one other (counter n) i f = inside-within one other n i f
-inside-fits one other (register v) i f = refl
-inside-fits one other (set_of s) i f = refl
-inside-fits one other (queue q) i f = refl
-inside-fits one other (map_of m) i f = refl
+inside-fits one other _ i f = refl
 
 -- # One operation
 
@@ -126,29 +123,10 @@ moves span (counter n) Dec f = (record { low = down span.low; high = down span.h
 moves span (counter n) Get f = (exactly n, (ap (λ b. cond b (Some (exactly n)) None) f, both (int_lt n n) (int_lt n n) (lt-self n) (lt-self n)))
 moves span (counter n) (Plus k) f = (shifted span k, (refl, within-shifted span n k f))
 moves span (counter n) _ f = (span, (refl, f))
-moves span (register v) Inc f = (record { low = up span.low; high = up span.high }, (refl, refl))
-moves span (register v) Dec f = (record { low = down span.low; high = down span.high }, (refl, refl))
-moves span (register v) (Plus k) f = (shifted span k, (refl, refl))
-moves span (register v) (Write w) f = (span, (refl, refl))
-moves span (register v) _ f = (span, (refl, refl))
-moves span (set_of s) Inc f = (record { low = up span.low; high = up span.high }, (refl, refl))
-moves span (set_of s) Dec f = (record { low = down span.low; high = down span.high }, (refl, refl))
-moves span (set_of s) (Plus k) f = (shifted span k, (refl, refl))
-moves span (set_of s) (Add v) f = (span, (refl, refl))
-moves span (set_of s) (Remove v) f = (span, (refl, refl))
-moves span (set_of s) _ f = (span, (refl, refl))
-moves span (queue q) Inc f = (record { low = up span.low; high = up span.high }, (refl, refl))
-moves span (queue q) Dec f = (record { low = down span.low; high = down span.high }, (refl, refl))
-moves span (queue q) (Plus k) f = (shifted span k, (refl, refl))
-moves span (queue q) (Enq v) f = (span, (refl, refl))
-moves span (queue q) Deq f = (span, (refl, refl))
-moves span (queue q) _ f = (span, (refl, refl))
-moves span (map_of m) Inc f = (record { low = up span.low; high = up span.high }, (refl, refl))
-moves span (map_of m) Dec f = (record { low = down span.low; high = down span.high }, (refl, refl))
-moves span (map_of m) (Plus k) f = (shifted span k, (refl, refl))
-moves span (map_of m) (Put k v) f = (span, (refl, refl))
-moves span (map_of m) (Del k) f = (span, (refl, refl))
-moves span (map_of m) _ f = (span, (refl, refl))
+moves span _ Inc f = (record { low = up span.low; high = up span.high }, (refl, refl))
+moves span _ Dec f = (record { low = down span.low; high = down span.high }, (refl, refl))
+moves span _ (Plus k) f = (shifted span k, (refl, refl))
+moves span _ _ f = (span, (refl, refl))
 
 -- # Executions in turn
 

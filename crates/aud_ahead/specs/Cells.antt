@@ -1,6 +1,6 @@
 -- Registers, sets and maps as cells with a value each: a register has one of its own, a set one for each value, with 1 where that is a
 -- member and 0 where it is none, a map one for each key, with what is under it or nothing.
-use Rattle.std.specs.Prelude.{◌≡◌, ℕ, ℤ, pos, Bool, true, false, not, ◌||◌, ◌&&◌, if◌then◌else◌, int_lt, nat_eq, List, [], ◌∷◌, Option, Some, None, slice_get, slice_index_or}
+use Rattle.std.specs.Prelude.{◌≡◌, ℕ, ℤ, pos, Bool, true, false, not, ◌||◌, ◌&&◌, if◌then◌else◌, nat_eq, List, [], ◌∷◌, Option, Some, None, slice_get, slice_index_or}
 use Rattle.std.specs.List.{list_any}
 use Rattle.std.specs.Ordering.{int_eq}
 use Rattle.aud_event.specs.declared.object.Op.{Op}
@@ -8,29 +8,14 @@ use Rattle.aud_event.specs.declared.object.Op.TheVariants.{Read, Write, Add, Rem
 use Rattle.aud_event.specs.declared.object.Answer.{Answer}
 use Rattle.aud_event.specs.declared.object.Answer.TheVariants.{Int, Flag, Empty}
 use Rattle.aud_object.specs.Objects.{ObjState, register, set_of, map_of, has_member}
-use Rattle.aud_object.specs.Entries.{value_at, Ascend as KeysAscend}
+use Rattle.aud_object.specs.Entries.{value_at}
+use Rattle.aud_object.specs.Proper.{IsProper}
 use Rattle.aud_object.specs.declared.execution.Execution.{Execution}
 use Rattle.aud_ahead.specs.declared.cell.Key.{Key}
 use Rattle.aud_ahead.specs.declared.cell.Key.TheVariants.{Own, Element, Entry}
 use Rattle.aud_ahead.specs.declared.cell.Cell.{Cell}
 
 -- # States
-
--- the value is below all of these
-abbrev pub IsBelow : ℤ → List ℤ → Type 0
-IsBelow v [] = Unit {0}
-IsBelow v (x ∷ s) = (int_lt v x ≡ true) × IsBelow v s
-
--- the values ascend
-abbrev pub Ascend : List ℤ → Type 0
-Ascend [] = Unit {0}
-Ascend (x ∷ s) = IsBelow x s × Ascend s
-
--- the members of a set ascend, and the keys of a map
-abbrev pub IsProper : ObjState → Type 0
-IsProper (set_of s) = Ascend s
-IsProper (map_of m) = KeysAscend m
-IsProper _ = Unit {0}
 
 -- 1 for true, 0 for false
 abbrev pub one_if : Bool → ℤ

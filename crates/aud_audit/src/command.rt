@@ -1,7 +1,7 @@
 //! The run of any command over an input in memory.
 
 ghost use Rattle.std.specs.Prelude.{◌≡◌, []};
-ghost use Rattle.aud_cli.specs.Words.{IsInRange};
+ghost use Rattle.aud_cli.specs.Jobs.{IsInRange};
 ghost use Rattle.aud_cli.specs.declared.ended.Cause.{Cause as CauseOf};
 ghost use Rattle.aud_audit.specs.Commands.{CommandOutcome};
 ghost use Rattle.aud_audit.specs.Lines.{IsOfAudit};

@@ -2,7 +2,7 @@
 
 ghost use Rattle.std.specs.Prelude.{◌≡◌, ◌<◌, ◌≤◌, ℕ, IfErr, IfOk, IfSome, OnOk, length};
 ghost use Rattle.aud_cli.specs.Line.{FactsSay, SetSays};
-ghost use Rattle.aud_cli.specs.Words.{IsAuditJob};
+ghost use Rattle.aud_cli.specs.Jobs.{IsAuditJob};
 ghost use Rattle.aud_findings.specs.Says.{AuditSays};
 ghost use Rattle.aud_findings.specs.Searches.{IsSearchOf, WasSearched, IsSearchWith};
 ghost use Rattle.aud_audit.specs.Lines.{AuditLine, AuditOutcome, IsAuditLine, IsOfAudit};

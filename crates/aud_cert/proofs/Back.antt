@@ -21,6 +21,7 @@ use Rattle.aud_cert.specs.CertText.{header_read, lines_read, headed, lines_heade
 use Rattle.aud_cert.specs.Written.{line_text, header_text, ended, cert_text, IsShort, HasShort, IsWithin}
 use Rattle.aud_cert.proofs.Bytes.{plain-escape, order-plain}
 use Rattle.aud_cert.proofs.LineBytes.{line-are_text, header-are_text, text-utf8, first-of}
+use Rattle.aud_cert.specs.Limits.{longest_cert_line}
 
 -- ---- the values of lines
 
@@ -75,7 +76,7 @@ judged (Same p q) short = rw (read-short p short.0, read-short q short.1) refl
 
 -- ---- the lines are read
 
-header-short : (n : ℕ) → n < 9223372036854775808 → nat_le (length (header_text n)) 65536 ≡ true
+header-short : (n : ℕ) → n < 9223372036854775808 → nat_le (length (header_text n)) longest_cert_line ≡ true
 header-short n h =
     let digits = length-decimal-le 20 n (omega arith) (omega arith) (omega arith) in
     let parts : length (header_text n) ≡ 8 + (length (decimal n) + 1) = omega (arith, length-append (decimal n) (codes "}")) in
@@ -83,14 +84,14 @@ header-short n h =
 
 pub line-back : (line : Line) → IsWithin line → line_read (line_text line) ≡ Ok line
 line-back line within =
-    let t : nat_le (length (line_text line)) 65536 ≡ true = grind (arith, within.text) in
+    let t : nat_le (length (line_text line)) longest_cert_line ≡ true = grind (arith, within.text) in
     let utf8 = text-utf8 (line_text line) (line-are_text line within.orders) in
     let same : read (line_text line) ≡ Some (line_data line) = ap read (sym (line-is line within.orders)) ∙ plain_reads (line_data line) (line-plain line) in
     rw (t, json_of-text (line_text line) utf8, same) (judged line within.orders)
 
 header-back : (n : ℕ) → n < 9223372036854775808 → header_read (header_text n) ≡ Ok n
 header-back n small =
-    let t : nat_le (length (header_text n)) 65536 ≡ true = header-short n small in
+    let t : nat_le (length (header_text n)) longest_cert_line ≡ true = header-short n small in
     let utf8 = text-utf8 (header_text n) (header-are_text n small) in
     let same : read (header_text n) ≡ Some (header_data n) = ap read (sym (header-is n)) ∙ plain_reads (header_data n) (header-plain n small) in
     let fits : nat_lt n 9223372036854775808 ≡ true = grind (arith, small) in

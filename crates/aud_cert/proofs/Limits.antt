@@ -6,7 +6,7 @@ use Rattle.std.proofs.lemmas.Fmt.{length-decimal-le}
 use Rattle.std.proofs.lemmas.List.Elements.{All-head, All-tail, All-cons, All-nil, Contains-push_cases}
 use Rattle.std.proofs.lemmas.Map.Steps.{length-le_from_distinct_below}
 use Rattle.aud_event.specs.Meanings.{PlanOf}
-use Rattle.aud_event.proofs.Rows.{below_most}
+use Rattle.aud_event.specs.Rows.{below_most}
 use Rattle.aud_base.proofs.Bools.{or_true, or_false, and_true, not_true, nat_eq-is}
 use Rattle.aud_history.specs.Histories.{History, is_in}
 use Rattle.aud_history.specs.FirstFault.{FitsPlan, IsWithinLimits}
@@ -23,9 +23,10 @@ use Rattle.aud_accept.specs.Acceptance.{prefix_in, IsAcceptedLine, AreAccepted}
 use Rattle.aud_cert.specs.Written.{prefix_text, IsShort, IsWithin}
 use Rattle.aud_cert.specs.Laws.{AcceptedReadsBack}
 use Rattle.aud_cert.proofs.Back.{certificates-read-back}
+use Rattle.aud_event.specs.Limits.{most_transactions}
 
 abbrev Low : Decision → Type 0
-Low d = d.tx < 4096
+Low d = d.tx < most_transactions
 
 -- # How long texts are
 
@@ -54,7 +55,7 @@ record IsSmall (p : List Decision) : Type 0 where
   ids : All Low p
   text : length (order_text p) ≤ 24580
 
-small-from_few : (p : List Decision) → All Low p → length p ≤ 4096 → IsSmall p
+small-from_few : (p : List Decision) → All Low p → length p ≤ most_transactions → IsSmall p
 small-from_few p low few = let long = order-length p low in record { ids = low; text = omega (arith, few, long) }
 
 short-from_small : (p : List Decision) → IsSmall p → IsShort p
@@ -96,11 +97,11 @@ within-small (Same p q) (small, other) =
 -- # How many transactions there are
 
 -- those of a history within the limits are in range
-low-in : (plan : PlanOf) (h : History) (t : ℕ) → All (FitsPlan plan) h → is_in h t ≡ true → t < 4096
+low-in : (plan : PlanOf) (h : History) (t : ℕ) → All (FitsPlan plan) h → is_in h t ≡ true → t < most_transactions
 low-in plan [] t fits there = absurd (cc)
 low-in plan (e ∷ h) t fits there =
     elim (or_true (nat_eq e.0 t) (is_in h t) there) [
-      | inl same ↦ subst (λ n. n < 4096) (nat_eq-is e.0 t same) (below_most plan.format e.0 (All-head (FitsPlan plan) e h fits).0)
+      | inl same ↦ subst (λ n. n < most_transactions) (nat_eq-is e.0 t same) (below_most plan.format e.0 (All-head (FitsPlan plan) e h fits).0)
       | inr later ↦ low-in plan h t (All-tail (FitsPlan plan) e h fits) later
     ]
 
@@ -115,9 +116,9 @@ distinct (t ∷ ts) differ =
     let both = and_true (not (list_any (nat_eq t) ts)) (are_different ts) differ in
     (apart t ts (not_true (list_any (nat_eq t) ts) both.0), distinct ts both.1)
 
-few-transactions : (plan : PlanOf) (h : History) → All (FitsPlan plan) h → length (transactions h) ≤ 4096
+few-transactions : (plan : PlanOf) (h : History) → All (FitsPlan plan) h → length (transactions h) ≤ most_transactions
 few-transactions plan h fits =
-    length-le_from_distinct_below (transactions h) 4096 (distinct (transactions h) (different-transactions h))
+    length-le_from_distinct_below (transactions h) most_transactions (distinct (transactions h) (different-transactions h))
     (λ t there. low-in plan h t fits (sym (any-transactions h t) ∙ there))
 
 -- # Accepted lines

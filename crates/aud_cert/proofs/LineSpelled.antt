@@ -7,6 +7,7 @@ use Rattle.aud_accept.specs.Acceptance.{elsewhere}
 use Rattle.aud_cert.specs.LineText.{Line, line_read}
 use Rattle.aud_cert.specs.Written.{line_text, HasShort}
 use Rattle.aud_cert.proofs.Back.{line-back}
+use Rattle.aud_cert.specs.Limits.{longest_cert_line}
 
 -- a line in memory of another kind has the same text, and is as short
 abbrev own : {X : Type 0} → CertLine X → Line
@@ -22,9 +23,9 @@ same-short (Kids p) short = short
 same-short (Silent p d) short = short
 same-short (Same p q) short = short
 
-pub line-spelled : {X : Type 0} (line : List ℕ) (o : Option (CertLine X)) → length line ≤ 65536 → IfSome o (λ l. line ≡ line_text l) → IfSome o HasShort →
+pub line-spelled : {X : Type 0} (line : List ℕ) (o : Option (CertLine X)) → length line ≤ longest_cert_line → IfSome o (λ l. line ≡ line_text l) → IfSome o HasShort →
     IfSome o (λ l. line_read line ≡ Ok (elsewhere l))
 line-spelled line None fits same short = tt
 line-spelled line (Some l) fits same short =
     let is = same ∙ same-text l in
-    ap line_read is ∙ line-back (own l) (record { orders = same-short l short; text = subst (λ s. length s ≤ 65536) is fits })
+    ap line_read is ∙ line-back (own l) (record { orders = same-short l short; text = subst (λ s. length s ≤ longest_cert_line) is fits })

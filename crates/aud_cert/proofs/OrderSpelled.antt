@@ -8,13 +8,14 @@ use Rattle.std.proofs.lemmas.List.Elements.{All-push}
 use Rattle.aud_witness.specs.declared.decision.Decision.{Decision}
 use Rattle.aud_text.specs.Orders.{order_text, decision_text}
 use Rattle.aud_text.proofs.OrderText.{join-more}
+use Rattle.aud_event.specs.Limits.{most_transactions}
 
 -- a digit by itself
 pub digit-alone : (text rest : List ℕ) (n : ℕ) → n < 10 → text ≡ (48 + n) ∷ rest → text ≡ decimal n ++ rest
 digit-alone text rest n low is = is ∙ ap (λ ds. ds ++ rest) (sym (decimal_digit n low))
 
 -- a digit after others
-pub digit-more : (text rest more : List ℕ) (n d : ℕ) → 0 < n → n < 4096 → d < 10 → text ≡ decimal n ++ rest → rest ≡ (48 + d) ∷ more → text ≡ decimal (n * 10 + d) ++ more
+pub digit-more : (text rest more : List ℕ) (n d : ℕ) → 0 < n → n < most_transactions → d < 10 → text ≡ decimal n ++ rest → rest ≡ (48 + d) ∷ more → text ≡ decimal (n * 10 + d) ++ more
 digit-more text rest more n d some low digit is next =
     let front : (n * 10 + d) / 10 ≡ n = omega arith in
     let last : (n * 10 + d) % 10 ≡ d = omega arith in
@@ -36,5 +37,5 @@ order-more text rest more ds new d some grown is next =
     is ∙ ap (λ t. order_text ds ++ t) next ∙ sym (append_assoc (order_text ds) (32 ∷ decision_text d) more)
     ∙ ap (λ t. t ++ more) (sym (order-grows ds d some) ∙ ap order_text (sym grown))
 
-pub low-more : (ds new : List Decision) (d : Decision) → new ≡ ds ++ d ∷ [] → All (λ e. e.tx < 4096) ds → d.tx < 4096 → All (λ e. e.tx < 4096) new
-low-more ds new d grown low small = subst (All (λ e. e.tx < 4096)) (sym grown) (All-push (λ e. e.tx < 4096) ds d low small)
+pub low-more : (ds new : List Decision) (d : Decision) → new ≡ ds ++ d ∷ [] → All (λ e. e.tx < most_transactions) ds → d.tx < most_transactions → All (λ e. e.tx < most_transactions) new
+low-more ds new d grown low small = subst (All (λ e. e.tx < most_transactions)) (sym grown) (All-push (λ e. e.tx < most_transactions) ds d low small)

@@ -8,6 +8,7 @@ use Rattle.aud_text.specs.Json.{Key, json_read, has_all, has_only, whole_at}
 use Rattle.aud_text.specs.Lines.{Filled, lines_of, filled_left, filled_lines}
 use Rattle.aud_cert.specs.declared.fault.CertTextFault.{CertTextFault}
 use Rattle.aud_cert.specs.LineText.{Line, line_read}
+use Rattle.aud_cert.specs.Limits.{longest_cert_line}
 
 -- ---- the header line
 
@@ -39,7 +40,7 @@ header_json (Ok d) = header_members d (as_object d)
 
 -- how many lines follow
 abbrev pub header_read : List ℕ → Result ℕ TextFault
-header_read line = header_json (json_read 65536 line)
+header_read line = header_json (json_read longest_cert_line line)
 
 -- ---- the whole text
 

@@ -1,3 +1,4 @@
+pub mod Limits
 pub mod Recorded
 pub mod LineText
 pub mod CertText

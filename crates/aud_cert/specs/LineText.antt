@@ -13,6 +13,7 @@ use Rattle.aud_accept.specs.declared.cert.CertLine.TheVariants.{Kids, Silent, Sa
 use Rattle.aud_cert.specs.declared.line.OrderTexts.{OrderTexts}
 use Rattle.aud_cert.specs.declared.reason.Reason.{Reason}
 use Rattle.aud_cert.specs.declared.reason.Reason.TheVariants as by
+use Rattle.aud_cert.specs.Limits.{longest_cert_line}
 
 -- a line that is read, its lists in memory of the program's own allocator
 abbrev pub Line : Type 0
@@ -128,4 +129,4 @@ line_json (Ok e) = line_judged e
 
 -- what a line of at most 65,536 bytes says
 abbrev pub line_read : List ℕ → Result Line TextFault
-line_read line = line_json (json_read 65536 line)
+line_read line = line_json (json_read longest_cert_line line)

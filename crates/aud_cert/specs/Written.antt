@@ -7,6 +7,8 @@ use Rattle.aud_cert.specs.LineText.{Line}
 use Rattle.aud_cert.specs.CertText.{cert_read}
 use Rattle.aud_accept.specs.declared.cert.CertLine.{CertLine}
 use Rattle.aud_accept.specs.declared.cert.CertLine.TheVariants.{Kids, Silent, Same}
+use Rattle.aud_cert.specs.Limits.{longest_cert_line}
+use Rattle.aud_text.specs.Limits.{longest_order}
 
 -- the prefix, after the word before it
 abbrev pub prefix_text : List Decision → List ℕ
@@ -42,7 +44,7 @@ cert_text lines = ended (header_text (length lines)) ++ flat_map (λ l. ended (l
 -- each id is below 4,096, and the order text is not too long
 pub record IsShort (p : List Decision) : Type 0 where
   pub ids : All (λ d. d.tx < most_transactions) p
-  pub text : length (order_text p) ≤ 32768
+  pub text : length (order_text p) ≤ longest_order
 
 abbrev pub HasShort : {X : Type 0} → CertLine X → Type 0
 HasShort (Kids p) = IsShort p
@@ -52,7 +54,7 @@ HasShort (Same p q) = IsShort p × IsShort q
 -- the line is within the limits
 pub record IsWithin {X : Type 0} (line : CertLine X) : Type 0 where
   pub orders : HasShort line
-  pub text : length (line_text line) ≤ 65536
+  pub text : length (line_text line) ≤ longest_cert_line
 
 -- a text reads as the lines, where each of them is within the limits
 abbrev pub ReadsBack : List Line → List ℕ → Type 0

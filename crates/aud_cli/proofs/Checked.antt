@@ -10,6 +10,7 @@ use Rattle.aud_text.specs.declared.fault.TextFault.{TextFault}
 use Rattle.aud_text.specs.Json.{json_read, has_all, has_only}
 use Rattle.aud_text.specs.FactText.{fact_read, judged_json, judged_members, fact_or_word, fact_of, checked, shape_of, required, allowed, types_fit}
 use Rattle.aud_cli.specs.Inputs.{reported_at, fact_at}
+use Rattle.aud_text.specs.Limits.{longest_line}
 
 module _ (plan : PlanOf) (g : Fact) where
   by_check : (f : Fact) (o : Option FactFault) → first_fact_fault plan f ≡ o → checked f o ≡ Ok g → first_fact_fault plan g ≡ None
@@ -38,4 +39,4 @@ module _ (plan : PlanOf) (g : Fact) where
   reported n (Ok f) e = cc
 
   pub read_passes : (n : ℕ) (line : List ℕ) → fact_at plan n line ≡ Ok g → first_fact_fault plan g ≡ None
-  read_passes n line e = by_json (json_read 4096 line) (reported n (fact_read plan line) e)
+  read_passes n line e = by_json (json_read longest_line line) (reported n (fact_read plan line) e)

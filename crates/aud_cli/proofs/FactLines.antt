@@ -19,6 +19,7 @@ use Rattle.aud_text.specs.declared.fault.TextFault.{TextFault}
 use Rattle.aud_text.specs.Json.{Key, json_read, has, has_all, has_only, is_one_of, word_at}
 use Rattle.aud_text.specs.FactText.{fact_read, judged_json, judged_members, judged_as, shape_of, shape_of_ev, shape_of_event, argument_keys, operation_keys, all_keys, required, allowed}
 use Rattle.aud_cli.specs.Certificates.{has_cert, begins_certificate}
+use Rattle.aud_text.specs.Limits.{longest_line}
 
 module _ (x : Key) (ks : List Key) (other : is_one_of ks x ≡ false) where
   -- the key of a member that is one of the keys is not that key
@@ -97,4 +98,4 @@ module _ (plan : PlanOf) (f : Fact) where
   by_json (Ok d) e = by_data d e
 
   pub begins_none : (line : List ℕ) → fact_read plan line ≡ Ok f → begins_certificate line ≡ false
-  begins_none line e = by_json (json_read 4096 line) e
+  begins_none line e = by_json (json_read longest_line line) e

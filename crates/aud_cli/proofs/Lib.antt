@@ -6,5 +6,4 @@ pub mod FactLines
 pub mod HistoryLemmas
 pub mod WorkedLines
 pub mod Ends
-pub mod Ranges
 pub mod Consuming

@@ -6,6 +6,7 @@ use Rattle.serde_json.specs.Find.{as_object}
 use Rattle.aud_text.specs.declared.fault.TextFault.{TextFault}
 use Rattle.aud_text.specs.Json.{json_read, has}
 use Rattle.aud_text.specs.Lines.{lines_of}
+use Rattle.aud_text.specs.Limits.{longest_line}
 
 -- an object with the key `cert`
 abbrev pub has_cert : Result Data TextFault → Bool
@@ -14,7 +15,7 @@ has_cert (Ok d) = is_some (as_object d) && has (codes "cert") d
 
 -- the line of at most 4,096 bytes begins a certificate
 abbrev pub begins_certificate : List ℕ → Bool
-begins_certificate line = has_cert (json_read 4096 line)
+begins_certificate line = has_cert (json_read longest_line line)
 
 -- how many lines stand before the first that begins a certificate
 abbrev pub certificate_place : List ℕ → Option ℕ

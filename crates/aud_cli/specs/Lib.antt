@@ -1,5 +1,4 @@
-pub mod CommandLine
-pub mod Words
+pub mod Jobs
 pub mod Inputs
 pub mod Certificates
 pub mod Outcomes

@@ -1,9 +1,8 @@
 //! How a run ends.
 
 ghost use Rattle.std.specs.Prelude.{◌≡◌};
-ghost use Rattle.aud_cli.specs.Outcomes.{ended_by, exit_status, exit_status_of, message, verdict_ends};
+ghost use Rattle.aud_cli.specs.Outcomes.{ended_by, exit_status_of, message, verdict_ends};
 
-use crate::job::Usage;
 use aud_know::Verdict;
 use aud_report::Said;
 
@@ -59,19 +58,6 @@ impl Ended {
             Ended::Refused => 3,
             Ended::Failed(_) => 4,
         }
-    }
-}
-
-/// The exit status where the words are not understood.
-const USAGE: u8 = 64;
-
-/// The exit status of the program: 0 to 4 by how the run ended, 64 where the words asked for none.
-pub fn exit_status(answer: &Result<Ended, Usage>) -> u8
-    ensures { result ≡ exit_status answer.now }
-{
-    match answer {
-        Ok(ended) => ended.status(),
-        Err(_) => USAGE,
     }
 }
 

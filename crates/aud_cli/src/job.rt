@@ -1,8 +1,5 @@
 //! What the program may be asked for.
 
-ghost use Rattle.std.specs.Prelude.{◌≡◌};
-ghost use Rattle.aud_cli.specs.Words.{usage_text};
-
 /// A run over the lines of an input.
 #[derive(Debug, Drop)]
 pub enum Job {
@@ -33,24 +30,4 @@ pub enum Command {
     Lines(Job),
     /// An audit of the lines of the input.
     Audit(AuditJob),
-}
-
-/// Why the words ask for nothing, or that their help is asked for.
-#[derive(Debug, Drop)]
-pub enum Usage {
-    /// What the user reads.
-    Printed(String),
-    OutOfMemory,
-}
-
-impl Usage {
-    /// The text for the user, with its line feeds.
-    pub fn text(&self) -> &str
-        ensures { result.now ≡ usage_text self.now }
-    {
-        match self {
-            Usage::Printed(text) => text.as_str(),
-            Usage::OutOfMemory => "opaq: out of memory\n",
-        }
-    }
 }

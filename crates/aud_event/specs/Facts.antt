@@ -1,5 +1,5 @@
 -- Which fault is reported of a fact that does not fit its plan.
-use Rattle.std.specs.Prelude.{ℕ, Bool, ◌&&◌, if◌then◌else◌, List, Option, Some, None, nat_lt, nat_le, slice_get}
+use Rattle.std.specs.Prelude.{ℕ, Bool, ◌&&◌, if◌then◌else◌, Option, Some, None, nat_lt, nat_le, slice_get}
 use Rattle.aud_event.specs.declared.object.OpName.{OpName}
 use Rattle.aud_event.specs.declared.signature.Format.{Format}
 use Rattle.aud_event.specs.declared.fact.Event.{Event}

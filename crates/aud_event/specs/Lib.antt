@@ -3,6 +3,7 @@ pub mod Meanings
 pub mod Plans
 pub mod Facts
 pub mod FactRank
+pub mod Rows
 pub mod Exactness
 pub mod Laws
 pub mod Limits

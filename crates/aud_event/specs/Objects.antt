@@ -1,5 +1,5 @@
--- Kinds of objects, their operations and the answers that each can have: two tables, and what follows from their rows.
-use Rattle.std.specs.Prelude.{ℤ, Bool, true, false, ◌&&◌, Option, Some, None, int_le}
+-- Kinds of objects, their operations, the words for them and the answers that each can have: tables, and what follows from their rows.
+use Rattle.std.specs.Prelude.{ℕ, Bool, true, false, ◌&&◌, List, Option, Some, None, int_le, codes, bytes_eq, if◌then◌else◌}
 use Rattle.aud_event.specs.declared.object.ObjKind.{ObjKind}
 use Rattle.aud_event.specs.declared.object.ObjKind.TheVariants.{Register, Counter, SetOf, Queue, MapOf}
 use Rattle.aud_event.specs.declared.object.Op.{Op}
@@ -60,6 +60,60 @@ row_of_kind Counter = kind_row opens.InRange One
 row_of_kind SetOf = kind_row opens.Empty One
 row_of_kind Queue = kind_row opens.Empty One
 row_of_kind MapOf = kind_row opens.Empty Two
+
+-- the word of an operation
+abbrev pub word_of_op : OpName → List ℕ
+word_of_op word.Read = codes "read"
+word_of_op word.Write = codes "write"
+word_of_op word.Inc = codes "inc"
+word_of_op word.Dec = codes "dec"
+word_of_op word.Get = codes "get"
+word_of_op word.Add = codes "add"
+word_of_op word.Remove = codes "remove"
+word_of_op word.Contains = codes "contains"
+word_of_op word.Enq = codes "enq"
+word_of_op word.Deq = codes "deq"
+word_of_op word.Plus = codes "plus"
+word_of_op word.Put = codes "put"
+word_of_op word.Look = codes "look"
+word_of_op word.Del = codes "del"
+
+-- the operation of a word, if it is the word of one
+abbrev pub op_of_word : List ℕ → Option OpName
+op_of_word w =
+    if bytes_eq w (codes "read") then Some word.Read
+    else (if bytes_eq w (codes "write") then Some word.Write
+    else (if bytes_eq w (codes "inc") then Some word.Inc
+    else (if bytes_eq w (codes "dec") then Some word.Dec
+    else (if bytes_eq w (codes "get") then Some word.Get
+    else (if bytes_eq w (codes "add") then Some word.Add
+    else (if bytes_eq w (codes "remove") then Some word.Remove
+    else (if bytes_eq w (codes "contains") then Some word.Contains
+    else (if bytes_eq w (codes "enq") then Some word.Enq
+    else (if bytes_eq w (codes "deq") then Some word.Deq
+    else (if bytes_eq w (codes "plus") then Some word.Plus
+    else (if bytes_eq w (codes "put") then Some word.Put
+    else (if bytes_eq w (codes "look") then Some word.Look
+    else (if bytes_eq w (codes "del") then Some word.Del
+    else None)))))))))))))
+
+-- the word of a kind
+abbrev pub word_of_kind : ObjKind → List ℕ
+word_of_kind Register = codes "register"
+word_of_kind Counter = codes "counter"
+word_of_kind SetOf = codes "set"
+word_of_kind Queue = codes "queue"
+word_of_kind MapOf = codes "map"
+
+-- the kind of a word, if it is the word of one
+abbrev pub kind_of_word : List ℕ → Option ObjKind
+kind_of_word w =
+    if bytes_eq w (codes "register") then Some Register
+    else (if bytes_eq w (codes "counter") then Some Counter
+    else (if bytes_eq w (codes "set") then Some SetOf
+    else (if bytes_eq w (codes "queue") then Some Queue
+    else (if bytes_eq w (codes "map") then Some MapOf
+    else None))))
 
 -- ---- an operation is its name and its arguments
 

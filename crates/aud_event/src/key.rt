@@ -1,6 +1,7 @@
 //! The orders of operations, answers, events and facts tie only what is equal.
 
-ghost use Rattle.aud_event.specs.Exactness.{op_exact, op_name_exact, answer_exact, event_exact, record_exact, end_mark_exact, fact_exact};
+ghost use Rattle.aud_event.specs.Rows.{op_exact, op_name_exact};
+ghost use Rattle.aud_event.specs.Exactness.{answer_exact, event_exact, record_exact, end_mark_exact, fact_exact};
 
 use crate::fact::{EndMark, Event, Fact, Record};
 use crate::object::{Answer, Op, OpName};

@@ -9,8 +9,7 @@ ghost use Rattle.aud_event.specs.declared.object.ObjKind.{ObjKind};
 ghost use Rattle.aud_event.specs.declared.object.Op.{Op};
 ghost use Rattle.aud_event.specs.declared.signature.Args.{Args};
 ghost use Rattle.aud_event.specs.Laws.{NumberIsOwn, NumberedIsThere, NoFormatHasMore};
-ghost use Rattle.aud_event.specs.Objects.{name_of, args_of, op_with, signature_of, takes_kind};
-ghost use Rattle.aud_event.specs.Words.{word_of_op, op_of_word, word_of_kind, kind_of_word};
+ghost use Rattle.aud_event.specs.Objects.{name_of, args_of, op_with, signature_of, takes_kind, word_of_op, op_of_word, word_of_kind, kind_of_word};
 
 /// The constants of the code are the limits of the definitions, which are figures.
 pub fn limits_are_the_format()

@@ -12,7 +12,6 @@ pub mod limits;
 mod object;
 mod plan;
 mod signature;
-mod words;
 
 pub use aud_base::{Dup, Key, OutOfMemory, Rank};
 pub use fact::{EndMark, Event, Fact, FactFault, Record};

@@ -1,12 +1,13 @@
-//! The tables of operations and of kinds: a row for each, from which all else follows.
+//! What the rows of operations and of kinds say, and what follows from them.
 
 ghost use Rattle.std.specs.Prelude.{◌≡◌};
 ghost use Rattle.aud_event.specs.declared.signature.Format.TheVariants.{One, Two};
 ghost use Rattle.aud_event.specs.Limits.{transactions};
-ghost use Rattle.aud_event.specs.Objects.{signature_of, row, row_of_kind, kind_row, has_since, args_fit};
+ghost use Rattle.aud_event.specs.Objects.{row, kind_row, has_since, args_fit, observes, is_observing, is_of_kind, is_answer_of, has_fitting_args};
+ghost use Rattle.aud_event.specs.Words.{op_of_word_in, kind_of_word_in};
 
 use crate::limits::{GREATEST_ADDEND, LEAST_ADDEND, TRANSACTIONS, TRANSACTIONS_ONE};
-use crate::object::{ObjKind, OpName};
+use crate::object::{Answer, ObjKind, Op, OpName};
 
 /// The formats of texts. The second has what the first has, and more kinds, operations and transactions.
 #[derive(Clone, Copy, Debug, PartialEq, Eq, PartialOrd, Ord)]
@@ -78,7 +79,7 @@ pub struct KindRow {
 }
 
 /// A row of the first format.
-fn one(kind: ObjKind, takes: Takes, gives: Gives, observes: bool) -> Signature
+pub(crate) fn one(kind: ObjKind, takes: Takes, gives: Gives, observes: bool) -> Signature
     ensures { result ≡ row kind takes gives observes One }
 {
     Signature {
@@ -91,7 +92,7 @@ fn one(kind: ObjKind, takes: Takes, gives: Gives, observes: bool) -> Signature
 }
 
 /// A row that came with the second format.
-fn two(kind: ObjKind, takes: Takes, gives: Gives, observes: bool) -> Signature
+pub(crate) fn two(kind: ObjKind, takes: Takes, gives: Gives, observes: bool) -> Signature
     ensures { result ≡ row kind takes gives observes Two }
 {
     Signature {
@@ -103,47 +104,80 @@ fn two(kind: ObjKind, takes: Takes, gives: Gives, observes: bool) -> Signature
     }
 }
 
-impl OpName {
-    /// The operation's row.
-    pub fn signature(&self) -> Signature
-        ensures { result ≡ signature_of self.now }
-    {
-        match self {
-            OpName::Read => one(ObjKind::Register, Takes::Nothing, Gives::Int, true),
-            OpName::Write => one(ObjKind::Register, Takes::Number, Gives::Done, false),
-            OpName::Inc => one(ObjKind::Counter, Takes::Nothing, Gives::Done, false),
-            OpName::Dec => one(ObjKind::Counter, Takes::Nothing, Gives::Done, false),
-            OpName::Get => one(ObjKind::Counter, Takes::Nothing, Gives::Int, true),
-            OpName::Add => one(ObjKind::SetOf, Takes::Number, Gives::Flag, false),
-            OpName::Remove => one(ObjKind::SetOf, Takes::Number, Gives::Flag, false),
-            OpName::Contains => one(ObjKind::SetOf, Takes::Number, Gives::Flag, true),
-            OpName::Enq => one(ObjKind::Queue, Takes::Number, Gives::Done, false),
-            OpName::Deq => one(ObjKind::Queue, Takes::Nothing, Gives::IntOrEmpty, false),
-            OpName::Plus => two(ObjKind::Counter, Takes::Addend, Gives::Done, false),
-            OpName::Put => two(ObjKind::MapOf, Takes::Pair, Gives::Done, false),
-            OpName::Look => two(ObjKind::MapOf, Takes::Number, Gives::IntOrEmpty, true),
-            OpName::Del => two(ObjKind::MapOf, Takes::Number, Gives::Flag, false),
-        }
-    }
-}
-
-fn kind_row(opens: Opens, since: Format) -> KindRow
+/// A row of a kind.
+pub(crate) fn kind_row(opens: Opens, since: Format) -> KindRow
     ensures { result ≡ kind_row opens since }
 {
     KindRow { opens, since }
 }
 
-impl ObjKind {
-    /// The kind's row.
-    pub fn row(&self) -> KindRow
-        ensures { result ≡ row_of_kind self.now }
+impl Op {
+    /// Whether the operation leaves every state as it is.
+    pub fn observes(&self) -> bool
+        ensures { result ≡ is_observing self.now }
     {
-        match self {
-            ObjKind::Register => kind_row(Opens::Anywhere, Format::One),
-            ObjKind::Counter => kind_row(Opens::InRange, Format::One),
-            ObjKind::SetOf => kind_row(Opens::Empty, Format::One),
-            ObjKind::Queue => kind_row(Opens::Empty, Format::One),
-            ObjKind::MapOf => kind_row(Opens::Empty, Format::Two),
+        self.name().observes()
+    }
+
+    /// Whether the arguments are such as the operation takes: what is added to a counter at once is from -2^31 to 2^31.
+    pub fn has_fitting_args(&self) -> bool
+        ensures { result ≡ has_fitting_args self.now }
+    {
+        self.args().fit(self.name().signature().takes)
+    }
+}
+
+impl OpName {
+    /// Whether the operation leaves every state as it is.
+    pub fn observes(&self) -> bool
+        ensures { result ≡ observes self.now }
+    {
+        self.signature().observes
+    }
+
+    /// Whether objects of the kind have the operation.
+    pub fn is_of(&self, kind: ObjKind) -> bool
+        ensures { result ≡ is_of_kind kind self.now }
+    {
+        self.signature().kind == kind
+    }
+
+    /// Whether the operation can have the answer.
+    pub fn can_answer(&self, answer: Answer) -> bool
+        ensures { result ≡ is_answer_of self.now answer }
+    {
+        match (self.signature().gives, answer) {
+            (Gives::Done, Answer::Done) => true,
+            (Gives::Int | Gives::IntOrEmpty, Answer::Int(_)) => true,
+            (Gives::Flag, Answer::Flag(_)) => true,
+            (Gives::IntOrEmpty, Answer::Empty) => true,
+            _ => false,
+        }
+    }
+
+    /// The operation that has the word in the format, if one has it.
+    pub fn from_word_in(format: Format, word: &str) -> Option<OpName>
+        ensures { result ≡ op_of_word_in format word.now }
+    {
+        let name = OpName::from_word(word)?;
+        if format.has(name.signature().since) {
+            Some(name)
+        } else {
+            None
+        }
+    }
+}
+
+impl ObjKind {
+    /// The kind that has the word in the format, if one has it.
+    pub fn from_word_in(format: Format, word: &str) -> Option<ObjKind>
+        ensures { result ≡ kind_of_word_in format word.now }
+    {
+        let kind = ObjKind::from_word(word)?;
+        if format.has(kind.row().since) {
+            Some(kind)
+        } else {
+            None
         }
     }
 }

@@ -6,7 +6,7 @@ use Rattle.aud_facts.specs.Sets.{FactsOf, IsSealedWith}
 use Rattle.aud_history.specs.WellFormed.{IsWellFormed}
 use Rattle.aud_witness.specs.declared.decision.Decision.{Decision}
 use Rattle.aud_order.specs.Shapes.{ShapeOf, objects_of, history_of}
-use Rattle.aud_cover.specs.Closings.{IsCovered}
+use Rattle.aud_know.specs.Closings.{IsCovered}
 use Rattle.aud_search.specs.Searches.{SpentBy}
 use Rattle.aud_know.specs.Known.{KnowledgeOf}
 use Rattle.aud_know.specs.Verdicts.{FactsReportAtOnce}
@@ -17,9 +17,13 @@ use Rattle.aud_findings.specs.declared.searching.Search.{Search}
 
 -- # The tasks
 
+-- of a task, where the words say none
+abbrev pub usual_budget : ℕ
+usual_budget = 65536
+
 -- the budget of a task
 abbrev pub task_budget : Option ℕ → ℕ
-task_budget None = 65536
+task_budget None = usual_budget
 task_budget (Some b) = b
 
 -- the shape is of these facts, which are sealed and whose history is well-formed, and these are its tasks at a depth of two

@@ -2,17 +2,14 @@
 use Rattle.std.specs.Prelude.{◌≡◌, ℕ, suc, zero, ◌+◌, ◌-◌, false, List, [], ◌∷◌, map, Some, slice_get, refl}
 use Rattle.std.proofs.Common.{subst, arith}
 use Rattle.aud_event.specs.Meanings.{Declared, PlanOf}
-use Rattle.aud_event.specs.declared.object.ObjKind.{ObjKind}
-use Rattle.aud_event.specs.declared.object.ObjKind.TheVariants as kind
-use Rattle.aud_event.specs.declared.object.Op.{Op}
-use Rattle.aud_event.specs.declared.object.Op.TheVariants.{Write, Inc, Dec, Add, Remove, Enq, Deq, Plus, Put, Del}
 use Rattle.aud_event.specs.declared.fact.Event.{Event}
 use Rattle.aud_event.specs.declared.fact.Event.TheVariants.{Inv, Ret}
-use Rattle.aud_object.specs.Objects.{ObjState, register, counter, set_of, queue, map_of, after_op, opening_of, on_object}
+use Rattle.aud_object.specs.Objects.{ObjState, after_op, opening_of, on_object}
 use Rattle.aud_object.specs.Executions.{state_after, states_after_from}
 use Rattle.aud_object.specs.Replayed.{executed, replayed}
 use Rattle.aud_object.specs.declared.execution.Execution.{Execution}
-use Rattle.aud_object.proofs.Keeping.{Ascend-without}
+use Rattle.aud_object.specs.Proper.{IsProper}
+use Rattle.aud_object.proofs.Proper.{proper-after, proper-opening}
 use Rattle.aud_history.specs.Histories.{History}
 use Rattle.aud_history.specs.WellFormed.{IsWellFormed}
 use Rattle.aud_history.specs.FirstFault.{IsWithinLimits}
@@ -29,59 +26,30 @@ use Rattle.aud_first.specs.Harmless.{IsHarmless, HarmlessMovesForward}
 use Rattle.aud_first.specs.declared.way.Way.{Way}
 use Rattle.aud_first.proofs.Counting.{reach-on_one}
 use Rattle.aud_first.proofs.Acting.{Related, RunAlike, ran-on, ran-back, related-run}
-use Rattle.aud_first.proofs.Membering.{Ascending-with, Ascending-without}
-use Rattle.aud_first.proofs.Mapping.{Ascend-put}
-use Rattle.aud_first.proofs.Waying.{IsTidy, BeforeBy, AfterBy, ThenBy, start-by, turn-by, less-by, before-by, after-by}
+use Rattle.aud_first.proofs.Waying.{BeforeBy, AfterBy, ThenBy, start-by, turn-by, less-by, before-by, after-by}
 use Rattle.aud_first.proofs.Exchanging.{moves-forward, moving-is-enough}
 
 -- # Sets and maps ascend
 
-tidy-op : (s : ObjState) (op : Op) → IsTidy s → IsTidy (after_op s op)
-tidy-op (register v) (Write w) tidy = tt
-tidy-op (register v) _ tidy = tt
-tidy-op (counter v) Inc tidy = tt
-tidy-op (counter v) Dec tidy = tt
-tidy-op (counter v) (Plus k) tidy = tt
-tidy-op (counter v) _ tidy = tt
-tidy-op (set_of s) (Add v) tidy = Ascending-with v s tidy
-tidy-op (set_of s) (Remove v) tidy = Ascending-without v s tidy
-tidy-op (set_of s) _ tidy = tidy
-tidy-op (queue q) (Enq v) tidy = tt
-tidy-op (queue q) Deq tidy = tt
-tidy-op (queue q) _ tidy = tt
-tidy-op (map_of m) (Put k v) tidy = Ascend-put m k v tidy
-tidy-op (map_of m) (Del k) tidy = Ascend-without m k tidy
-tidy-op (map_of m) _ tidy = tidy
+proper-events : (s : ObjState) (es : List Event) → IsProper s → IsProper (state_after s es)
+proper-events s [] proper = proper
+proper-events s (Inv ob op ∷ Ret other name answer ∷ es) proper = proper-events (after_op s op) es (proper-after s op proper)
+proper-events s _ proper = proper
 
-tidy-events : (s : ObjState) (es : List Event) → IsTidy s → IsTidy (state_after s es)
-tidy-events s [] tidy = tidy
-tidy-events s (Inv ob op ∷ Ret other name answer ∷ es) tidy = tidy-events (after_op s op) es (tidy-op s op tidy)
-tidy-events s _ tidy = tidy
-
-tidy-from : (first : ℕ) (ss : List ObjState) (es : List Event) → ((k : ℕ) (s : ObjState) → slice_get ss k ≡ Some s → IsTidy s) → (k : ℕ) (s : ObjState) → slice_get (states_after_from first ss es) k ≡ Some s → IsTidy s
-tidy-from first [] es tidy k s at = absurd (cc)
-tidy-from first (z ∷ ss) es tidy zero s at =
+proper-from : (first : ℕ) (ss : List ObjState) (es : List Event) → ((k : ℕ) (s : ObjState) → slice_get ss k ≡ Some s → IsProper s) → (k : ℕ) (s : ObjState) → slice_get (states_after_from first ss es) k ≡ Some s → IsProper s
+proper-from first [] es proper k s at = absurd (cc)
+proper-from first (z ∷ ss) es proper zero s at =
     let same : state_after z (on_object first es) ≡ s = cc in
-    subst (λ y. IsTidy y) same (tidy-events z (on_object first es) (tidy zero z refl))
-tidy-from first (z ∷ ss) es tidy (suc k) s at = tidy-from (suc first) ss es (λ j y here. tidy (suc j) y here) k s at
+    subst (λ y. IsProper y) same (proper-events z (on_object first es) (proper zero z refl))
+proper-from first (z ∷ ss) es proper (suc k) s at = proper-from (suc first) ss es (λ j y here. proper (suc j) y here) k s at
 
-tidy-opening : (d : Declared) → IsTidy (opening_of d)
-tidy-opening d = by d.kind
-  where
-    by : (k : ObjKind) → IsTidy (opening_of (record d { kind = k }))
-    by kind.Register = tt
-    by kind.Counter = tt
-    by kind.SetOf = tt
-    by kind.Queue = tt
-    by kind.MapOf = tt
+proper-openings : (objects : List Declared) (k : ℕ) (s : ObjState) → slice_get (map opening_of objects) k ≡ Some s → IsProper s
+proper-openings [] k s at = absurd (cc)
+proper-openings (d ∷ objects) zero s at = let same : opening_of d ≡ s = cc in subst (λ y. IsProper y) same (proper-opening d)
+proper-openings (d ∷ objects) (suc k) s at = proper-openings objects k s at
 
-tidy-openings : (objects : List Declared) (k : ℕ) (s : ObjState) → slice_get (map opening_of objects) k ≡ Some s → IsTidy s
-tidy-openings [] k s at = absurd (cc)
-tidy-openings (d ∷ objects) zero s at = let same : opening_of d ≡ s = cc in subst (λ y. IsTidy y) same (tidy-opening d)
-tidy-openings (d ∷ objects) (suc k) s at = tidy-openings objects k s at
-
-tidy-reached : (objects : List Declared) (h : History) (p : List Decision) (ob : ℕ) (s : ObjState) → slice_get (reached objects h p) ob ≡ Some s → IsTidy s
-tidy-reached objects h p ob s at = tidy-from 0 (map opening_of objects) (kept h p) (tidy-openings objects) ob s at
+proper-reached : (objects : List Declared) (h : History) (p : List Decision) (ob : ℕ) (s : ObjState) → slice_get (reached objects h p) ob ≡ Some s → IsProper s
+proper-reached objects h p ob s at = proper-from 0 (map opening_of objects) (kept h p) (proper-openings objects) ob s at
 
 -- # The exchange
 
@@ -106,7 +74,7 @@ module _ (objects : List Declared) (h : History) (p : List Decision) (t : ℕ) (
   starts after e ob a at =
       let (b, (there, went)) = ran-on ob (row_of h t).block.executions (reached objects h p) after a e at in
       let fits = (harmless ob).1.fits a at in
-      (b, (there, (start-by (way ob) (own ob) (reach_of_all h) a b (tidy-reached objects h p ob a at) fits went, (a, fits))))
+      (b, (there, (start-by (way ob) (own ob) (reach_of_all h) a b (proper-reached objects h p ob a at) fits went, (a, fits))))
 
   comes : (d : Decision) → MayComeBefore h p t d → RunsAlike h Before d
   comes d may n s u after related e = go d.fate (λ ob. (harmless ob).1.passes d may)

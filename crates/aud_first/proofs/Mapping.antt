@@ -4,15 +4,16 @@ use Rattle.std.specs.Ordering.{int_eq}
 use Rattle.std.proofs.Common.{sym, ◌∙◌, ap, subst, cond, inl, inr, arith}
 use Rattle.std.proofs.lemmas.Grind.{common_steps}
 use Rattle.aud_event.specs.declared.object.Op.{Op}
-use Rattle.aud_event.specs.declared.object.Op.TheVariants.{Write, Inc, Dec, Add, Remove, Enq, Deq, Plus, Put, Look, Del}
+use Rattle.aud_event.specs.declared.object.Op.TheVariants.{Inc, Put, Look, Del}
 use Rattle.aud_event.specs.declared.object.Answer.{Answer}
 use Rattle.aud_event.specs.declared.object.Answer.TheVariants.{Int, Flag, Empty}
 use Rattle.aud_base.proofs.Bools.{split, or_false, and_true, nat_eq-is}
-use Rattle.aud_object.specs.Entries.{value_at, with_entry, without_entry, AreAbove, Ascend}
-use Rattle.aud_object.specs.Objects.{ObjState, register, counter, set_of, queue, map_of, found, answer_of, after_op}
+use Rattle.aud_object.specs.Entries.{value_at, with_entry, without_entry, Ascend}
+use Rattle.aud_object.specs.Objects.{ObjState, map_of, found, answer_of, after_op}
 use Rattle.aud_object.specs.declared.execution.Execution.{Execution}
-use Rattle.aud_object.proofs.Ints.{eq-is, above, eq-itself}
+use Rattle.aud_object.proofs.Ints.{eq-is, eq-itself}
 use Rattle.aud_object.proofs.Keeping.{AreAbove-trans, value-below, Ascend-without}
+use Rattle.aud_object.proofs.Proper.{value-with, value-without, keys-with}
 use Rattle.aud_first.specs.Deeds.{ran, first_of_two, is_of_map, on_one, deed_of}
 use Rattle.aud_first.specs.Keys.{IsSight, sight_by, entry_by, sight, entry, entered_by, are_apart, Avoids, key_of}
 use Rattle.aud_first.specs.declared.entry.Sight.{Sight}
@@ -21,32 +22,6 @@ use Rattle.aud_first.proofs.Acting.{ran-step, ran-cons}
 use Rattle.aud_first.proofs.Membering.{stands, stands-then, none-first}
 
 -- # What is under a key
-
-put-value : {X : Type 0} (es : List (ℤ × X)) (k j : ℤ) (v : X) → value_at (with_entry es k v) j ≡ cond (int_eq j k) (Some v) (value_at es j)
-put-value [] k j v = refl
-put-value (e ∷ es) k j v = grind (arith, common_steps, put-value es k j v, eq-is k e.0, eq-is j k, eq-is j e.0)
-
-take-value : {X : Type 0} (es : List (ℤ × X)) (k j : ℤ) → Ascend es → value_at (without_entry es k) j ≡ cond (int_eq j k) None (value_at es j)
-take-value [] k j h = grind (arith, common_steps)
-take-value (e ∷ es) k j h = grind (arith, common_steps, take-value es k j h.1, value-below e.0 es h.0, eq-is k e.0, eq-is j k, eq-is j e.0)
-
-AreAbove-put : {X : Type 0} (j k : ℤ) (es : List (ℤ × X)) (v : X) → int_lt j k ≡ true → AreAbove j es → AreAbove j (with_entry es k v)
-AreAbove-put j k [] v l h = (l, tt)
-AreAbove-put j k (e ∷ es) v l h = go (AreAbove-put j k es v l h.1) (int_lt k e.0) (int_eq k e.0)
-  where
-    go : AreAbove j (with_entry es k v) → (a b : Bool) → AreAbove j (cond a ((k, v) ∷ e ∷ es) (cond b ((e.0, v) ∷ es) (e ∷ with_entry es k v)))
-    go more true b = (l, h)
-    go more false true = h
-    go more false false = (h.0, more)
-
-pub Ascend-put : {X : Type 0} (es : List (ℤ × X)) (k : ℤ) (v : X) → Ascend es → Ascend (with_entry es k v)
-Ascend-put [] k v h = (tt, tt)
-Ascend-put (e ∷ es) k v h = go (Ascend-put es k v h.1) (int_lt k e.0) refl (int_eq k e.0) refl
-  where
-    go : Ascend (with_entry es k v) → (a : Bool) → int_lt k e.0 ≡ a → (b : Bool) → int_eq k e.0 ≡ b → Ascend (cond a ((k, v) ∷ e ∷ es) (cond b ((e.0, v) ∷ es) (e ∷ with_entry es k v)))
-    go more true less b is = ((less, AreAbove-trans k e.0 es less h.0), h)
-    go more false less true is = h
-    go more false less false is = (AreAbove-put e.0 k es v (above k e.0 less (let flip : int_eq e.0 k ≡ false = grind (arith, common_steps, is) in flip)) h.0, more)
 
 -- entries that ascend are the same where the same is under each key
 pub entries-same : {X : Type 0} (es fs : List (ℤ × X)) → Ascend es → Ascend fs → ((k : ℤ) → value_at es k ≡ value_at fs k) → es ≡ fs
@@ -128,8 +103,8 @@ turns : (op : Op) (answer : Answer) (m : List (ℤ × ℤ)) → Ascend m → ans
 turns (Put w v) answer m h right = record {
   after = with_entry m w v;
   leads = refl;
-  ascends = Ascend-put m w v h;
-  leaves = λ k. put-value m w k v ∙ left-at (int_eq k w) (Some v) (value_at m k);
+  ascends = keys-with m w v h;
+  leaves = λ k. value-with m w k v ∙ left-at (int_eq k w) (Some v) (value_at m k);
   finds = λ k. finds-at m w k Unknown tt;
 }
 turns (Look w) (Int v) m h right = record { after = m; leads = refl; ascends = h; leaves = λ k. refl; finds = λ k. finds-at m w k (Held v) (found-int (value_at m w) v right) }
@@ -139,14 +114,14 @@ turns (Del w) (Flag true) m h right = record {
   after = without_entry m w;
   leads = refl;
   ascends = Ascend-without m w h;
-  leaves = λ k. take-value m w k h ∙ left-at (int_eq k w) None (value_at m k);
+  leaves = λ k. value-without m w k h ∙ left-at (int_eq k w) None (value_at m k);
   finds = λ k. finds-at m w k Full (is-full (value_at m w) right);
 }
 turns (Del w) (Flag false) m h right = record {
   after = without_entry m w;
   leads = refl;
   ascends = Ascend-without m w h;
-  leaves = λ k. take-value m w k h ∙ left-at (int_eq k w) None (value_at m k);
+  leaves = λ k. value-without m w k h ∙ left-at (int_eq k w) None (value_at m k);
   finds = λ k. finds-at m w k Vacant (is-vacant (value_at m w) right);
 }
 turns (Del w) _ m h right = absurd (cc)
@@ -256,27 +231,12 @@ is_map _ = false
 
 pub map-or : (s : ObjState) → ((m : List (ℤ × ℤ)) × (s ≡ map_of m)) ⊎ (is_map s ≡ false)
 map-or (map_of m) = inl (m, refl)
-map-or (register v) = inr refl
-map-or (counter v) = inr refl
-map-or (set_of v) = inr refl
-map-or (queue v) = inr refl
+map-or _ = inr refl
 
 stays-map : (op : Op) (s : ObjState) → is_map (after_op s op) ≡ is_map s
-stays-map (Write w) (register v) = refl
-stays-map _ (register v) = refl
-stays-map Inc (counter v) = refl
-stays-map Dec (counter v) = refl
-stays-map (Plus k) (counter v) = refl
-stays-map _ (counter v) = refl
-stays-map (Add w) (set_of s) = refl
-stays-map (Remove w) (set_of s) = refl
-stays-map _ (set_of s) = refl
-stays-map (Enq w) (queue q) = refl
-stays-map Deq (queue q) = refl
-stays-map _ (queue q) = refl
-stays-map (Put k v) (map_of m) = refl
-stays-map (Del k) (map_of m) = refl
+stays-map Inc (map_of m) = refl
 stays-map _ (map_of m) = refl
+stays-map _ _ = refl
 
 pub ran-stays_map : (ys : List Execution) (s after : ObjState) → ran s ys ≡ Some after → is_map after ≡ is_map s
 ran-stays_map [] s after e = let same : s ≡ after = cc in ap is_map (sym same)
@@ -285,18 +245,9 @@ ran-stays_map (y ∷ ys) s after e = let (right, rest) = ran-step s after y ys e
 -- operations of maps leave all else
 leaves-other : (op : Op) (s : ObjState) → is_of_map op ≡ true → is_map s ≡ false → after_op s op ≡ s
 leaves-other op (map_of m) of other = absurd (cc)
-leaves-other (Put k v) (register x) of other = refl
-leaves-other (Put k v) (counter x) of other = refl
-leaves-other (Put k v) (set_of x) of other = refl
-leaves-other (Put k v) (queue x) of other = refl
-leaves-other (Look k) (register x) of other = refl
-leaves-other (Look k) (counter x) of other = refl
-leaves-other (Look k) (set_of x) of other = refl
-leaves-other (Look k) (queue x) of other = refl
-leaves-other (Del k) (register x) of other = refl
-leaves-other (Del k) (counter x) of other = refl
-leaves-other (Del k) (set_of x) of other = refl
-leaves-other (Del k) (queue x) of other = refl
+leaves-other (Put k v) _ of other = refl
+leaves-other (Look k) _ of other = refl
+leaves-other (Del k) _ of other = refl
 leaves-other _ s of other = absurd (cc)
 
 pub maps-leave : (ts : List Execution) (s after : ObjState) → (deed_of ts).maps ≡ true → is_map s ≡ false → ran s ts ≡ Some after → after ≡ s

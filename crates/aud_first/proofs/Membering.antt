@@ -1,108 +1,21 @@
 -- What executions do to a set.
-use Rattle.std.specs.Prelude.{◌≡◌, ℕ, suc, nat_eq, slice_get, ℤ, Bool, true, false, not, ◌||◌, int_lt, List, [], ◌∷◌, Option, Some, None, refl, ◌⊎◌}
+use Rattle.std.specs.Prelude.{◌≡◌, ℕ, suc, nat_eq, slice_get, ℤ, Bool, true, false, not, ◌||◌, ◌&&◌, List, [], ◌∷◌, Option, Some, None, refl, ◌⊎◌}
 use Rattle.std.specs.Ordering.{int_eq}
-use Rattle.std.proofs.Common.{sym, ◌∙◌, ap, subst, cond, inl, inr, arith}
-use Rattle.std.proofs.lemmas.Grind.{common_steps}
+use Rattle.std.proofs.Common.{sym, ◌∙◌, ap, subst, cond, inl, inr}
 use Rattle.aud_event.specs.declared.object.Op.{Op}
-use Rattle.aud_event.specs.declared.object.Op.TheVariants.{Write, Inc, Dec, Add, Remove, Contains, Enq, Deq, Plus, Put, Del}
+use Rattle.aud_event.specs.declared.object.Op.TheVariants.{Inc, Add, Remove, Contains}
 use Rattle.aud_event.specs.declared.object.Answer.{Answer}
 use Rattle.aud_event.specs.declared.object.Answer.TheVariants.{Flag}
 use Rattle.aud_base.proofs.Bools.{split, or_false, nat_eq-is}
-use Rattle.aud_object.specs.Objects.{ObjState, register, counter, set_of, queue, map_of, has_member, with_member, without_member, answer_of, after_op}
+use Rattle.aud_object.specs.Objects.{ObjState, set_of, has_member, with_member, without_member, answer_of, after_op}
 use Rattle.aud_object.specs.declared.execution.Execution.{Execution}
-use Rattle.aud_object.proofs.Ints.{lt-not_eq, eq-is, above, lt-trans, eq-itself}
+use Rattle.aud_object.specs.Proper.{MembersAscend}
+use Rattle.aud_object.proofs.Ints.{eq-is, eq-itself}
+use Rattle.aud_object.proofs.Proper.{has-with, has-without, ascend-with, ascend-without}
 use Rattle.aud_first.specs.Deeds.{ran, seen_by, left_by, first_of_two, seen, left, is_flag, flipped_by, on_one, member_of, deed_of, Misses}
 use Rattle.aud_first.proofs.Acting.{ran-step, ran-cons}
 
--- # Members that ascend
-
--- all are above the value
-abbrev pub AllAbove : ℤ → List ℤ → Type 0
-AllAbove v [] = Unit {0}
-AllAbove v (x ∷ s) = (int_lt v x ≡ true) × AllAbove v s
-
-abbrev pub Ascending : List ℤ → Type 0
-Ascending [] = Unit {0}
-Ascending (x ∷ s) = AllAbove x s × Ascending s
-
-AllAbove-trans : (v w : ℤ) (s : List ℤ) → int_lt v w ≡ true → AllAbove w s → AllAbove v s
-AllAbove-trans v w [] l h = tt
-AllAbove-trans v w (x ∷ s) l h = (lt-trans v w x l h.0, AllAbove-trans v w s l h.1)
-
-has-none : (v : ℤ) (s : List ℤ) → AllAbove v s → has_member s v ≡ false
-has-none v [] h = refl
-has-none v (x ∷ s) h = ap (λ b. b || has_member s v) (lt-not_eq v x h.0) ∙ has-none v s h.1
-
-AllAbove-with : (w v : ℤ) (s : List ℤ) → int_lt w v ≡ true → AllAbove w s → AllAbove w (with_member s v)
-AllAbove-with w v [] l h = (l, tt)
-AllAbove-with w v (x ∷ s) l h = go (AllAbove-with w v s l h.1) (int_lt v x) (int_eq v x)
-  where
-    go : AllAbove w (with_member s v) → (a b : Bool) → AllAbove w (cond a (v ∷ x ∷ s) (cond b (x ∷ s) (x ∷ with_member s v)))
-    go more true b = (l, h)
-    go more false true = h
-    go more false false = (h.0, more)
-
-AllAbove-without : (w v : ℤ) (s : List ℤ) → AllAbove w s → AllAbove w (without_member s v)
-AllAbove-without w v [] h = h
-AllAbove-without w v (x ∷ s) h = go (AllAbove-without w v s h.1) (int_eq v x)
-  where
-    go : AllAbove w (without_member s v) → (b : Bool) → AllAbove w (cond b s (x ∷ without_member s v))
-    go more true = h.1
-    go more false = (h.0, more)
-
-pub Ascending-with : (v : ℤ) (s : List ℤ) → Ascending s → Ascending (with_member s v)
-Ascending-with v [] h = (tt, tt)
-Ascending-with v (x ∷ s) h = go (Ascending-with v s h.1) (int_lt v x) refl (int_eq v x) refl
-  where
-    go : Ascending (with_member s v) → (a : Bool) → int_lt v x ≡ a → (b : Bool) → int_eq v x ≡ b → Ascending (cond a (v ∷ x ∷ s) (cond b (x ∷ s) (x ∷ with_member s v)))
-    go more true less b is = ((less, AllAbove-trans v x s less h.0), h)
-    go more false less true is = h
-    go more false less false is = (AllAbove-with x v s (above v x less (let flip : int_eq x v ≡ false = grind (arith, common_steps, is) in flip)) h.0, more)
-
-pub Ascending-without : (v : ℤ) (s : List ℤ) → Ascending s → Ascending (without_member s v)
-Ascending-without v [] h = h
-Ascending-without v (x ∷ s) h = go (Ascending-without v s h.1) (int_eq v x)
-  where
-    go : Ascending (without_member s v) → (b : Bool) → Ascending (cond b s (x ∷ without_member s v))
-    go more true = h.1
-    go more false = (AllAbove-without x v s h.0, more)
-
 -- # What one operation does to membership
-
--- a value that was put in is a member
-with-itself : (s : List ℤ) (v : ℤ) → has_member (with_member s v) v ≡ true
-with-itself [] v = ap (λ b. b || false) (eq-itself v)
-with-itself (x ∷ s) v = go (with-itself s v) (int_lt v x) (int_eq v x) refl
-  where
-    go : has_member (with_member s v) v ≡ true → (a b : Bool) → int_eq v x ≡ b → has_member (cond a (v ∷ x ∷ s) (cond b (x ∷ s) (x ∷ with_member s v))) v ≡ true
-    go more true b is = ap (λ k. k || has_member (x ∷ s) v) (eq-itself v)
-    go more false true is = ap (λ k. k || has_member s v) is
-    go more false false is = ap (λ k. k || has_member (with_member s v) v) is ∙ more
-
-with-other : (s : List ℤ) (v w : ℤ) → int_eq w v ≡ false → has_member (with_member s v) w ≡ has_member s w
-with-other [] v w off = ap (λ b. b || false) off
-with-other (x ∷ s) v w off = go (with-other s v w off) (int_lt v x) (int_eq v x)
-  where
-    go : has_member (with_member s v) w ≡ has_member s w → (a b : Bool) → has_member (cond a (v ∷ x ∷ s) (cond b (x ∷ s) (x ∷ with_member s v))) w ≡ has_member (x ∷ s) w
-    go more true b = ap (λ k. k || has_member (x ∷ s) w) off
-    go more false true = refl
-    go more false false = ap (λ k. int_eq w x || k) more
-
-without-itself : (s : List ℤ) (v : ℤ) → Ascending s → has_member (without_member s v) v ≡ false
-without-itself [] v h = refl
-without-itself (x ∷ s) v h = go (without-itself s v h.1) (int_eq v x) refl
-  where
-    go : has_member (without_member s v) v ≡ false → (b : Bool) → int_eq v x ≡ b → has_member (cond b s (x ∷ without_member s v)) v ≡ false
-    go more true is = has-none v s (let same : v ≡ x = eq-is v x is in subst (λ z. AllAbove z s) (sym same) h.0)
-    go more false is = ap (λ k. k || has_member (without_member s v) v) is ∙ more
-
-without-other : (s : List ℤ) (v w : ℤ) → int_eq w v ≡ false → has_member (without_member s v) w ≡ has_member s w
-without-other [] v w off = refl
-without-other (x ∷ s) v w off = go (without-other s v w off) (int_eq v x) refl
-  where
-    go : has_member (without_member s v) w ≡ has_member s w → (b : Bool) → int_eq v x ≡ b → has_member (cond b s (x ∷ without_member s v)) w ≡ has_member (x ∷ s) w
-    go more true is = let same : v ≡ x = eq-is v x is in ap (λ k. k || has_member s w) (sym (ap (int_eq w) (sym same) ∙ off))
-    go more false is = ap (λ k. int_eq w x || k) more
 
 -- what was left, or else what there was
 abbrev pub stands : {X : Type 0} → Option X → X → X
@@ -113,23 +26,23 @@ stands (Some c) b = c
 pub record Turns (op : Op) (answer : Answer) (s : List ℤ) : Type 0 where
   pub after : List ℤ
   pub leads : after_op (set_of s) op ≡ set_of after
-  pub ascends : Ascending after
+  pub ascends : MembersAscend after
   pub leaves : (v : ℤ) → has_member after v ≡ stands (left_by op v) (has_member s v)
   pub finds : (v : ℤ) (b : Bool) → seen_by op answer v ≡ Some b → has_member s v ≡ b
 
 left-with : (s : List ℤ) (w v : ℤ) → has_member (with_member s w) v ≡ stands (cond (int_eq v w) (Some true) None) (has_member s v)
-left-with s w v =
-    elim (split (int_eq v w)) as (λ _. has_member (with_member s w) v ≡ stands (cond (int_eq v w) (Some true) None) (has_member s v)) [
-      | inl same ↦ ap (has_member (with_member s w)) (eq-is v w same) ∙ with-itself s w ∙ ap (λ b. stands (cond b (Some true) None) (has_member s v)) (sym same)
-      | inr other ↦ with-other s w v other ∙ ap (λ b. stands (cond b (Some true) None) (has_member s v)) (sym other)
-    ]
+left-with s w v = has-with s w v ∙ go (int_eq v w) (has_member s v)
+  where
+    go : (b m : Bool) → (b || m) ≡ stands (cond b (Some true) None) m
+    go true m = refl
+    go false m = refl
 
-left-without : (s : List ℤ) (w v : ℤ) → Ascending s → has_member (without_member s w) v ≡ stands (cond (int_eq v w) (Some false) None) (has_member s v)
-left-without s w v h =
-    elim (split (int_eq v w)) as (λ _. has_member (without_member s w) v ≡ stands (cond (int_eq v w) (Some false) None) (has_member s v)) [
-      | inl same ↦ ap (has_member (without_member s w)) (eq-is v w same) ∙ without-itself s w h ∙ ap (λ b. stands (cond b (Some false) None) (has_member s v)) (sym same)
-      | inr other ↦ without-other s w v other ∙ ap (λ b. stands (cond b (Some false) None) (has_member s v)) (sym other)
-    ]
+left-without : (s : List ℤ) (w v : ℤ) → MembersAscend s → has_member (without_member s w) v ≡ stands (cond (int_eq v w) (Some false) None) (has_member s v)
+left-without s w v h = has-without s w v h ∙ go (int_eq v w) (has_member s v)
+  where
+    go : (b m : Bool) → (not b && m) ≡ stands (cond b (Some false) None) m
+    go true m = refl
+    go false m = refl
 
 found-at : (s : List ℤ) (w v : ℤ) (c b : Bool) → has_member s w ≡ c → cond (int_eq v w) (Some c) None ≡ Some b → has_member s v ≡ b
 found-at s w v c b is found =
@@ -145,11 +58,11 @@ not-not : (a : Bool) → not (not a) ≡ a
 not-not true = refl
 not-not false = refl
 
-pub turns : (op : Op) (answer : Answer) (s : List ℤ) → Ascending s → answer_of (set_of s) op ≡ answer → Turns op answer s
+pub turns : (op : Op) (answer : Answer) (s : List ℤ) → MembersAscend s → answer_of (set_of s) op ≡ answer → Turns op answer s
 turns (Add w) (Flag b) s h right = record {
   after = with_member s w;
   leads = refl;
-  ascends = Ascending-with w s h;
+  ascends = ascend-with s w h;
   leaves = λ v. left-with s w v;
   finds = λ v c found. found-at s w v (not b) c (let same : not (has_member s w) ≡ b = cc in sym (not-not (has_member s w)) ∙ ap not same) found;
 }
@@ -157,7 +70,7 @@ turns (Add w) _ s h right = absurd (cc)
 turns (Remove w) (Flag b) s h right = record {
   after = without_member s w;
   leads = refl;
-  ascends = Ascending-without w s h;
+  ascends = ascend-without s w h;
   leaves = λ v. left-without s w v h;
   finds = λ v c found. found-at s w v b c (let same : has_member s w ≡ b = cc in same) found;
 }
@@ -177,7 +90,7 @@ turns _ answer s h right = record { after = s; leads = refl; ascends = h; leaves
 pub record Leads (ys : List Execution) (s : List ℤ) (after : ObjState) : Type 0 where
   pub members : List ℤ
   pub is : after ≡ set_of members
-  pub ascends : Ascending members
+  pub ascends : MembersAscend members
   pub leaves : (v : ℤ) → has_member members v ≡ stands (left ys v) (has_member s v)
   pub finds : (v : ℤ) (b : Bool) → seen ys v ≡ Some b → has_member s v ≡ b
 
@@ -205,7 +118,7 @@ none-first (Some x) b e = absurd (cc)
 none-first None b e = (refl, e)
 
 -- where executions lead that run from a set
-pub set-leads : (ys : List Execution) (s : List ℤ) (after : ObjState) → Ascending s → ran (set_of s) ys ≡ Some after → Leads ys s after
+pub set-leads : (ys : List Execution) (s : List ℤ) (after : ObjState) → MembersAscend s → ran (set_of s) ys ≡ Some after → Leads ys s after
 set-leads [] s after h e = record { members = s; is = (let same : set_of s ≡ after = cc in sym same); ascends = h; leaves = λ v. refl; finds = λ v b found. absurd (cc) }
 set-leads (y ∷ ys) s after h e =
     let (right, rest) = ran-step (set_of s) after y ys e in
@@ -223,7 +136,7 @@ set-leads (y ∷ ys) s after h e =
     go v b one more right None is found = ap (λ o. stands o (has_member s v)) (sym (left-unseen y.op y.answer s v right is)) ∙ sym (one.leaves v) ∙ more.finds v b found
 
 -- what executions do not look at they do not write
-pub unseen-left : (ys : List Execution) (s : List ℤ) (after : ObjState) (v : ℤ) → Ascending s → ran (set_of s) ys ≡ Some after → seen ys v ≡ None → left ys v ≡ None
+pub unseen-left : (ys : List Execution) (s : List ℤ) (after : ObjState) (v : ℤ) → MembersAscend s → ran (set_of s) ys ≡ Some after → seen ys v ≡ None → left ys v ≡ None
 unseen-left [] s after v h e none = refl
 unseen-left (y ∷ ys) s after v h e none =
     let (right, rest) = ran-step (set_of s) after y ys e in
@@ -255,7 +168,7 @@ answers-alike (Contains w) _ s u right agree = absurd (cc)
 answers-alike _ answer s u right agree = right
 
 -- executions run from both of two sets that agree on what they look at
-pub set-alike : (ys : List Execution) (s u : List ℤ) (after : ObjState) → Ascending s → Ascending u → ((v : ℤ) → (has_member s v ≡ has_member u v) ⊎ (seen ys v ≡ None)) → ran (set_of s) ys ≡ Some after →
+pub set-alike : (ys : List Execution) (s u : List ℤ) (after : ObjState) → MembersAscend s → MembersAscend u → ((v : ℤ) → (has_member s v ≡ has_member u v) ⊎ (seen ys v ≡ None)) → ran (set_of s) ys ≡ Some after →
     (later : ObjState) × (ran (set_of u) ys ≡ Some later)
 set-alike [] s u after h k agree e = (set_of u, refl)
 set-alike (y ∷ ys) s u after h k agree e =
@@ -288,18 +201,8 @@ flag-set _ _ s right flag = absurd (cc)
 -- only a set becomes one
 was-set : (op : Op) (s : ObjState) (m : List ℤ) → after_op s op ≡ set_of m → (k : List ℤ) × (s ≡ set_of k)
 was-set op (set_of k) m e = (k, refl)
-was-set (Write w) (register v) m e = absurd (cc)
-was-set _ (register v) m e = absurd (cc)
-was-set Inc (counter v) m e = absurd (cc)
-was-set Dec (counter v) m e = absurd (cc)
-was-set (Plus k) (counter v) m e = absurd (cc)
-was-set _ (counter v) m e = absurd (cc)
-was-set (Enq w) (queue q) m e = absurd (cc)
-was-set Deq (queue q) m e = absurd (cc)
-was-set _ (queue q) m e = absurd (cc)
-was-set (Put k v) (map_of n) m e = absurd (cc)
-was-set (Del k) (map_of n) m e = absurd (cc)
-was-set _ (map_of n) m e = absurd (cc)
+was-set Inc _ m e = absurd (cc)
+was-set _ _ m e = absurd (cc)
 
 pub flags-set : (ys : List Execution) (s after : ObjState) → ran s ys ≡ Some after → (deed_of ys).flags ≡ true → (m : List ℤ) × (s ≡ set_of m)
 flags-set [] s after e flags = absurd (cc)

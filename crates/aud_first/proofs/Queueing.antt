@@ -7,7 +7,7 @@ use Rattle.aud_event.specs.declared.object.Op.TheVariants.{Read, Write, Inc, Dec
 use Rattle.aud_event.specs.declared.object.Answer.{Answer}
 use Rattle.aud_event.specs.declared.object.Answer.TheVariants.{Done, Int, Flag, Empty}
 use Rattle.aud_base.proofs.Bools.{or_false, and_true}
-use Rattle.aud_object.specs.Objects.{ObjState, register, counter, set_of, queue, map_of, answer_of, after_op}
+use Rattle.aud_object.specs.Objects.{ObjState, queue, answer_of, after_op}
 use Rattle.aud_object.specs.declared.execution.Execution.{Execution}
 use Rattle.aud_first.specs.Deeds.{ran, taken_by, is_enq, is_end, is_of_queue, deed_of}
 use Rattle.aud_first.proofs.Acting.{ran-step, ran-cons}
@@ -130,36 +130,9 @@ is_queue (queue q) = true
 is_queue _ = false
 
 stays-queue : (op : Op) (s : ObjState) → is_queue (after_op s op) ≡ is_queue s
-stays-queue op (register v) = other op
-  where
-    other : (op : Op) → is_queue (after_op (register v) op) ≡ false
-    other (Write w) = refl
-    other _ = refl
-stays-queue op (counter v) = other op
-  where
-    other : (op : Op) → is_queue (after_op (counter v) op) ≡ false
-    other Inc = refl
-    other Dec = refl
-    other (Plus k) = refl
-    other _ = refl
-stays-queue op (set_of v) = other op
-  where
-    other : (op : Op) → is_queue (after_op (set_of v) op) ≡ false
-    other (Add w) = refl
-    other (Remove w) = refl
-    other _ = refl
-stays-queue op (queue v) = other op
-  where
-    other : (op : Op) → is_queue (after_op (queue v) op) ≡ true
-    other (Enq w) = refl
-    other Deq = refl
-    other _ = refl
-stays-queue op (map_of m) = other op
-  where
-    other : (op : Op) → is_queue (after_op (map_of m) op) ≡ false
-    other (Put k v) = refl
-    other (Del k) = refl
-    other _ = refl
+stays-queue Inc (queue q) = refl
+stays-queue _ (queue q) = refl
+stays-queue _ _ = refl
 
 pub ran-stays_queue : (ys : List Execution) (s after : ObjState) → ran s ys ≡ Some after → is_queue after ≡ is_queue s
 ran-stays_queue [] s after e = let same : s ≡ after = cc in ap is_queue (sym same)
@@ -168,10 +141,7 @@ ran-stays_queue (y ∷ ys) s after e = let (right, rest) = ran-step s after y ys
 -- what answers a removal by a number is a queue
 takes-queue : (op : Op) (answer : Answer) (rest : Option Answer) (s : ObjState) (w : ℤ) → answer_of s op ≡ answer → taken_by op answer rest ≡ Some (Int w) → (is_queue s ≡ true) ⊎ ((rest ≡ Some (Int w)))
 takes-queue Deq answer rest (queue q) w right takes = inl refl
-takes-queue Deq answer rest (register q) w right takes = absurd (cc)
-takes-queue Deq answer rest (counter q) w right takes = absurd (cc)
-takes-queue Deq answer rest (set_of q) w right takes = absurd (cc)
-takes-queue Deq answer rest (map_of q) w right takes = absurd (cc)
+takes-queue Deq answer rest _ w right takes = absurd (cc)
 takes-queue _ answer rest s w right takes = inr (takes)
 
 pub taken-queue : (ys : List Execution) (s after : ObjState) (w : ℤ) → ran s ys ≡ Some after → (deed_of ys).taken ≡ Some (Int w) → is_queue s ≡ true
@@ -186,14 +156,8 @@ taken-queue (y ∷ ys) s after w e takes =
 -- operations of queues leave all else
 leaves-other : (op : Op) (s : ObjState) → is_of_queue op ≡ true → is_queue s ≡ false → after_op s op ≡ s
 leaves-other op (queue q) of other = absurd (cc)
-leaves-other (Enq v) (register x) of other = refl
-leaves-other Deq (register x) of other = refl
-leaves-other (Enq v) (counter x) of other = refl
-leaves-other Deq (counter x) of other = refl
-leaves-other (Enq v) (set_of x) of other = refl
-leaves-other Deq (set_of x) of other = refl
-leaves-other (Enq v) (map_of x) of other = refl
-leaves-other Deq (map_of x) of other = refl
+leaves-other (Enq v) _ of other = refl
+leaves-other Deq _ of other = refl
 leaves-other _ s of other = absurd (cc)
 
 pub queues-leave : (ts : List Execution) (s after : ObjState) → (deed_of ts).queues ≡ true → is_queue s ≡ false → ran s ts ≡ Some after → after ≡ s

@@ -6,7 +6,7 @@ use Rattle.std.proofs.lemmas.Bool.Decides.{nat_tests}
 use Rattle.std.proofs.lemmas.Option.{slice_get_read, slice_get-get_or, get_or_from_slice_get}
 use Rattle.aud_base.proofs.Bools.{split, nat_eq-is}
 use Rattle.aud_object.specs.Objects.{ObjState}
-use Rattle.aud_object.specs.Numbers.{number_in, number_of}
+use Rattle.aud_object.specs.Kinds.{number_in, number_of}
 use Rattle.aud_object.specs.declared.number.Number.{Number}
 use Rattle.aud_object.specs.declared.execution.Execution.{Execution}
 use Rattle.aud_history.specs.Table.{RowOf}

@@ -12,6 +12,7 @@ use Rattle.aud_event.specs.Objects.{is_observing}
 use Rattle.aud_object.specs.Entries.{value_at, Ascend}
 use Rattle.aud_object.specs.Objects.{ObjState, register, counter, set_of, queue, map_of, has_member, answer_of, after_op}
 use Rattle.aud_object.specs.Kinds.{observing_stays}
+use Rattle.aud_object.specs.Proper.{MembersAscend, IsProper}
 use Rattle.aud_object.specs.declared.execution.Execution.{Execution}
 use Rattle.aud_object.proofs.Ints.{eq-is, eq-itself}
 use Rattle.aud_witness.specs.declared.decision.Fate.{Fate}
@@ -25,7 +26,7 @@ use Rattle.aud_first.proofs.Acting.{ran-step}
 use Rattle.aud_first.proofs.Registering.{held, register-holds, register-reads, register-blind}
 use Rattle.aud_first.proofs.Counting.{room-less, room-after, counter-moves, counter-blind}
 use Rattle.aud_first.proofs.Queueing.{added, took, queue-adds, queue-takes, queue-fronts, took-front, is_queue, ran-stays_queue, taken-queue, queues-leave}
-use Rattle.aud_first.proofs.Membering.{Ascending, stands, set-leads, unseen-left, set-alike, flags-set}
+use Rattle.aud_first.proofs.Membering.{stands, set-leads, unseen-left, set-alike, flags-set}
 use Rattle.aud_first.proofs.Mapping.{AgreeAt, is_map, map-or, map-leads, map-alike, unmet-left, entries-same, ran-stays_map, maps-leave, entered-agrees, entered-back, at-or, at-then}
 
 -- # States that are related
@@ -41,7 +42,7 @@ BeforeBy Leaves ts n a b = a ≡ b
 BeforeBy (Settles c v) ts n a b = (a ≡ register c) × (b ≡ register v)
 BeforeBy (Hides c v) ts n a b = (x : ℤ) × ((w : ℤ) × ((a ≡ register x) × (b ≡ register w) × ((x ≡ w) ⊎ ((c ≡ v → ⊥) × (x ≡ c)))))
 BeforeBy (Shifts by) ts n a b = (net ts ≡ by) × ((x : ℤ) × ((a ≡ counter x) × (b ≡ counter (x +ℤ net ts)) × HasRoom x (reach ts + n) × HasRoom (x +ℤ net ts) n))
-BeforeBy Flips ts n a b = (s : List ℤ) × ((u : List ℤ) × ((a ≡ set_of s) × (b ≡ set_of u) × Ascending s × Ascending u × ((v : ℤ) → AgreeBy (flipped ts v) (has_member s v) (has_member u v))))
+BeforeBy Flips ts n a b = (s : List ℤ) × ((u : List ℤ) × ((a ≡ set_of s) × (b ≡ set_of u) × MembersAscend s × MembersAscend u × ((v : ℤ) → AgreeBy (flipped ts v) (has_member s v) (has_member u v))))
 BeforeBy Enters ts n a b =
     ((m : List (ℤ × ℤ)) × ((u : List (ℤ × ℤ)) × ((a ≡ map_of m) × (b ≡ map_of u) × Ascend m × Ascend u × ((k : ℤ) → AgreeAt (entered ts k) (sight ts k) (value_at m k) (value_at u k)))))
     ⊎ ((a ≡ b) × (is_map a ≡ false))
@@ -51,26 +52,17 @@ BeforeBy Adds ts n a b = ((q : List ℤ) × ((a ≡ queue q) × (b ≡ queue (q 
 -- after it
 abbrev pub AfterBy : Way → ObjState → ObjState → Type 0
 AfterBy (Hides c v) a b = (x : ℤ) × ((w : ℤ) × ((a ≡ register x) × (b ≡ register w) × ((x ≡ w) ⊎ (x ≡ v))))
-AfterBy Flips a b = (s : List ℤ) × ((u : List ℤ) × ((a ≡ set_of s) × (b ≡ set_of u) × Ascending s × Ascending u × ((v : ℤ) → has_member s v ≡ has_member u v)))
+AfterBy Flips a b = (s : List ℤ) × ((u : List ℤ) × ((a ≡ set_of s) × (b ≡ set_of u) × MembersAscend s × MembersAscend u × ((v : ℤ) → has_member s v ≡ has_member u v)))
 AfterBy _ a b = a ≡ b
-
--- what holds of all states: sets and maps ascend
-abbrev pub IsTidy : ObjState → Type 0
-IsTidy (set_of s) = Ascending s
-IsTidy (map_of m) = Ascend m
-IsTidy _ = Unit {0}
 
 -- # T's own executions
 
 -- an operation that is quiet leaves the object
 quiet-leaves : (op : Op) (answer : Answer) (s : ObjState) → (is_observing op ≡ true) ⊎ (is_end op answer ≡ true) → answer_of s op ≡ answer → after_op s op ≡ s
 quiet-leaves op answer s (inl observing) right = observing_stays s op observing
-quiet-leaves Deq Empty (register v) (inr ends) right = refl
-quiet-leaves Deq Empty (counter v) (inr ends) right = refl
-quiet-leaves Deq Empty (set_of v) (inr ends) right = refl
 quiet-leaves Deq Empty (queue []) (inr ends) right = refl
 quiet-leaves Deq Empty (queue (v ∷ q)) (inr ends) right = absurd (cc)
-quiet-leaves Deq Empty (map_of m) (inr ends) right = refl
+quiet-leaves Deq Empty _ (inr ends) right = refl
 quiet-leaves _ answer s (inr ends) right = absurd (cc)
 
 quiet-stays : (ts : List Execution) (a after : ObjState) → (deed_of ts).quiet ≡ true → ran a ts ≡ Some after → after ≡ a
@@ -82,18 +74,12 @@ quiet-stays (t ∷ ts) a after quiet e =
 
 -- a queue, or not
 queue-or : (s : ObjState) → ((q : List ℤ) × (s ≡ queue q)) ⊎ (is_queue s ≡ false)
-queue-or (register v) = inr refl
-queue-or (counter v) = inr refl
-queue-or (set_of v) = inr refl
-queue-or (map_of m) = inr refl
 queue-or (queue q) = inl (q, refl)
+queue-or _ = inr refl
 
 queue-is : (s : ObjState) → is_queue s ≡ true → (q : List ℤ) × (s ≡ queue q)
-queue-is (register v) is = absurd (cc)
-queue-is (counter v) is = absurd (cc)
-queue-is (set_of v) is = absurd (cc)
-queue-is (map_of m) is = absurd (cc)
 queue-is (queue q) is = (q, refl)
+queue-is _ is = absurd (cc)
 
 -- what was found and what was left, where that is a change
 flipped-agrees : (found left_so : Option Bool) (m n : Bool) → ((b : Bool) → found ≡ Some b → m ≡ b) → (found ≡ None → left_so ≡ None) → n ≡ stands left_so m → AgreeBy (flipped_by found left_so) m n
@@ -125,18 +111,18 @@ apart-or c v = elim (split (int_eq c v)) [
   | inr other ↦ inr (λ e. let itself : int_eq c v ≡ true = subst (λ z. int_eq c z ≡ true) e (eq-itself c) in cc)
 ]
 
-pub start-by : (way : Way) (ts : List Execution) (n : ℕ) (a b : ObjState) → IsTidy a → Fits way ts n a → ran a ts ≡ Some b → BeforeBy way ts n a b
-start-by Leaves ts n a b tidy fits e = sym (quiet-stays ts a b fits e)
-start-by (Settles c v) ts n a b tidy fits e =
+pub start-by : (way : Way) (ts : List Execution) (n : ℕ) (a b : ObjState) → IsProper a → Fits way ts n a → ran a ts ≡ Some b → BeforeBy way ts n a b
+start-by Leaves ts n a b proper fits e = sym (quiet-stays ts a b fits e)
+start-by (Settles c v) ts n a b proper fits e =
     (fits.0, register-holds ts c b (subst (λ s. ran s ts ≡ Some b) fits.0 e) ∙ ap (λ o. register (held o c)) fits.1)
-start-by (Hides c v) ts n a b tidy fits e =
+start-by (Hides c v) ts n a b proper fits e =
     (c, (v, (fits.0, register-holds ts c b (subst (λ s. ran s ts ≡ Some b) fits.0 e) ∙ ap (λ o. register (held o c)) fits.1, elim (apart-or c v) [ inl same ↦ inl same | inr apart ↦ inr (apart, refl) ])))
-start-by (Shifts by) ts n a b tidy fits e =
+start-by (Shifts by) ts n a b proper fits e =
     let (moves, (x, (is, room, later))) = fits in
     (moves, (x, (is, counter-moves ts x n b room (subst (λ s. ran s ts ≡ Some b) is e), room, later)))
-start-by Flips ts n a b tidy fits e =
+start-by Flips ts n a b proper fits e =
     let (s, is) = flags-set ts a b e fits in
-    let ascends : Ascending s = subst (λ z. IsTidy z) is tidy in
+    let ascends : MembersAscend s = subst (λ z. IsProper z) is proper in
     let went : ran (set_of s) ts ≡ Some b = subst (λ z. ran z ts ≡ Some b) is e in
     let leads = set-leads ts s b ascends went in (
       s,
@@ -151,20 +137,20 @@ start-by Flips ts n a b tidy fits e =
         ),
       ),
     )
-start-by Enters ts n a b tidy fits e =
+start-by Enters ts n a b proper fits e =
     elim (map-or a) as (λ _. BeforeBy Enters ts n a b) [
       | inl (m, is) ↦
-          let ascends : Ascend m = subst (λ z. IsTidy z) is tidy in
+          let ascends : Ascend m = subst (λ z. IsProper z) is proper in
           let leads = map-leads ts m b ascends (subst (λ z. ran z ts ≡ Some b) is e) in
           inl (m, (leads.entries, (is, leads.is, ascends, leads.ascends, λ k. entered-agrees (sight ts k) (entry ts k) (value_at m k) (value_at leads.entries k) (leads.finds k) (leads.leaves k))))
       | inr other ↦ inr (sym (maps-leave ts a b fits other e), other)
     ]
-start-by (Takes front) ts n a b tidy fits e =
+start-by (Takes front) ts n a b proper fits e =
     let (takes, adds, ends) = fits in
     let (q, is) = queue-is a (taken-queue ts a b front e takes) in
     let (r, (parts, leads, any)) = queue-takes ts q b adds ends (subst (λ s. ran s ts ≡ Some b) is e) in
     (r, (takes, is ∙ ap queue parts, leads))
-start-by Adds ts n a b tidy fits e =
+start-by Adds ts n a b proper fits e =
     elim (queue-or a) as (λ _. BeforeBy Adds ts n a b) [
       | inl (q, is) ↦
           let runs : ran (queue q) ts ≡ Some (queue (q ++ added ts)) = queue-adds ts q q b fits.0 (subst (λ s. ran s ts ≡ Some b) is e) in

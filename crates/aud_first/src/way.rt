@@ -3,7 +3,7 @@
 ghost use Rattle.std.specs.Prelude.{◌≡◌, ◌+◌, ◌+ℤ◌, ℕ, List, IsTrue, IfSome, Some, true};
 ghost use Rattle.aud_event.specs.declared.object.Answer.TheVariants.{Int};
 ghost use Rattle.aud_object.specs.Objects.{ObjState, counter};
-ghost use Rattle.aud_object.specs.Numbers.{number_in};
+ghost use Rattle.aud_object.specs.Kinds.{number_in};
 ghost use Rattle.aud_object.specs.declared.execution.Execution.{Execution};
 ghost use Rattle.aud_witness.specs.declared.decision.Fate.{Fate};
 ghost use Rattle.aud_witness.specs.declared.decision.Fate.TheVariants.{C};

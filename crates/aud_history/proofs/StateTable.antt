@@ -8,11 +8,10 @@ use Rattle.aud_event.specs.declared.object.OpName.{OpName}
 use Rattle.aud_event.specs.declared.object.Answer.{Answer}
 use Rattle.aud_event.specs.declared.fact.Event.{Event}
 use Rattle.aud_event.specs.declared.fact.Event.TheVariants.{Inv, Ret, TryC, TryA, Commit, Abort}
-use Rattle.aud_event.specs.Objects.{name_of}
-use Rattle.aud_event.specs.Words.{word_of_op}
+use Rattle.aud_event.specs.Objects.{name_of, word_of_op}
 use Rattle.aud_base.proofs.Bools.{and_true, true_and, nat_eq-refl}
 use Rattle.aud_event.proofs.Names.{bytes_eq-refl}
-use Rattle.aud_event.proofs.Rows.{same-from_words}
+use Rattle.aud_event.specs.Rows.{same-from_words}
 use Rattle.std.specs.Prelude.{bytes_eq}
 use Rattle.aud_object.specs.Executions.{AreExecutions, no_execution, execution}
 use Rattle.aud_history.specs.WellFormed.{IsEnding, invocation_aborted, aborted_by_itself, committed, commit_refused, IsTransaction}

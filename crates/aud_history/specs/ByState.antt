@@ -4,8 +4,7 @@ use Rattle.aud_event.specs.declared.object.Op.{Op}
 use Rattle.aud_event.specs.declared.object.OpName.{OpName}
 use Rattle.aud_event.specs.declared.fact.Event.{Event}
 use Rattle.aud_event.specs.declared.fact.Event.TheVariants.{Inv, Ret, TryC, TryA, Commit, Abort}
-use Rattle.aud_event.specs.Objects.{name_of}
-use Rattle.aud_event.specs.Words.{word_of_op}
+use Rattle.aud_event.specs.Objects.{name_of, word_of_op}
 use Rattle.aud_history.specs.declared.state.TxState.{TxState}
 use Rattle.aud_history.specs.declared.state.TxState.TheVariants.{Idle, Pending, TriedCommit, TriedAbort, Ended}
 use Rattle.aud_history.specs.declared.rule.Rule.{Rule}

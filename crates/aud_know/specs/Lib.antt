@@ -1,3 +1,6 @@
+pub mod Closings
+pub mod Openings
+pub mod Leading
 pub mod Norms
 pub mod Known
 pub mod Members

@@ -5,3 +5,4 @@ pub mod Legality
 pub mod Keeping
 pub mod Sets
 pub mod Places
+pub mod Proper

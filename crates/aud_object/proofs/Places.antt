@@ -6,10 +6,10 @@ use Rattle.std.proofs.lemmas.List.{map-append, map_more, take_more}
 use Rattle.aud_event.specs.declared.object.Op.{Op}
 use Rattle.aud_event.specs.declared.object.Answer.{Answer}
 use Rattle.aud_object.specs.declared.state.State.{State}
-use Rattle.aud_object.specs.declared.change.Change.{Change}
+use Rattle.aud_object.specs.declared.state.Change.{Change}
 use Rattle.aud_object.specs.Objects.{ObjState, answer_of, after_op}
 use Rattle.aud_object.specs.declared.execution.Execution.{Execution}
-use Rattle.aud_object.specs.States.{meaning, back}
+use Rattle.aud_object.specs.Kinds.{meaning, back}
 use Rattle.aud_object.specs.Logs.{back_at}
 use Rattle.aud_object.specs.Replayed.{after_at, answer_at, answers, executed}
 

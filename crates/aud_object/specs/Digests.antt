@@ -1,8 +1,7 @@
--- A number for the state of an object, the same for states that mean the same.
+-- The numbers that are stirred together for a state of an object, the same for states that mean the same.
 use Rattle.std.specs.Prelude.{ℕ, ℤ, ◌*◌, ◌/◌, ◌%◌, ◌^◌, List, [], ◌∷◌}
 use Rattle.std.specs.Int.Bits.{bit_xor}
 use Rattle.std.specs.Int.{w64, cast_unsigned}
-use Rattle.aud_object.specs.Objects.{ObjState, register, counter, set_of, queue, map_of}
 
 -- one more word of a digest
 unfoldable pub stirred : ℕ → ℕ → ℕ
@@ -17,11 +16,3 @@ digest_values digest (v ∷ vs) = digest_values (stirred digest (cast_unsigned w
 abbrev pub digest_entries : {V : Type 0} → (ℕ → V → ℕ) → ℕ → List (ℤ × V) → ℕ
 digest_entries stirs digest [] = digest
 digest_entries stirs digest (e ∷ es) = digest_entries stirs (stirs (stirred digest (cast_unsigned w64 e.0)) e.1) es
-
--- of one object
-abbrev pub digest_of : ObjState → ℕ
-digest_of (register v) = stirred 1 (cast_unsigned w64 v)
-digest_of (counter v) = stirred 2 (cast_unsigned w64 v)
-digest_of (set_of s) = digest_values 3 s
-digest_of (queue q) = digest_values 4 q
-digest_of (map_of m) = digest_entries (λ digest v. stirred digest (cast_unsigned w64 v)) 5 m

@@ -1,4 +1,5 @@
--- The laws of an implementation of a kind of objects, and that the kinds keep them.
+-- The kinds in memory: what a state means, how a change of it is taken back, which is one number; the laws of an implementation of a kind, and that the
+-- kinds keep them.
 use Rattle.std.specs.Prelude.{◌≡◌, ℤ, true, List, [], ◌∷◌, Option, Some, None}
 use Rattle.std.proofs.Common.{refl}
 use Rattle.aud_event.specs.declared.object.ObjKind.{ObjKind}
@@ -8,7 +9,48 @@ use Rattle.aud_event.specs.declared.object.Op.TheVariants.{Read, Write, Inc, Dec
 use Rattle.aud_event.specs.Objects.{name_of, is_of_kind, is_answer_of, is_observing}
 use Rattle.aud_object.specs.Objects.{ObjState, register, counter, set_of, queue, map_of, answer_of, after_op, front_of, found}
 use Rattle.aud_object.specs.Entries.{value_at}
-use Rattle.aud_object.specs.Keeps.{Slots, members, entries_in, ItemsOf, items_in}
+use Rattle.aud_object.specs.Keeps.{Slots, members, entries_in, ItemsOf, items_in, back_items, back_kept}
+use Rattle.aud_object.specs.declared.number.Number.{Number}
+use Rattle.aud_object.specs.declared.number.Number.TheVariants as n
+use Rattle.aud_object.specs.declared.state.Change.{Change}
+use Rattle.aud_object.specs.declared.state.Change.TheVariants as ch
+use Rattle.aud_object.specs.declared.state.State.{State}
+use Rattle.aud_object.specs.declared.state.State.TheVariants as st
+
+-- what a state in memory means
+abbrev pub meaning : {A : Type 0} → State A → ObjState
+meaning (st.Register v) = register v
+meaning (st.Counter v) = counter v
+meaning (st.SetOf es) = set_of (members es)
+meaning (st.Queue q) = queue (items_in q)
+meaning (st.MapOf es) = map_of (entries_in es)
+
+-- the state once a change is taken back; a change is taken back from a state of its own kind
+abbrev pub back : {A : Type 0} → State A → Change → State A
+back (st.Register v) (ch.Register old) = st.Register old
+back (st.Counter v) (ch.Counter old) = st.Counter old
+back (st.SetOf es) (ch.SetOf change) = st.SetOf (back_kept es change)
+back (st.Queue q) (ch.Queue change) = st.Queue (back_items q change)
+back (st.MapOf es) (ch.MapOf change) = st.MapOf (back_kept es change)
+back s _ = s
+
+-- the state that the number stands for
+abbrev pub numbered : Number → ObjState
+numbered (n.Register v) = register v
+numbered (n.Counter v) = counter v
+
+-- the number that stands for the state, if it is of a register or a counter
+abbrev pub number_in : ObjState → Option Number
+number_in (register v) = Some (n.Register v)
+number_in (counter v) = Some (n.Counter v)
+number_in (set_of s) = None
+number_in (queue q) = None
+number_in (map_of m) = None
+
+-- the same of a state that may be absent
+abbrev pub number_of : Option ObjState → Option Number
+number_of None = None
+number_of (Some s) = number_in s
 
 -- every operation of the kind has, in every state, an answer that its name can have
 abbrev pub HasAnswers : {S : Type 0} → ObjKind → (S → ObjState) → Type 0
@@ -20,25 +62,10 @@ StaysPut {S} means = (s : S) (op : Op) → is_observing op ≡ true → after_op
 
 pub observing_stays : (s : ObjState) (op : Op) → is_observing op ≡ true → after_op s op ≡ s
 observing_stays (register v) Read h = refl
-observing_stays (register v) Get h = refl
-observing_stays (register v) (Contains w) h = refl
-observing_stays (register v) (Look k) h = refl
-observing_stays (counter n) Read h = refl
-observing_stays (counter n) Get h = refl
-observing_stays (counter n) (Contains w) h = refl
-observing_stays (counter n) (Look k) h = refl
-observing_stays (set_of s) Read h = refl
-observing_stays (set_of s) Get h = refl
-observing_stays (set_of s) (Contains w) h = refl
-observing_stays (set_of s) (Look k) h = refl
-observing_stays (queue q) Read h = refl
-observing_stays (queue q) Get h = refl
-observing_stays (queue q) (Contains w) h = refl
-observing_stays (queue q) (Look k) h = refl
-observing_stays (map_of m) Read h = refl
-observing_stays (map_of m) Get h = refl
-observing_stays (map_of m) (Contains w) h = refl
-observing_stays (map_of m) (Look k) h = refl
+observing_stays _ Read h = refl
+observing_stays _ Get h = refl
+observing_stays _ (Contains w) h = refl
+observing_stays _ (Look k) h = refl
 observing_stays _ _ h = cc
 
 pub register_answers : HasAnswers kind.Register register

@@ -4,10 +4,9 @@ pub mod Blocks
 pub mod Replayed
 pub mod Laws
 pub mod Entries
+pub mod Proper
 pub mod Keeps
-pub mod States
 pub mod Meanings
 pub mod Logs
 pub mod Kinds
 pub mod Digests
-pub mod Numbers

@@ -1,5 +1,5 @@
 -- What an object holds, what it answers, and the event lists that are in its sequential specification.
-use Rattle.std.specs.Prelude.{◌≡◌, ℕ, ℤ, pos, ◌+ℤ◌, ◌-ℤ◌, Bool, true, false, not, if◌then◌else◌, int_lt, int_le, ◌&&◌, nat_eq, is_some, Option, None, List, [], ◌∷◌, ◌++◌, Some, slice_get}
+use Rattle.std.specs.Prelude.{◌≡◌, ℕ, ℤ, pos, ◌+ℤ◌, ◌-ℤ◌, Bool, false, not, if◌then◌else◌, int_lt, int_le, ◌&&◌, nat_eq, is_some, Option, None, List, [], ◌∷◌, ◌++◌, Some, slice_get}
 use Rattle.std.specs.List.{list_any}
 use Rattle.std.specs.Ordering.{int_eq}
 use Rattle.aud_event.specs.declared.object.ObjKind.{ObjKind}
@@ -11,6 +11,8 @@ use Rattle.aud_event.specs.declared.object.Answer.TheVariants.{Done, Int, Flag, 
 use Rattle.aud_event.specs.declared.fact.Event.{Event}
 use Rattle.aud_event.specs.declared.fact.Event.TheVariants.{Inv, Ret}
 use Rattle.aud_event.specs.Meanings.{Declared}
+use Rattle.std.specs.Int.{w64, cast_unsigned}
+use Rattle.aud_object.specs.Digests.{stirred, digest_values, digest_entries}
 use Rattle.aud_object.specs.Entries.{value_at, with_entry, without_entry}
 
 -- what an object holds: a set its members, the least first; a queue its items, the front first; a map its entries, the least
@@ -124,6 +126,14 @@ after_op (counter n) (Plus k) = counter (plus_or_stay n k)
 after_op (map_of m) (Put k v) = map_of (with_entry m k v)
 after_op (map_of m) (Del k) = map_of (without_entry m k)
 after_op state _ = state
+
+-- a number for the state, the same for states that mean the same
+abbrev pub digest_of : ObjState → ℕ
+digest_of (register v) = stirred 1 (cast_unsigned w64 v)
+digest_of (counter v) = stirred 2 (cast_unsigned w64 v)
+digest_of (set_of s) = digest_values 3 s
+digest_of (queue q) = digest_values 4 q
+digest_of (map_of m) = digest_entries (λ digest v. stirred digest (cast_unsigned w64 v)) 5 m
 
 -- whether an event is an invocation or a response on an object
 abbrev pub is_on : ℕ → Event → Bool

@@ -6,7 +6,6 @@
 //! its answer is legality is the contract of the functions in `laws`.
 
 mod block;
-mod change;
 mod counter_kind;
 mod digest;
 mod execution;

@@ -1,6 +1,6 @@
 //! The log of a store: the changes of the blocks that were replayed, with marks between them.
 
-use crate::change::Change;
+use crate::state::Change;
 
 #[derive(Clone, Copy)]
 pub(crate) enum Entry {

@@ -2,8 +2,7 @@
 
 ghost use Rattle.std.specs.Prelude.{◌≡◌, ◌↔◌, IfOk, OnOk, OnErr, IsTrue, MatchOption};
 ghost use Rattle.aud_event.specs.declared.object.ObjKind.{ObjKind};
-ghost use Rattle.aud_object.specs.Objects.{ObjState, opens_at, answer_of, after_op};
-ghost use Rattle.aud_object.specs.Digests.{digest_of};
+ghost use Rattle.aud_object.specs.Objects.{ObjState, opens_at, answer_of, after_op, digest_of};
 ghost use Rattle.aud_object.specs.Kinds.{HasAnswers, StaysPut};
 
 use aud_event::{Answer, Op, OutOfMemory};

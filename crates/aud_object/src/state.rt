@@ -1,15 +1,14 @@
-//! The state of one object, of whichever kind. A change of it can be taken back with no memory.
+//! The state of one object, of whichever kind, and what an operation changed of it, so that it can be taken back with no memory.
 
 ghost use Rattle.std.specs.Prelude.{◌≡◌, ◌↔◌, IsTrue, IfOk, OnErr, OnOk, MatchOption};
-ghost use Rattle.aud_object.specs.Objects.{answer_of, after_op, items_of, opening_of};
-ghost use Rattle.aud_object.specs.States.{meaning, back};
-ghost use Rattle.aud_object.specs.Digests.{digest_of};
+ghost use Rattle.aud_object.specs.Objects.{answer_of, after_op, items_of, opening_of, digest_of};
+ghost use Rattle.aud_object.specs.Kinds.{meaning, back, number_in};
 
-use crate::change::Change;
 use crate::counter_kind::Counter;
-use crate::items::Items;
-use crate::kept::Kept;
+use crate::items::{Items, ItemsChange};
+use crate::kept::{Kept, KeptChange};
 use crate::map_kind::MapOf;
+use crate::number::Number;
 use crate::queue_kind::Queue;
 use crate::register_kind::Register;
 use crate::set_kind::SetOf;
@@ -26,6 +25,19 @@ pub(crate) enum State<A: Allocator = Global> {
     Queue(Items<A>),
     MapOf(Kept<i64, A>),
 }
+
+/// What has to be known to take a change back, by the kind of the object.
+#[derive(Clone, Copy)]
+pub(crate) enum Change {
+    Register(i64),
+    Counter(i64),
+    SetOf(KeptChange<()>),
+    Queue(ItemsChange),
+    MapOf(KeptChange<i64>),
+}
+
+// the log of a search has one for each operation that changes something
+const _: () = prove!(size_of::<Change>() <= 32);
 
 impl<A: Allocator + Clone> State<A> {
     /// Runs the operation, and says what it changed. An operation that is not of the kind answers Done and changes nothing.
@@ -110,6 +122,17 @@ impl<A: Allocator + Drop> State<A> {
         match self {
             State::Queue(items) => items.left(),
             _ => &[],
+        }
+    }
+
+    /// The state's number, if it has just one.
+    pub(crate) fn number(&self) -> Option<Number>
+        ensures { result ≡ number_in (meaning self.now) }
+    {
+        match self {
+            State::Register(value) => Some(Number::Register(*value)),
+            State::Counter(value) => Some(Number::Counter(*value)),
+            State::SetOf(_) | State::Queue(_) | State::MapOf(_) => None,
         }
     }
 

@@ -1,19 +1,16 @@
 //! The states of all objects of a plan, with a log by which a block is taken back with no memory.
 
 ghost use Rattle.std.specs.Prelude.{◌≡◌, ◌≢◌, ◌↔◌, ◌≤◌, IsTrue, [], ◌∷◌, length, true, false, map, IfOk, OnErr, OnOk, option_map, is_some, slice_get};
-ghost use Rattle.aud_object.specs.Objects.{answer_of, items_of, opening_of};
-ghost use Rattle.aud_object.specs.States.{meaning};
+ghost use Rattle.aud_object.specs.Objects.{answer_of, items_of, opening_of, digest_of};
+ghost use Rattle.aud_object.specs.Kinds.{meaning, number_of};
 ghost use Rattle.aud_object.specs.Logs.{back_at, LeadsBack};
-ghost use Rattle.aud_object.specs.Numbers.{number_of};
-ghost use Rattle.aud_object.specs.Digests.{digest_of};
 ghost use Rattle.aud_object.specs.Replayed.{same_answer, after_at, answer_at, answers, replayed, Replays, Runs};
 
 use crate::block::Block;
-use crate::change::Change;
 use crate::execution::Execution;
 use crate::log::Entry;
-use crate::number::{Number, number_in};
-use crate::state::State;
+use crate::number::Number;
+use crate::state::{Change, State};
 use aud_event::{Answer, Dup, ObjDecl, Op, OutOfMemory, Plan};
 use std::alloc::{Allocator, Global};
 use std::marker::Model;
@@ -31,7 +28,7 @@ impl<A: Allocator> Model for Store<A> {
     ghost Value = { StoreOf };
 
     ghost use Rattle.std.specs.Prelude.{map, reverse};
-    ghost use Rattle.aud_object.specs.States.{meaning};
+    ghost use Rattle.aud_object.specs.Kinds.{meaning};
     ghost use Rattle.aud_object.specs.Logs.{levels};
 
     ghost view = { λ s. record { now = map meaning s.states.items; past = levels s.states.items (reverse s.log.items) } };
@@ -177,7 +174,7 @@ impl<A: Allocator + Drop> Store<A> {
         ensures { result ≡ number_of (slice_get self.now.now object) }
     {
         let state = self.states.get(object)?;
-        number_in(state)
+        state.number()
     }
 
     /// How many numbers the states keep, or more, and one for each object: what a copy costs.

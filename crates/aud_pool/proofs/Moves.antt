@@ -8,7 +8,7 @@ use lib.Seq.{set_comm}
 use Rattle.crossbeam_deque.specs.Tasks.{Pushes, Takes, Finds, Forks, Merges}
 use Rattle.crossbeam_deque.proofs.Lists.{at_set, at_snoc, set_else}
 use Rattle.aud_pool.specs.declared.rule.Tally.{Tally}
-use Rattle.aud_pool.specs.Rule.{tally, idle, tasks_in, MarksLast, puts, takes, Fits, Shared, after_take, after_put, either_stopped}
+use Rattle.aud_pool.specs.Rule.{tally, idle, tasks_in, MarksLast, puts, takes, Fits, Shared, after_take, after_put, either_stopped, all_parts}
 use Rattle.aud_pool.proofs.Views.{same, grown, kept, joined, gathered-append, parts_set, parts-append, parts_two, whole, tasks-append, marks_then_task, marks_then_mark}
 
 module _ {T : Type 0} where
@@ -29,9 +29,9 @@ module _ {T : Type 0} where
   marks_alone (None ∷ xs) h = h
   marks_alone (Some x ∷ xs) h = absurd (task_there x (tasks_in xs) h)
 
-  pub begins : Shared {T = T} [] (tally 1024 true [] [] false ∷ [])
+  pub begins : Shared {T = T} [] (tally all_parts true [] [] false ∷ [])
   begins = (refl, IsPermutation-refl [], tt, begin_fits) where
-    begin_fits : (port : ℕ) (v : Tally T) → get_elem? (tally 1024 true [] [] false ∷ []) port ≡ some v → Fits [] v
+    begin_fits : (port : ℕ) (v : Tally T) → get_elem? (tally all_parts true [] [] false ∷ []) port ≡ some v → Fits [] v
     begin_fits zero v e = subst (Fits []) (some-injective _ v e) ((λ z. absurd (omega arith)), (λ _. (refl, refl, tt)), λ _. refl)
     begin_fits (suc port) v e = absurd (some-ne-none v (sym e))
 
@@ -79,11 +79,11 @@ module _ {T : Type 0} where
   all_idle : (items : List (Option T)) (views : List (Tally T)) → Shared items views → (j : ℕ) (u : Tally T) → get_elem? views j ≡ some u → u.parts ≡ 0 → u ≡ idle
   all_idle items views h j u e z = (h.3 j u e).0 z
 
-  others_idle : (items : List (Option T)) (views : List (Tally T)) (port : ℕ) (v : Tally T) → Shared items views → get_elem? views port ≡ some v → v.parts ≡ 1024 → (j : ℕ) (u : Tally T) → j ≢ port → get_elem? views j ≡ some u → u ≡ idle
+  others_idle : (items : List (Option T)) (views : List (Tally T)) (port : ℕ) (v : Tally T) → Shared items views → get_elem? views port ≡ some v → v.parts ≡ all_parts → (j : ℕ) (u : Tally T) → j ≢ port → get_elem? views j ≡ some u → u ≡ idle
   others_idle items views port v h at all j u other e = let t = parts_two views port j v u at e other in let s = h.0 in (h.3 j u e).0 (omega arith)
 
   -- who has every part knows how many tasks are in the queue
-  held : (items : List (Option T)) (views : List (Tally T)) (port : ℕ) (v : Tally T) → Shared items views → get_elem? views port ≡ some v → v.parts ≡ 1024 → length v.put ≡ length v.taken + length (tasks_in items)
+  held : (items : List (Option T)) (views : List (Tally T)) (port : ℕ) (v : Tally T) → Shared items views → get_elem? views port ≡ some v → v.parts ≡ all_parts → length v.put ≡ length v.taken + length (tasks_in items)
   held items views port v h at all =
       let put = whole (λ u. u.put) refl views port v at (h.0 ∙ sym all) (all_idle items views h) in
       let taken = whole (λ u. u.taken) refl views port v at (h.0 ∙ sym all) (all_idle items views h) in
@@ -95,7 +95,7 @@ module _ {T : Type 0} where
   fits_after v (Some x ∷ []) least most rest e = omega (arith, length-append v.taken (x ∷ []))
   fits_after v (x ∷ y ∷ ys) least most rest e = absurd (omega arith)
 
-  pub drains_one : (port : ℕ) (v : Tally T) → 0 < v.parts → Takes Shared port v 1 (λ xs w. (w ≡ after_take v xs) × (v.stopped ≡ true → tasks_in xs ≡ []) × (v.parts ≡ 1024 → length w.taken ≤ length v.put))
+  pub drains_one : (port : ℕ) (v : Tally T) → 0 < v.parts → Takes Shared port v 1 (λ xs w. (w ≡ after_take v xs) × (v.stopped ≡ true → tasks_in xs ≡ []) × (v.parts ≡ all_parts → length w.taken ≤ length v.put))
   drains_one port v part xs items views least most h at =
       let t = takes_one port v part xs items views least most h at in (
         t.0,
@@ -108,13 +108,13 @@ module _ {T : Type 0} where
         ),
       )
 
-  pub settles : (port : ℕ) (v : Tally T) → Finds Shared port v (v.parts ≡ 1024 → IsPermutation v.put v.taken)
+  pub settles : (port : ℕ) (v : Tally T) → Finds Shared port v (v.parts ≡ all_parts → IsPermutation v.put v.taken)
   settles port v views h at all =
       let put = whole (λ u. u.put) refl views port v at (h.0 ∙ sym all) (all_idle [] views h) in
       let taken = whole (λ u. u.taken) refl views port v at (h.0 ∙ sym all) (all_idle [] views h) in
       IsPermutation-trans _ _ _ (same _ _ (sym put)) (IsPermutation-trans _ _ _ h.1 (same _ _ (append-nil (takes views) ∙ taken)))
 
-  pub put_task : (port : ℕ) (v : Tally T) (x : T) → v.fresh ≡ true → v.parts ≡ 1024 → Pushes Shared port v (Some x ∷ []) (λ w. w ≡ after_put v (Some x ∷ []))
+  pub put_task : (port : ℕ) (v : Tally T) (x : T) → v.fresh ≡ true → v.parts ≡ all_parts → Pushes Shared port v (Some x ∷ []) (λ w. w ≡ after_put v (Some x ∷ []))
   put_task port v x new all items views h at =
       let w : Tally T = tally v.parts v.fresh (v.put ++ x ∷ []) v.taken v.stopped in
       let put = grown (λ u. u.put) views port v w (x ∷ []) at refl in
@@ -133,7 +133,7 @@ module _ {T : Type 0} where
         refl,
       )
 
-  pub put_mark : (port : ℕ) (v : Tally T) → v.parts ≡ 1024 → Pushes Shared port v (None ∷ []) (λ w. w ≡ after_put v (None ∷ []))
+  pub put_mark : (port : ℕ) (v : Tally T) → v.parts ≡ all_parts → Pushes Shared port v (None ∷ []) (λ w. w ≡ after_put v (None ∷ []))
   put_mark port v all items views h at =
       let w : Tally T = tally v.parts false v.put v.taken v.stopped in
       let put = kept (λ u. u.put) views port v w at refl in

@@ -5,6 +5,10 @@ use mathlib.Core.Option.{some}
 use lib.ListN.{get_elem?}
 use Rattle.aud_pool.specs.declared.rule.Tally.{Tally}
 
+-- the pool and its workers have so many parts of the queue together
+abbrev pub all_parts : ℕ
+all_parts = 1024
+
 abbrev pub either_stopped : Bool → Bool → Bool
 either_stopped true b = true
 either_stopped false b = b
@@ -50,11 +54,11 @@ module _ {T : Type 0} where
 
   -- a view with no part is idle; while a view is fresh it has every part, and no mark was put; once a view has taken a mark there is no task left
   abbrev pub Fits : List (Option T) → Tally T → Type 0
-  Fits items v = (v.parts ≡ 0 → v ≡ idle) × (v.fresh ≡ true → (v.parts ≡ 1024) × (v.stopped ≡ false) × NoMark items) × (v.stopped ≡ true → tasks_in items ≡ [])
+  Fits items v = (v.parts ≡ 0 → v ≡ idle) × (v.fresh ≡ true → (v.parts ≡ all_parts) × (v.stopped ≡ false) × NoMark items) × (v.stopped ≡ true → tasks_in items ≡ [])
 
   abbrev pub Shared : List (Option T) → List (Tally T) → Type 0
   Shared items views =
-      (parts_of views ≡ 1024)
+      (parts_of views ≡ all_parts)
       × IsPermutation (puts views) (takes views ++ tasks_in items)
       × MarksLast items
       × ((port : ℕ) (v : Tally T) → get_elem? views port ≡ some v → Fits items v)

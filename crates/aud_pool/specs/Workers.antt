@@ -8,7 +8,7 @@ use Rattle.aud_pool.specs.declared.worker.Member.{Member}
 use Rattle.aud_pool.specs.declared.worker.WorkerEnd.{WorkerEnd}
 use Rattle.aud_pool.specs.declared.running.Refusal.{Refusal}
 use Rattle.aud_pool.specs.declared.running.Refusal.TheVariants as refusal
-use Rattle.aud_pool.specs.Rule.{tally, either_stopped}
+use Rattle.aud_pool.specs.Rule.{tally, either_stopped, all_parts}
 
 -- a pool has 1 to 16 workers
 abbrev pub IsCrew : ℕ → Type 0
@@ -73,4 +73,4 @@ module _ {T S : Type 0} where
 module _ {T S : Type 0} where
   -- the tally of a queue once all tokens are taken back: what was put, what the workers drew, and whether a mark was taken
   abbrev pub gathered : List T → List (WorkerEnd T S) → Tally T
-  gathered put workers = tally 1024 false put (all_drawn workers) (some_stopped workers)
+  gathered put workers = tally all_parts false put (all_drawn workers) (some_stopped workers)

@@ -3,7 +3,7 @@
 ghost use Rattle.std.specs.Prelude.{◌≡◌, ◌≤◌, ◌+◌, ◌++◌, [], true, false, length, vec_len, vec_capacity};
 ghost use Rattle.std.specs.List.Sorted.{IsPermutation};
 ghost use Rattle.crossbeam_deque.specs.Handles.{worker_view, worker_flavor, worker_index, worker_capacity, SameWorker};
-ghost use Rattle.aud_pool.specs.Rule.{tally};
+ghost use Rattle.aud_pool.specs.Rule.{tally, all_parts};
 ghost use Rattle.aud_pool.specs.Workers.{HasParts};
 
 use crate::rule::{Drains, Puts, Queue};
@@ -11,11 +11,11 @@ use std::sync::Wait;
 
 /// Puts each task into a fresh queue.
 pub(crate) fn fill<T: Drop>(queue: &mut Queue<T>, tasks: Vec<T>)
-    requires fresh { worker_view queue.old ≡ tally 1024 true [] [] false }
+    requires fresh { worker_view queue.old ≡ tally all_parts true [] [] false }
     requires room { worker_index queue.old + vec_len tasks ≤ worker_capacity queue.old }
     ensures same { SameWorker queue.old queue.new }
     ensures index { worker_index queue.new ≡ worker_index queue.old + vec_len tasks }
-    ensures filled { worker_view queue.new ≡ tally 1024 true tasks.items [] false }
+    ensures filled { worker_view queue.new ≡ tally all_parts true tasks.items [] false }
 {
     for task in tasks {
         let Ok(()) = queue.push_as::<Puts>(Some(task)) else {
@@ -26,10 +26,10 @@ pub(crate) fn fill<T: Drop>(queue: &mut Queue<T>, tasks: Vec<T>)
 
 /// Puts so many marks after the tasks.
 pub(crate) fn add_marks<T: Drop>(queue: &mut Queue<T>, count: usize)
-    requires full { (worker_view queue.old).parts ≡ 1024 }
+    requires full { (worker_view queue.old).parts ≡ all_parts }
     requires room { worker_index queue.old + count ≤ worker_capacity queue.old }
     ensures same { SameWorker queue.old queue.new }
-    ensures marked { HasParts 1024 (worker_view queue.old) (worker_view queue.new) }
+    ensures marked { HasParts all_parts (worker_view queue.old) (worker_view queue.new) }
 {
     for _mark in 0..count {
         let Ok(()) = queue.push_as::<Puts>(None) else {
@@ -41,7 +41,7 @@ pub(crate) fn add_marks<T: Drop>(queue: &mut Queue<T>, count: usize)
 /// Takes out of the queue the tasks that are left in it.
 pub(crate) fn drain<T: Drop, R: Wait>(rt: &R, queue: &mut Queue<T>, left: &mut Vec<T>)
     requires first_in_first_out { worker_flavor queue.old ≡ 0 }
-    requires full { (worker_view queue.old).parts ≡ 1024 }
+    requires full { (worker_view queue.old).parts ≡ all_parts }
     requires none { left.old.items ≡ [] }
     requires room { length (worker_view queue.old).put ≤ vec_capacity left.old }
     ensures all { IsPermutation (worker_view queue.old).put ((worker_view queue.old).taken ++ left.new.items) }

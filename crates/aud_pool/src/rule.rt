@@ -2,7 +2,7 @@
 
 ghost use Rattle.std.specs.Prelude.{◌≡◌, ◌-◌, ◌+◌, ◌++◌, ◌≤◌, [], true, false, length};
 ghost use Rattle.std.specs.List.Sorted.{IsPermutation};
-ghost use Rattle.aud_pool.specs.Rule.{tally, idle, Shared, after_take, after_put, either_stopped, tasks_in};
+ghost use Rattle.aud_pool.specs.Rule.{tally, idle, Shared, after_take, after_put, either_stopped, tasks_in, all_parts};
 
 use crossbeam_deque::protocol::{Join, Outcome, Protocol, Split};
 use crossbeam_deque::{Pass, Stealer, Worker};
@@ -25,7 +25,7 @@ pub struct Fair;
 impl<T> Protocol<Option<T>, Tally<T>> for Fair {
     ghost holds = { Shared };
 
-    ghost first = { tally 1024 true [] [] false };
+    ghost first = { tally all_parts true [] [] false };
 
     ghost guest = { idle };
 }
@@ -62,9 +62,9 @@ pub struct Drains;
 
 impl<T> Outcome<Option<T>, Tally<T>> for Drains {
     ghost then = { λ v xs w. (w ≡ after_take v xs)
-        × (v.stopped ≡ true → tasks_in xs ≡ []) × (v.parts ≡ 1024 → length w.taken ≤ length v.put) };
+        × (v.stopped ≡ true → tasks_in xs ≡ []) × (v.parts ≡ all_parts → length w.taken ≤ length v.put) };
 
-    ghost empty = { λ v. v.parts ≡ 1024 → IsPermutation v.put v.taken };
+    ghost empty = { λ v. v.parts ≡ all_parts → IsPermutation v.put v.taken };
 }
 
 /// A queue of tasks, first in, first out. `None` is a mark: the worker that takes it ends.

@@ -3,7 +3,7 @@
 ghost use Rattle.std.specs.Prelude.{◌-◌, ◌++◌, ◌≡◌, ◌<◌, ◌≤◌, ◌+◌, ◌⊎◌, [], true, false, not, map, All, IfOk, IfErr, OnOk, vec_len, vec_capacity};
 ghost use Rattle.std.specs.List.Sorted.{IsPermutation};
 ghost use Rattle.crossbeam_deque.specs.Handles.{view, worker_deque, stealer_deque, worker_view, worker_flavor, worker_index, worker_capacity, SameWorker};
-ghost use Rattle.aud_pool.specs.Rule.{tally};
+ghost use Rattle.aud_pool.specs.Rule.{tally, all_parts};
 ghost use Rattle.aud_pool.specs.Workers.{AreWorked, HasParts, HaveGrown, IsCrew, IsHolding, IsReady, IsRefusal, all_drawn, end_of, gathered};
 
 use crate::queue::{add_marks, drain, fill};
@@ -48,7 +48,7 @@ fn make_room<T: Drop, S: Drop>(
     count: usize,
     tasks: usize,
 ) -> Result<Room<T, S>, OutOfMemory>
-    ensures fresh { IfOk result (λ r. worker_view r.queue ≡ tally 1024 true [] [] false) }
+    ensures fresh { IfOk result (λ r. worker_view r.queue ≡ tally all_parts true [] [] false) }
     ensures queue { IfOk result (λ r. (worker_flavor r.queue ≡ 0) × (worker_index r.queue ≡ 0)
         × (tasks + count ≤ worker_capacity r.queue)) }
     ensures taker { IfOk result (λ r. stealer_deque r.taker ≡ worker_deque r.queue) }
@@ -80,12 +80,12 @@ fn seat_all<T: Drop, S: Drop>(
     members: &mut Vec<Member<T, S>>,
     alloc: Global,
 )
-    requires full { (worker_view queue.old).parts ≡ 1024 }
-    requires few { vec_len seats < 1024 }
+    requires full { (worker_view queue.old).parts ≡ all_parts }
+    requires few { vec_len seats < all_parts }
     requires none { members.old.items ≡ [] }
     requires room { vec_len seats ≤ vec_capacity members.old }
     ensures same { SameWorker queue.old queue.new }
-    ensures cut { HasParts (1024 - vec_len seats) (worker_view queue.old) (worker_view queue.new) }
+    ensures cut { HasParts (all_parts - vec_len seats) (worker_view queue.old) (worker_view queue.new) }
     ensures fresh { 0 < vec_len seats → (worker_view queue.new).fresh ≡ false }
     ensures ready { All (IsReady (worker_deque queue.new)) members.new.items }
     ensures seats { map (λ m. m.seat) members.new.items ≡ seats.items }
@@ -110,7 +110,7 @@ fn gather<T: Drop, S: Drop>(
     members: Vec<Member<T, S>>,
     workers: &mut Vec<WorkerEnd<T, S>>,
 )
-    requires parts { ((worker_view queue.old).parts + vec_len members ≡ 1024) × (0 < (worker_view queue.old).parts) }
+    requires parts { ((worker_view queue.old).parts + vec_len members ≡ all_parts) × (0 < (worker_view queue.old).parts) }
     requires start { ((worker_view queue.old).fresh ≡ false) × ((worker_view queue.old).taken ≡ []) }
     requires going { (worker_view queue.old).stopped ≡ false }
     requires holding { All (IsHolding (worker_deque queue.old)) members.items }

@@ -2,7 +2,7 @@
 
 ghost use Rattle.std.specs.Prelude.{◌≡◌, ◌<◌, ◌∷◌, [], length, All, vec_len};
 ghost use Rattle.crossbeam_deque.specs.Handles.{view, IsPassOf, stealer_deque};
-ghost use Rattle.aud_pool.specs.Rule.{after_take};
+ghost use Rattle.aud_pool.specs.Rule.{after_take, all_parts};
 ghost use Rattle.aud_pool.specs.Workers.{IsReady, IsDone, IsStarting, SeatsHaveGrown};
 
 use crate::rule::{Taker, Takes, Token};
@@ -94,7 +94,7 @@ fn work_all<
     G: Gate<T> + Sync,
     R: Threads + Wait + Sync,
 >(rt: &R, taker: &Taker<T>, work: &W, gate: &G, members: &mut [Member<T, S>])
-    requires few { length members.old < 1024 }
+    requires few { length members.old < all_parts }
     requires some { 0 < length members.old }
     requires starting { All (IsStarting (stealer_deque taker.now) (W.may_work work.now)) members.old }
     ensures done { All (IsDone (stealer_deque taker.now) (W.done work.now)) members.new }
@@ -102,7 +102,7 @@ fn work_all<
 {
     let count = members.len();
     let each = |i: usize, member: &mut Member<T, S>|
-        requires { (i < 1024) × IsStarting (stealer_deque taker.now) (W.may_work work.now) member.now }
+        requires { (i < all_parts) × IsStarting (stealer_deque taker.now) (W.may_work work.now) member.now }
         ensures { IsDone (stealer_deque taker.entry.now) (W.done work.entry.now) member.exit.now
             × W.grows work.entry.now member.entry.now.seat member.exit.now.seat }
     { work_through(rt, taker, work, gate, i as u32, member) };
@@ -118,7 +118,7 @@ pub(crate) fn work_crew<
     G: Gate<T> + Sync,
     R: Threads + Wait + Sync,
 >(rt: &R, taker: &Taker<T>, work: &W, gate: &G, members: &mut Vec<Member<T, S>>)
-    requires few { vec_len members.old < 1024 }
+    requires few { vec_len members.old < all_parts }
     requires some { 0 < vec_len members.old }
     requires starting { All (IsStarting (stealer_deque taker.now) (W.may_work work.now)) members.old.items }
     ensures done { All (IsDone (stealer_deque taker.now) (W.done work.now)) members.new.items }

@@ -1,8 +1,9 @@
 //! A case, and what opaq says of it.
 
 use crate::words::words_of;
-use aud_cli::{Command, Job, job_of, run_lines};
+use aud_cli::{Command, Job, run_lines};
 use aud_report::{MemorySink, MemorySource};
+use aud_words::job_of;
 use std::alloc::{AllocError, Global};
 
 /// The exit status where the words are not understood.

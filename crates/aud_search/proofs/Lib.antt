@@ -12,3 +12,4 @@ pub mod Passing
 pub mod Recording
 pub mod Crosses
 pub mod Anew
+pub mod Lettered

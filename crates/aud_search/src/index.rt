@@ -56,15 +56,6 @@ pub(crate) fn spread(word: u64) -> u64 {
     whole ^ (whole >> 31)
 }
 
-/// A hash of a number and some words.
-pub(crate) fn hash_words(start: u64, words: &[u64]) -> u64 {
-    let mut hash = hash_of(0x2545_F491_4F6C_DD1D, start);
-    for word in words {
-        hash = hash_of(hash, *word);
-    }
-    hash
-}
-
 /// The half of a hash that a slot keeps.
 fn half_of(hash: u64) -> u32 {
     (hash >> 32) as u32

@@ -1,6 +1,7 @@
 #![tactic(auto)]
 //! The search for an order that shows a history opaque.
 
+mod alone;
 mod choice;
 mod digests;
 mod index;

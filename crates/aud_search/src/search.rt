@@ -17,6 +17,7 @@ ghost use Rattle.aud_search.specs.Memos.{Names, states_reached, IsReported, IsFu
 ghost use Rattle.aud_search.specs.Recorders.{HasNote, IsNotedFor, IsReason, AreKept, IsSilentAt, reason_by, IsNotedAfter, HasNoteAfter};
 ghost use Rattle.aud_search.specs.Turns.{IsSought, IsArrived, IsClosed, unnumbered, HasRoomMade};
 
+use crate::alone::{is_refuted_alone, lists_of, may_pay};
 use crate::choice::{Choice, Effect, choices_of};
 use crate::memo::{Memo, Reason};
 use crate::outcome::{Decided, Ended, Outcome, Searched};
@@ -674,6 +675,40 @@ pub fn decide<A: Allocator + Copy>(alloc: A, shape: &Shape<A>) -> Result<Decided
 {
     letter_is_opaque();
     let _well_formed = shape.history();
+    decide_by_lists(alloc, shape)
+}
+
+/// The same by lists of decisions: where that may pay by a short search, and then as one that takes long.
+fn decide_by_lists<A: Allocator + Copy>(
+    alloc: A,
+    shape: &Shape<A>,
+) -> Result<Decided<A>, OutOfMemory>
+    ensures { IfOk result (Decides (objects_of shape.now) (history_of shape.now)) }
+{
+    if !may_pay(shape) {
+        return decide_wholly(alloc, shape);
+    }
+    match explore(alloc, shape, &Prefix::empty(alloc), lists_of(shape))? {
+        Outcome::Witness(witness) => Ok(Decided::Opaque(witness)),
+        Outcome::Refuted => Ok(Decided::NotOpaque),
+        Outcome::Spent => decide_late(alloc, shape),
+    }
+}
+
+/// The same of a history that takes long: whether it is refuted as one of its objects sees it, and else wholly.
+fn decide_late<A: Allocator + Copy>(alloc: A, shape: &Shape<A>) -> Result<Decided<A>, OutOfMemory>
+    ensures { IfOk result (Decides (objects_of shape.now) (history_of shape.now)) }
+{
+    if is_refuted_alone(alloc, shape) {
+        return Ok(Decided::NotOpaque);
+    }
+    decide_wholly(alloc, shape)
+}
+
+/// The same by a search of all lists.
+fn decide_wholly<A: Allocator + Copy>(alloc: A, shape: &Shape<A>) -> Result<Decided<A>, OutOfMemory>
+    ensures { IfOk result (Decides (objects_of shape.now) (history_of shape.now)) }
+{
     match search_with(alloc, shape, Unrecorded)? {
         Searched::Opaque(witness) => Ok(Decided::Opaque(witness)),
         Searched::NotOpaque(_, _) => Ok(Decided::NotOpaque),

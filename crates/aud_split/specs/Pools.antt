@@ -1,6 +1,7 @@
 -- What a pool of searching workers does for its tasks and with its passes, and when it does not begin.
-use Rattle.std.specs.Prelude.{◌≡◌, ◌≢◌, ◌⊎◌, ℕ, ◌<◌, ◌+◌, ◌++◌, List, [], ◌∷◌, length, All, Option, Some, None, slice_index_or}
+use Rattle.std.specs.Prelude.{◌≡◌, ◌≢◌, ◌⊎◌, ℕ, ◌<◌, ◌+◌, ◌++◌, List, [], ◌∷◌, length, map, All, Option, Some, None, slice_index_or, true}
 use Rattle.std.specs.List.{Contains}
+use Rattle.std.specs.List.Sorted.{IsPermutation}
 use Rattle.std.specs.declared.alloc.Global.{Global}
 use mathlib.Core.List.{IsPrefix}
 use Rattle.aud_witness.specs.declared.decision.Decision.{Decision}
@@ -17,7 +18,7 @@ use Rattle.aud_node.specs.Meanings.{NodeOf, PassOf, mine}
 use Rattle.aud_node.specs.Faults.{AreAt}
 use Rattle.aud_pool.specs.Workers.{AreWorked, IsCrew}
 use Rattle.aud_split.specs.Searched.{IsRefutedBy}
-use Rattle.aud_split.specs.Ends.{drawn_by, faulted}
+use Rattle.aud_split.specs.Ends.{drawn_by, faulted, AreFaults}
 use Rattle.aud_split.specs.declared.fault.PoolFault.{PoolFault}
 use Rattle.aud_split.specs.declared.fault.PoolFault.TheVariants as fault
 
@@ -97,3 +98,17 @@ pool_fault_number fault.PlanMismatch = 3
 pool_fault_number fault.WrongNode = 4
 pool_fault_number fault.OutOfMemory = 5
 pool_fault_number fault.NoThread = 6
+
+-- # What a pool leaves
+
+-- the tasks, the passes before, their budget; then the passes after, as many as the count says, the drawn tasks with the numbers of
+-- their workers, the tasks that are left, and the faults
+pub record HasRun (s : ShapeOf) (budget : ℕ) (tasks : List (List Decision)) (passes after : List PassOf) (count : ℕ) (drawn : List (ℕ × List Decision)) (left : List (List Decision)) (faults : List (ℕ × PoolFault)) : Type 0 where
+  -- each task was drawn or is left
+  pub all : IsPermutation tasks (map (λ d. d.1) drawn ++ left)
+  -- some are left only where every worker met a fault
+  pub left_so : (left ≡ []) ⊎ ((w : ℕ) → w < count → faulted w faults ≡ true)
+  pub searched : HaveSearched s passes after
+  pub settled : AreSettled s budget after faults drawn
+  pub workers : All (λ d. d.0 < count) drawn
+  pub numbered : AreFaults 0 count faults

@@ -4,6 +4,7 @@ ghost use Rattle.std.specs.Prelude.{◌≡◌, ◌<◌, ◌≤◌, ◌+◌, ◌+
 ghost use Rattle.aud_pool.specs.Workers.{all_drawn};
 ghost use Rattle.aud_split.specs.Ends.{numbered, failures, HaveRoom};
 ghost use Rattle.aud_split.specs.declared.fault.PoolFault.TheVariants.{OutOfMemory as Exhausted};
+ghost use Rattle.aud_pool.specs.Rule.{all_parts};
 
 use crate::fault::PoolFault;
 use aud_event::OutOfMemory;
@@ -62,7 +63,7 @@ fn note_fault(worker: u32, failed: bool, faults: &mut Vec<(u32, PoolFault)>)
 
 /// Takes apart what all workers leave. It does not allocate.
 pub(crate) fn take_apart<T: Drop, S: Drop>(workers: Vec<WorkerEnd<T, S>>, lists: &mut Lists<T, S>)
-    requires few { vec_len workers < 1024 }
+    requires few { vec_len workers < all_parts }
     requires empty { (lists.old.seats.items ≡ []) × (lists.old.drawn.items ≡ []) × (lists.old.faults.items ≡ []) }
     requires room { HaveRoom (vec_len workers) (length (all_drawn workers.items)) lists.old }
     ensures seats { lists.new.seats.items ≡ map (λ w. w.seat) workers.items }

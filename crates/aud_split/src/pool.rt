@@ -5,7 +5,7 @@ ghost use Rattle.std.specs.List.Sorted.{IsPermutation};
 ghost use Rattle.aud_node.specs.Faults.{AreAt};
 ghost use Rattle.aud_pool.specs.Workers.{all_drawn, AreWorked, HaveGrown, IsCrew, IsRefusal};
 ghost use Rattle.aud_split.specs.Ends.{faulted, AreFaults};
-ghost use Rattle.aud_split.specs.Pools.{AreSettled, HasSearched, HaveSearched, IsPoolFault, IsSettled, MayRun};
+ghost use Rattle.aud_split.specs.Pools.{HasRun, HasSearched, HaveSearched, IsPoolFault, IsSettled, MayRun};
 
 use crate::ends::{Lists, make_lists, take_apart};
 use crate::explorer::Explorer;
@@ -87,13 +87,8 @@ pub fn run_pool_with<
     gate: &G,
 ) -> Result<PoolEnd<J>, (Vec<Pass<J>>, PoolFault)>
     requires named { shape.value ≡ H.shape }
-    ensures all { IfOk result (λ e. IsPermutation tasks.items (map (λ d. d.1) e.drawn.items ++ e.left.items)) }
-    ensures left { IfOk result (λ e. (e.left.items ≡ [])
-        ⊎ ((w : ℕ) → w < vec_len e.passes → faulted w e.faults.items ≡ true)) }
-    ensures passes { IfOk result (λ e. HaveSearched shape.value passes.items e.passes.items) }
-    ensures settled { IfOk result (λ e. AreSettled shape.value budget e.passes.items e.faults.items e.drawn.items) }
-    ensures workers { IfOk result (λ e. All (λ d. d.0 < vec_len e.passes) e.drawn.items) }
-    ensures faults { IfOk result (λ e. AreFaults 0 (vec_len e.passes) e.faults.items) }
+    ensures ran { IfOk result (λ e. HasRun shape.value budget tasks.items passes.items e.passes.items (vec_len e.passes) e.drawn.items
+        e.left.items e.faults.items) }
     ensures begun { OnOk result (MayRun node.now passes.items shape.value) }
     ensures fault { IfErr result (λ e. IsPoolFault node.now passes.items shape.value e.1) }
     ensures back { IfErr result (λ e. e.0 ≡ passes) }
@@ -149,13 +144,8 @@ fn run_own<
     gate: &G,
 ) -> Result<PoolEnd<J>, (Vec<Pass<J>>, PoolFault)>
     requires named { shape.value ≡ H.shape }
-    ensures all { IfOk result (λ e. IsPermutation tasks.items (map (λ d. d.1) e.drawn.items ++ e.left.items)) }
-    ensures left { IfOk result (λ e. (e.left.items ≡ [])
-        ⊎ ((w : ℕ) → w < vec_len e.passes → faulted w e.faults.items ≡ true)) }
-    ensures passes { IfOk result (λ e. HaveSearched shape.value passes.items e.passes.items) }
-    ensures settled { IfOk result (λ e. AreSettled shape.value budget e.passes.items e.faults.items e.drawn.items) }
-    ensures workers { IfOk result (λ e. All (λ d. d.0 < vec_len e.passes) e.drawn.items) }
-    ensures faults { IfOk result (λ e. AreFaults 0 (vec_len e.passes) e.faults.items) }
+    ensures ran { IfOk result (λ e. HasRun shape.value budget tasks.items passes.items e.passes.items (vec_len e.passes) e.drawn.items
+        e.left.items e.faults.items) }
     ensures begun { OnOk result (MayRun node.now passes.items shape.value) }
     ensures fault { IfErr result (λ e. IsPoolFault node.now passes.items shape.value e.1) }
     ensures back { IfErr result (λ e. e.0 ≡ passes) }
@@ -190,13 +180,8 @@ pub fn run_pool<
     budget: u64,
     gate: &G,
 ) -> Result<PoolEnd<J>, (Vec<Pass<J>>, PoolFault)>
-    ensures all { IfOk result (λ e. IsPermutation tasks.items (map (λ d. d.1) e.drawn.items ++ e.left.items)) }
-    ensures left { IfOk result (λ e. (e.left.items ≡ [])
-        ⊎ ((w : ℕ) → w < vec_len e.passes → faulted w e.faults.items ≡ true)) }
-    ensures passes { IfOk result (λ e. HaveSearched shape.value passes.items e.passes.items) }
-    ensures settled { IfOk result (λ e. AreSettled shape.value budget e.passes.items e.faults.items e.drawn.items) }
-    ensures workers { IfOk result (λ e. All (λ d. d.0 < vec_len e.passes) e.drawn.items) }
-    ensures faults { IfOk result (λ e. AreFaults 0 (vec_len e.passes) e.faults.items) }
+    ensures ran { IfOk result (λ e. HasRun shape.value budget tasks.items passes.items e.passes.items (vec_len e.passes) e.drawn.items
+        e.left.items e.faults.items) }
     ensures begun { OnOk result (MayRun node.now passes.items shape.value) }
     ensures fault { IfErr result (λ e. IsPoolFault node.now passes.items shape.value e.1) }
     ensures back { IfErr result (λ e. e.0 ≡ passes) }

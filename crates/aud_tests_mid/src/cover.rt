@@ -1,8 +1,8 @@
 //! Two worked histories below small covers.
 
 use crate::fixtures::{is_order, order, shape_of};
-use aud_cover::{closed, open_list};
 use aud_event::OutOfMemory;
+use aud_know::{closed, open_list};
 use aud_lattice::Cover;
 use aud_order::Shape;
 use aud_witness::{Decision, Prefix};

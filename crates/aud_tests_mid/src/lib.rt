@@ -2,6 +2,8 @@
 //! The tests of the crates between the facts and knowledge, and brute force by the definition of opacity.
 
 #[cfg(test)]
+mod alone;
+#[cfg(test)]
 mod certs;
 #[cfg(test)]
 mod cover;

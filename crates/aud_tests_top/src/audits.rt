@@ -1,7 +1,7 @@
 //! Audits: what they say of worked histories and of inputs that are drawn, that their pools work at once, and how they fail.
 
 ghost use Rattle.std.specs.Prelude.{IfSome};
-ghost use Rattle.aud_cli.specs.Words.{IsAuditJob};
+ghost use Rattle.aud_cli.specs.Jobs.{IsAuditJob};
 
 use crate::drawn::drawn;
 use crate::fixtures::{FIVE_COUNTED, SEEN_REQUEST, TORN_READ, UNSEEN_REQUEST};

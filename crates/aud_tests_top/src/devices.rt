@@ -35,7 +35,7 @@ fn dripped(
 fn source_drips_and_fails(rt: HostRuntime) -> Result<(), Fail> {
     let alloc = rt.alloc();
     let job = job(alloc)?;
-    for reads in 0..READER_AFTER_COMMIT.len() as u64 {
+    for reads in 0..=READER_AFTER_COMMIT.len() as u64 {
         let dripped = dripped(alloc, &job, reads, "")?;
         assert_eq!(rt;
             dripped,

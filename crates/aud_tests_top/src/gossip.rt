@@ -45,18 +45,24 @@ fn started<J: Fleet, R: Wait>(
     Some(Site { node, pass })
 }
 
-/// What was posted as often to an inbox whose senders are gone.
+/// The second of two inboxes whose senders are gone, to each of which the packets were posted; the first had them all.
 fn posted<R: Wait>(rt: &R, alloc: Global, packets: &[Packet]) -> Option<Receiver<Packet>> {
-    let (to, inbox) = crossbeam_channel::unbounded(alloc).ok()?;
+    let (to_first, first) = crossbeam_channel::unbounded(alloc).ok()?;
+    let (to_second, second) = crossbeam_channel::unbounded(alloc).ok()?;
     let mut senders = Vec::new(alloc);
-    senders.push(to).ok()?;
+    senders.push(to_first).ok()?;
+    senders.push(to_second).ok()?;
     let outbox = Outbox::new(senders);
     for packet in packets {
-        if outbox.post(rt, packet) != Ok(1) {
+        if outbox.post(rt, packet) != Ok(2) {
             return None;
         }
     }
-    Some(inbox)
+    drop(outbox);
+    for _ in packets {
+        let _packet = first.recv(rt).ok()?;
+    }
+    Some(second)
 }
 
 impl<J: Fleet, S: Wait + Drop> Site<J, S> {
@@ -124,9 +130,9 @@ fn spread<J: Fleet, S: Wait + Drop, R: Wait>(
     second.receive(rt, alloc, &inbox)
 }
 
-/// The verdicts once each node has one log, once they exchanged these, and once the finding was posted; and what was
-/// received.
-type Told = ([Verdicts; 3], [Received; 2], Received);
+/// The verdicts once each node has one log, once they exchanged these, once the finding was posted, and once the second
+/// node received what had been posted before the finding; and what was received.
+type Told = ([Verdicts; 4], [Received; 2], [Received; 2]);
 
 fn told_by<J: Fleet, S: Wait + Drop, R: Wait>(
     rt: &R,
@@ -141,9 +147,16 @@ fn told_by<J: Fleet, S: Wait + Drop, R: Wait>(
     let apart = verdicts(&mut first, &mut second);
     let exchanged = exchange(rt, alloc, &mut first, &mut second)?;
     let together = verdicts(&mut first, &mut second);
+    let late = first.post_twice(rt, alloc)?;
     let found = spread(rt, alloc, &mut first, &mut second, finding)?;
+    let known = verdicts(&mut first, &mut second);
+    let found_late = second.receive(rt, alloc, &late)?;
     let last = verdicts(&mut first, &mut second);
-    Some(([apart, together, last], exchanged, found))
+    Some((
+        [apart, together, known, last],
+        exchanged,
+        [found, found_late],
+    ))
 }
 
 fn told<J: Fleet, R: Wait>(
@@ -184,8 +197,9 @@ fn two_running_nodes_come_to_one_verdict(rt: HostRuntime) -> Result<(), Fail> {
         [Ok(Judgement::Waiting(1)), Ok(Judgement::Waiting(0))],
         [Ok(Judgement::Unfinished); 2],
         [Ok(Judgement::NotOpaque); 2],
+        [Ok(Judgement::NotOpaque); 2],
     ];
-    assert!(rt; told == Some((verdicts, [TWO_TAKEN; 2], TWO_TAKEN)));
+    assert!(rt; told == Some((verdicts, [TWO_TAKEN; 2], [TWO_TAKEN; 2])));
     Ok(())
 }
 

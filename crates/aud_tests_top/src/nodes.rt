@@ -75,8 +75,8 @@ fn counted(closed: &Closed) -> (usize, usize) {
 }
 
 /// What the first pass says of the facts, then what it says of the finding that it offers, what the second one says then,
-/// and what it says once they met. Last, what the closed node counts.
-type Told = ([Reading; 4], (usize, usize));
+/// and what it says once they met. Then what the meeting answers. Last, what the closed node counts.
+type Told = ([Reading; 4], Result<(), ReadFault>, (usize, usize));
 
 fn told_of<J: Fleet, R: Wait>(
     rt: &R,
@@ -94,12 +94,12 @@ fn told_of<J: Fleet, R: Wait>(
     let _offered = node.offer(rt, alloc, &mut first, Item::Finding(finding));
     let after = read(&node, &mut first, list);
     let other = read(&node, &mut second, list);
-    let _met = node.meet(rt, &mut second, &mut first);
+    let meeting = node.meet(rt, &mut second, &mut first);
     let met = read(&node, &mut second, list);
     passes.push(first).ok()?;
     passes.push(second).ok()?;
     let closed = node.close(rt, passes).ok()?;
-    Some(([before, after, other, met], counted(&closed)))
+    Some(([before, after, other, met], meeting, counted(&closed)))
 }
 
 fn told<J: Fleet, R: Wait>(
@@ -130,7 +130,7 @@ fn a_finding_is_known_at_once(rt: HostRuntime) -> Result<(), Fail> {
     let plan = plan_of(alloc, &run)?;
     let said = told::<Brand, _>(&rt, alloc, Opened::new(7), plan, &run)?;
     let readings = [UNFINISHED, REFUTED, REFUTED, REFUTED];
-    assert!(rt; said == Some((readings, (15, 1))));
+    assert!(rt; said == Some((readings, Ok(()), (15, 1))));
     Ok(())
 }
 

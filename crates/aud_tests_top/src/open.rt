@@ -2,8 +2,8 @@
 
 use crate::fixtures::{TORN_READ, UNSEEN_REQUEST, list, shape_of};
 use crate::knowing::{REFUTED, Step, known_by};
-use aud_cover::open_list;
 use aud_facts::Facts;
+use aud_know::open_list;
 use aud_witness::Prefix;
 use aud_worked::{Unread, facts_of};
 use std::alloc::Global;

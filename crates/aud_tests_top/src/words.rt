@@ -1,6 +1,7 @@
 //! Words of the command line.
 
-use aud_cli::{AuditJob, Command, Job, Usage, job_of};
+use aud_cli::{AuditJob, Command, Job};
+use aud_words::{Usage, job_of};
 use std::alloc::{AllocError, Global};
 use std::test::Fail;
 

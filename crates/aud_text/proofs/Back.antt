@@ -15,11 +15,11 @@ use Rattle.aud_event.specs.declared.signature.Args.TheVariants as args
 use Rattle.aud_event.specs.declared.signature.Format.{Format}
 use Rattle.aud_event.specs.declared.signature.Takes.{Takes}
 use Rattle.aud_event.specs.declared.signature.Takes.TheVariants as takes
-use Rattle.aud_event.proofs.Rows.{word-back, word-is_name, args_of-taken, op_with-again}
+use Rattle.aud_event.specs.Rows.{word-back, word-is_name, args_of-taken, op_with-again}
 use Rattle.aud_event.specs.Facts.{first_fact_fault}
 use Rattle.aud_event.specs.Laws.{NumberIsOwn}
-use Rattle.aud_event.specs.Objects.{name_of, args_of, op_with, signature_of, takes_kind, is_in_format}
-use Rattle.aud_event.specs.Words.{word_of_op, op_in, op_of_word_in}
+use Rattle.aud_event.specs.Objects.{name_of, args_of, op_with, signature_of, takes_kind, is_in_format, word_of_op}
+use Rattle.aud_event.specs.Words.{op_in, op_of_word_in}
 use Rattle.aud_event.specs.declared.object.OpName.{OpName}
 use Rattle.aud_event.specs.declared.object.Op.{Op}
 use Rattle.aud_event.specs.declared.object.Answer.{Answer}
@@ -35,6 +35,7 @@ use Rattle.aud_text.specs.Written.{data_of, fact_members, record_members, object
 use Rattle.aud_text.proofs.JsonText.{json_of-text}
 use Rattle.aud_text.proofs.Length.{AtMost, last_bracket, short_number, short_text, short_other, integer_le, quoted_le}
 use Rattle.aud_text.proofs.Sound.{IsSound, sound, IsFound, name_short, EventFound, event_found, RecordInRange, EndInRange, record_in_range, end_in_range}
+use Rattle.aud_text.specs.Limits.{longest_line}
 
 lt_test : (x : ℕ) → x < 4294967296 → nat_lt x 4294967296 ≡ true
 lt_test x h = grind arith
@@ -212,7 +213,7 @@ flat plan (Rec r) = event_flat r r.event
 -- what is judged of the value is the fact, and its text is short
 pub record IsBack (plan : PlanOf) (f : Fact) : Type 0 where
   pub judges : judged plan (data_of plan f) ≡ Ok f
-  pub short : length (compact_text (data_of plan f)) ≤ 4096
+  pub short : length (compact_text (data_of plan f)) ≤ longest_line
 
 pub back : (plan : PlanOf) (f : Fact) → IsSound plan → NumberIsOwn → FactFits f → first_fact_fault plan f ≡ None → IsBack plan f
 back plan (End m) s own h e =
@@ -227,9 +228,9 @@ back plan (Rec r) s own h e =
       short = omega (arith, record_le plan r r.event n f h);
     }
 
-reads_back : (plan : PlanOf) (f : Fact) (text : List ℕ) → IsBack plan f → IsUtf8 text → read text ≡ Some (data_of plan f) → length text ≤ 4096 → fact_read plan text ≡ Ok f
+reads_back : (plan : PlanOf) (f : Fact) (text : List ℕ) → IsBack plan f → IsUtf8 text → read text ≡ Some (data_of plan f) → length text ≤ longest_line → fact_read plan text ≡ Ok f
 reads_back plan f text b utf8 same short =
-    let t : nat_le (length text) 4096 ≡ true = grind arith in
+    let t : nat_le (length text) longest_line ≡ true = grind arith in
     rw (t, json_of-text text utf8, same) b.judges
 
 -- what the writer's steps say of the text
@@ -238,6 +239,6 @@ pub written_reads : (plan : PlanOf) (f : Fact) (d : Data) (text : List ℕ) → 
 written_reads plan f d text s own h e is utf8 spelled reads =
     let b = back plan f (sound plan s) own h e in
     let t : text ≡ compact_text (data_of plan f) = spelled (ap has_float is ∙ plain plan f) ∙ ap compact_text is in
-    let short : length text ≤ 4096 = rw t b.short in
+    let short : length text ≤ longest_line = rw t b.short in
     let flat_d : depth d ≤ 127 = rw (is, flat plan f) (omega arith) in
     reads_back plan f text b utf8 (reads flat_d ∙ ap Some is) short

@@ -5,25 +5,26 @@ use Rattle.std.specs.Char.{digit_value}
 use Rattle.aud_text.specs.Orders.{all_digits}
 use Rattle.std.proofs.lemmas.Str.{digit_value_digit}
 use Rattle.aud_base.proofs.Bools.{and_true}
+use Rattle.aud_event.specs.Limits.{most_transactions}
 
 pub after_grows : (x : ℕ) (cs : List ℕ) → x ≤ digits_value_after 10 x cs
 after_grows x [] = omega arith
 after_grows x (c ∷ cs) = omega (arith, after_grows (x * 10 + digit_value c) cs)
 
-cut_step : (x y z : ℕ) → x ≤ y → 4096 ≤ z → 4096 ≤ x → min z 4096 ≡ min y 4096
+cut_step : (x y z : ℕ) → x ≤ y → most_transactions ≤ z → most_transactions ≤ x → min z most_transactions ≡ min y most_transactions
 cut_step x y z h g k = omega arith
 
-pub cut_early : (x : ℕ) (cs : List ℕ) → min (digits_value_after 10 (min x 4096) cs) 4096 ≡ min (digits_value_after 10 x cs) 4096
-cut_early x cs = by_test (nat_le 4096 x) refl
+pub cut_early : (x : ℕ) (cs : List ℕ) → min (digits_value_after 10 (min x most_transactions) cs) most_transactions ≡ min (digits_value_after 10 x cs) most_transactions
+cut_early x cs = by_test (nat_le most_transactions x) refl
   where
-    by_test : (b : Bool) → nat_le 4096 x ≡ b → min (digits_value_after 10 (min x 4096) cs) 4096 ≡ min (digits_value_after 10 x cs) 4096
+    by_test : (b : Bool) → nat_le most_transactions x ≡ b → min (digits_value_after 10 (min x most_transactions) cs) most_transactions ≡ min (digits_value_after 10 x cs) most_transactions
     by_test true e =
-        let k : 4096 ≤ x = grind arith in
-        let m : min x 4096 ≡ 4096 = omega arith in
-        rw m (cut_step x (digits_value_after 10 x cs) (digits_value_after 10 4096 cs) (after_grows x cs) (after_grows 4096 cs) k)
+        let k : most_transactions ≤ x = grind arith in
+        let m : min x most_transactions ≡ most_transactions = omega arith in
+        rw m (cut_step x (digits_value_after 10 x cs) (digits_value_after 10 most_transactions cs) (after_grows x cs) (after_grows most_transactions cs) k)
     by_test false e =
-        let k : x < 4096 = grind arith in
-        let m : min x 4096 ≡ x = omega arith in rw m refl
+        let k : x < most_transactions = grind arith in
+        let m : min x most_transactions ≡ x = omega arith in rw m refl
 
 pub one_digit : (c : ℕ) → (nat_le 48 c && nat_le c 57) ≡ true → digit_value c + 48 ≡ c
 one_digit c h =
@@ -38,8 +39,8 @@ digit_at (c ∷ cs) zero h a = one_digit c (and_true (nat_le 48 c && nat_le c 57
 digit_at (c ∷ cs) (suc i) h a = digit_at cs i (omega arith) (and_true (nat_le 48 c && nat_le c 57) (all_digits cs) a).1
 
 -- one more digit
-pub one_more : (s : List ℕ) (i v w : ℕ) → i < length s → all_digits s ≡ true → w ≡ min (v * 10 + (get_or s i 0 - 48)) 4096
-    → min (digits_value_after 10 w (drop (i + 1) s)) 4096 ≡ min (digits_value_after 10 v (drop i s)) 4096
+pub one_more : (s : List ℕ) (i v w : ℕ) → i < length s → all_digits s ≡ true → w ≡ min (v * 10 + (get_or s i 0 - 48)) most_transactions
+    → min (digits_value_after 10 w (drop (i + 1) s)) most_transactions ≡ min (digits_value_after 10 v (drop i s)) most_transactions
 one_more s i v w h a e =
     let d : v * 10 + (get_or s i 0 - 48) ≡ v * 10 + digit_value (get_or s i 0) = omega (arith, digit_at s i h a) in
     let left : drop i s ≡ get_or s i 0 ∷ drop (i + 1) s = rw (add-one, drop-cons s i 0) refl in

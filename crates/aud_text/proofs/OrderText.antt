@@ -20,6 +20,8 @@ use Rattle.aud_text.specs.declared.word.WordRead.{WordRead}
 use Rattle.aud_text.specs.declared.word.WordRead.TheVariants.{Decided, TooGreat, Unknown}
 use Rattle.aud_text.specs.Orders.{words_of, words_read, word_read, with_word, order_read, order_text, decision_text, fate_letter}
 use Rattle.aud_text.proofs.Words.{word_reads_back, word_exact, word_low}
+use Rattle.aud_event.specs.Limits.{most_transactions}
+use Rattle.aud_text.specs.Limits.{longest_order}
 
 abbrev is_space : ℕ → Bool
 is_space b = b == 32
@@ -71,13 +73,13 @@ letter_no_space : (f : Fate) → (fate_letter f == 32) ≡ false
 letter_no_space C = refl
 letter_no_space A = refl
 
-decision_no_space : (d : Decision) → d.tx < 4096 → NoSpace (decision_text d)
+decision_no_space : (d : Decision) → d.tx < most_transactions → NoSpace (decision_text d)
 decision_no_space d h =
     let n = decimal_is_IsNumeral d.tx (omega arith) in
     All-push (λ b. (b == 32) ≡ false) (decimal d.tx) (fate_letter d.fate) (digits_no_space (decimal d.tx) n.0.1) (letter_no_space d.fate)
 
 abbrev Low : Decision → Type 0
-Low d = d.tx < 4096
+Low d = d.tx < most_transactions
 
 texts_no_space : (ds : List Decision) → All Low ds → EachNoSpace (map decision_text ds)
 texts_no_space [] h = tt
@@ -98,15 +100,15 @@ none_apart t ds h = by_test (bytes_eq t (codes "none")) refl
         let bad : words_read (words_of (codes "none")) ≡ Err fault.UnknownWord = refl in
         absurd (cc)
 
-pub reads_back : (ds : List Decision) → All (λ d. d.tx < 4096) ds → length (order_text ds) ≤ 32768 → order_read (order_text ds) ≡ Ok ds
+pub reads_back : (ds : List Decision) → All (λ d. d.tx < most_transactions) ds → length (order_text ds) ≤ longest_order → order_read (order_text ds) ≡ Ok ds
 reads_back [] h l = refl
 reads_back (d ∷ ds) h l =
     let words : words_of (order_text (d ∷ ds)) ≡ map decision_text (d ∷ ds) = split_joined (decision_text d) (map decision_text ds) (texts_no_space (d ∷ ds) h) in
     let read : words_read (words_of (order_text (d ∷ ds))) ≡ Ok (d ∷ ds) = ap words_read words ∙ texts_read (d ∷ ds) h in
     by_parts (order_text (d ∷ ds)) l read (none_apart (order_text (d ∷ ds)) (d ∷ ds) read)
   where
-    by_parts : (t : List ℕ) → length t ≤ 32768 → words_read (words_of t) ≡ Ok (d ∷ ds) → bytes_eq t (codes "none") ≡ false → order_read t ≡ Ok (d ∷ ds)
-    by_parts t l r n = let short : nat_le (length t) 32768 ≡ true = grind arith in rw (short, n) r
+    by_parts : (t : List ℕ) → length t ≤ longest_order → words_read (words_of t) ≡ Ok (d ∷ ds) → bytes_eq t (codes "none") ≡ false → order_read t ≡ Ok (d ∷ ds)
+    by_parts t l r n = let short : nat_le (length t) longest_order ≡ true = grind arith in rw (short, n) r
 
 -- ---- no other text
 
@@ -135,7 +137,7 @@ texts_join t ds h = sym (join_with_byte-slice_split 32 t) ∙ joined ds (words_e
     joined (d ∷ ds) e = ap (join_with_byte 32) e
 
 pub exact : (t : List ℕ) (ds : List Decision) → order_read t ≡ Ok ds → t ≡ order_text ds
-exact t ds h = by_length (nat_le (length t) 32768) (bytes_eq t (codes "none")) refl h
+exact t ds h = by_length (nat_le (length t) longest_order) (bytes_eq t (codes "none")) refl h
   where
     by_length : (b c : Bool) → bytes_eq t (codes "none") ≡ c → cond b (cond c (Ok []) (words_read (words_of t))) (Err fault.TooLong) ≡ Ok ds → t ≡ order_text ds
     by_length false c e g = absurd (cc)
@@ -150,10 +152,10 @@ words_low (w ∷ ws) ds h =
     subst (All Low) (sym r.4) (All-cons Low r.0 r.1 (word_low w r.0 r.2) (words_low ws r.1 r.3))
 
 -- what reads as decisions is within the limits
-pub within : (t : List ℕ) (ds : List Decision) → order_read t ≡ Ok ds → All (λ d. d.tx < 4096) ds × (length t ≤ 32768)
-within t ds h = by_length (nat_le (length t) 32768) (bytes_eq t (codes "none")) refl h
+pub within : (t : List ℕ) (ds : List Decision) → order_read t ≡ Ok ds → All (λ d. d.tx < most_transactions) ds × (length t ≤ longest_order)
+within t ds h = by_length (nat_le (length t) longest_order) (bytes_eq t (codes "none")) refl h
   where
-    by_length : (b c : Bool) → nat_le (length t) 32768 ≡ b → cond b (cond c (Ok []) (words_read (words_of t))) (Err fault.TooLong) ≡ Ok ds → All Low ds × (length t ≤ 32768)
+    by_length : (b c : Bool) → nat_le (length t) longest_order ≡ b → cond b (cond c (Ok []) (words_read (words_of t))) (Err fault.TooLong) ≡ Ok ds → All Low ds × (length t ≤ longest_order)
     by_length false c e g = absurd (cc)
     by_length true true e g = let none : [] ≡ ds = cc in (subst (All Low) none (All-nil Low), grind (arith, e))
     by_length true false e g = (words_low (words_of t) ds g, grind (arith, e))
@@ -172,5 +174,5 @@ further start more now mid new b n m p =
     let first : start ++ one ≡ mid = sym (append_assoc start more (b ∷ [])) ∙ (ap (λ t. t ++ b ∷ []) (sym n) ∙ sym m) in
     (one ++ p.0, sym (append_assoc start one p.0) ∙ (ap (λ t. t ++ p.0) first ∙ p.1))
 
-pub written_back : (text : List ℕ) (ds : List Decision) → text ≡ order_text ds → All (λ d. d.tx < 4096) ds → length text ≤ 32768 → order_read text ≡ Ok ds
-written_back text ds e h l = ap order_read e ∙ reads_back ds h (subst (λ t. length t ≤ 32768) e l)
+pub written_back : (text : List ℕ) (ds : List Decision) → text ≡ order_text ds → All (λ d. d.tx < most_transactions) ds → length text ≤ longest_order → order_read text ≡ Ok ds
+written_back text ds e h l = ap order_read e ∙ reads_back ds h (subst (λ t. length t ≤ longest_order) e l)

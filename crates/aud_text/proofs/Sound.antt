@@ -5,8 +5,8 @@ use Rattle.aud_event.specs.Meanings.{Declared, PlanOf}
 use Rattle.aud_event.specs.Plans.{first_plan_fault, names_differ, is_name, is_name_byte, is_opening, number_of}
 use Rattle.aud_event.specs.Facts.{first_fact_fault, first_event_fault, first_use_fault, has_operation, or_else_fault}
 use Rattle.aud_event.specs.Objects.{name_of, is_of_kind, is_in_format, is_answer_of, has_fitting_args}
-use Rattle.aud_event.specs.Limits.{most_objects, transactions, most_transactions}
-use Rattle.aud_event.proofs.Rows.{below_most}
+use Rattle.aud_event.specs.Limits.{most_objects, transactions, most_transactions, places}
+use Rattle.aud_event.specs.Rows.{below_most}
 use Rattle.aud_event.specs.Laws.{NumberIsOwn}
 use Rattle.aud_event.specs.declared.object.OpName.{OpName}
 use Rattle.aud_event.specs.declared.plan.PlanFault.TheVariants.{NoLogs, TooManyLogs, TooManyObjects, NameTwice, OpeningRange, BadName}
@@ -129,22 +129,22 @@ pub record EndInRange (m : EndMark) : Type 0 where
 pub record_in_range : (plan : PlanOf) (r : Record) → IsSound plan → first_fact_fault plan (Rec r) ≡ None → RecordInRange r × (first_event_fault plan r.event ≡ None)
 record_in_range plan r s e =
     let a = passed (nat_le plan.logs r.log) LogRange _ e in
-    let b = passed (nat_le 4096 r.at) AtRange _ a.1 in
+    let b = passed (nat_le places r.at) AtRange _ a.1 in
     let c = passed (nat_le 262144 r.stamp) StampRange _ b.1 in
     let d = passed (nat_le (transactions plan.format) r.tx) TxRange _ c.1 in
     let few = s.few in
     let la : r.log < plan.logs = grind (arith, a.0) in
-    let lb : r.at < 4096 = grind (arith, b.0) in
+    let lb : r.at < places = grind (arith, b.0) in
     let lc : r.stamp < 262144 = grind (arith, c.0) in
     let lf : r.tx < transactions plan.format = grind (arith, d.0) in
-    let ld : r.tx < 4096 = below_most plan.format r.tx lf in
+    let ld : r.tx < most_transactions = below_most plan.format r.tx lf in
     (record { log = omega arith; at = omega arith; stamp = omega arith; tx = omega arith }, d.1)
 
 pub end_in_range : (plan : PlanOf) (m : EndMark) → IsSound plan → first_fact_fault plan (End m) ≡ None → EndInRange m
 end_in_range plan m s e =
     let a = passed (nat_le plan.logs m.log) LogRange _ e in
-    let b = passed (nat_lt 4096 m.count) AtRange _ a.1 in
+    let b = passed (nat_lt places m.count) AtRange _ a.1 in
     let few = s.few in
     let la : m.log < plan.logs = grind (arith, a.0) in
-    let lb : m.count ≤ 4096 = grind (arith, b.0) in
+    let lb : m.count ≤ places = grind (arith, b.0) in
     record { log = omega arith; count = omega arith }

@@ -26,11 +26,10 @@ use Rattle.aud_event.specs.Meanings.{Declared, PlanOf}
 use Rattle.aud_event.specs.Facts.{first_fact_fault}
 use Rattle.aud_event.specs.Laws.{NumberIsOwn}
 use Rattle.aud_event.specs.Plans.{first_plan_fault, is_name, is_name_byte}
-use Rattle.aud_event.specs.Objects.{name_of, args_of}
+use Rattle.aud_event.specs.Objects.{name_of, args_of, word_of_op}
 use Rattle.aud_event.specs.declared.signature.Args.{Args}
 use Rattle.aud_event.specs.declared.signature.Args.TheVariants as args
-use Rattle.aud_event.proofs.Rows.{word-is_name}
-use Rattle.aud_event.specs.Words.{word_of_op}
+use Rattle.aud_event.specs.Rows.{word-is_name}
 use Rattle.aud_event.specs.declared.object.Op.{Op}
 use Rattle.aud_event.specs.declared.object.OpName.{OpName}
 use Rattle.aud_event.specs.declared.object.Answer.{Answer}

@@ -13,6 +13,7 @@ use Rattle.aud_text.specs.declared.word.WordRead.TheVariants.{Decided, TooGreat,
 use Rattle.aud_text.specs.Orders.{word_read, ended_read, id_read, is_plain, all_digits, with_word, decision_text, fate_letter}
 use Rattle.aud_text.proofs.Digits.{one_digit}
 use Rattle.aud_base.proofs.Bools.{and_true}
+use Rattle.aud_event.specs.Limits.{most_transactions}
 
 -- ---- one word
 
@@ -33,7 +34,7 @@ digits_pass (c ∷ cs) h =
     let b : nat_le c 57 ≡ true = grind (arith, r.1) in
     rw (a, b, digits_pass cs h.1) refl
 
-first_passes : (n : ℕ) → n < 4096 → ((length (decimal n) == 1) || not (slice_index (decimal n) 0 == 48)) ≡ true
+first_passes : (n : ℕ) → n < most_transactions → ((length (decimal n) == 1) || not (slice_index (decimal n) 0 == 48)) ≡ true
 first_passes zero h = rw (decimal_digit 0 (omega arith)) refl
 first_passes (suc n) h =
     let f = first_decimal (suc n) (omega arith) (omega arith) in
@@ -43,23 +44,23 @@ first_passes (suc n) h =
     or_true true = refl
     or_true false = refl
 
-pub decimal_plain : (n : ℕ) → n < 4096 → is_plain (decimal n) ≡ true
+pub decimal_plain : (n : ℕ) → n < most_transactions → is_plain (decimal n) ≡ true
 decimal_plain n h =
     let d = decimal_is_IsNumeral n (omega arith) in
     let some : (length (decimal n) == 0) ≡ false = grind (arith, d.0.0) in
     rw (some, digits_pass (decimal n) d.0.1, first_passes n h) refl
 
-id_reads_back : (n : ℕ) (f : Fate) → n < 4096 → id_read (decimal n) f ≡ Decided (record { tx = n; fate = f })
+id_reads_back : (n : ℕ) (f : Fate) → n < most_transactions → id_read (decimal n) f ≡ Decided (record { tx = n; fate = f })
 id_reads_back n f h =
     let d = decimal_is_IsNumeral n (omega arith) in
-    let t : nat_lt n 4096 ≡ true = grind arith in
+    let t : nat_lt n most_transactions ≡ true = grind arith in
     rw (decimal_plain n h, d.1, t) refl
 
 -- what is written of a decision reads as it
-pub word_reads_back : (d : Decision) → d.tx < 4096 → word_read (decision_text d) ≡ Decided d
+pub word_reads_back : (d : Decision) → d.tx < most_transactions → word_read (decision_text d) ≡ Decided d
 word_reads_back d h = word_ended (decimal d.tx) (fate_letter d.fate) ∙ by_fate d.tx d.fate h
   where
-    by_fate : (n : ℕ) (f : Fate) → n < 4096 → ended_read (fate_letter f) (decimal n) ≡ Decided (record { tx = n; fate = f })
+    by_fate : (n : ℕ) (f : Fate) → n < most_transactions → ended_read (fate_letter f) (decimal n) ≡ Decided (record { tx = n; fate = f })
     by_fate n C h = id_reads_back n C h
     by_fate n A h = id_reads_back n A h
 
@@ -75,7 +76,7 @@ passing_digits (c ∷ cs) h =
     let high : c ≤ 57 = grind (arith, t.1) in
     (omega (arith, d), passing_digits cs b.1)
 
-pub plain_decimal : (ds : List ℕ) → is_plain ds ≡ true → digits_value 10 ds < 4096 → decimal (digits_value 10 ds) ≡ ds
+pub plain_decimal : (ds : List ℕ) → is_plain ds ≡ true → digits_value 10 ds < most_transactions → decimal (digits_value 10 ds) ≡ ds
 plain_decimal ds h v =
     let a = and_true (not (length ds == 0)) (all_digits ds && ((length ds == 1) || not (slice_index ds 0 == 48))) h in
     let b = and_true (all_digits ds) ((length ds == 1) || not (slice_index ds 0 == 48)) a.1 in
@@ -95,8 +96,8 @@ good_id false q e d h = absurd (cc)
 
 id_exact : (ds : List ℕ) (f : Fate) (d : Decision) → id_read ds f ≡ Decided d → (ds ≡ decimal d.tx) × (f ≡ d.fate)
 id_exact ds f d h =
-    let r = good_id (is_plain ds) (nat_lt (digits_value 10 ds) 4096) (record { tx = digits_value 10 ds; fate = f }) d h in
-    let low : digits_value 10 ds < 4096 = grind (arith, r.1) in
+    let r = good_id (is_plain ds) (nat_lt (digits_value 10 ds) most_transactions) (record { tx = digits_value 10 ds; fate = f }) d h in
+    let low : digits_value 10 ds < most_transactions = grind (arith, r.1) in
     (sym (ap (λ e. decimal e.tx) (sym r.2) ∙ plain_decimal ds r.0 low), ap (λ e. e.fate) r.2)
 
 -- the last element stands after the others
@@ -124,21 +125,21 @@ word_exact (x ∷ xs) d h =
 
 -- ---- what reads as a decision has an id within the limit
 
-id_low : (ds : List ℕ) (f : Fate) (d : Decision) → id_read ds f ≡ Decided d → d.tx < 4096
+id_low : (ds : List ℕ) (f : Fate) (d : Decision) → id_read ds f ≡ Decided d → d.tx < most_transactions
 id_low ds f d h =
-    let r = good_id (is_plain ds) (nat_lt (digits_value 10 ds) 4096) (record { tx = digits_value 10 ds; fate = f }) d h in
-    let low : digits_value 10 ds < 4096 = grind (arith, r.1) in
-    subst (λ e. e.tx < 4096) r.2 low
+    let r = good_id (is_plain ds) (nat_lt (digits_value 10 ds) most_transactions) (record { tx = digits_value 10 ds; fate = f }) d h in
+    let low : digits_value 10 ds < most_transactions = grind (arith, r.1) in
+    subst (λ e. e.tx < most_transactions) r.2 low
 
-ended_low : (ds : List ℕ) (x : ℕ) (d : Decision) → ended_read x ds ≡ Decided d → d.tx < 4096
+ended_low : (ds : List ℕ) (x : ℕ) (d : Decision) → ended_read x ds ≡ Decided d → d.tx < most_transactions
 ended_low ds x d h = by_letter (x == 99) (x == 97) h
   where
-    by_letter : (b c : Bool) → cond b (id_read ds C) (cond c (id_read ds A) Unknown) ≡ Decided d → d.tx < 4096
+    by_letter : (b c : Bool) → cond b (id_read ds C) (cond c (id_read ds A) Unknown) ≡ Decided d → d.tx < most_transactions
     by_letter true c g = id_low ds C d g
     by_letter false true g = id_low ds A d g
     by_letter false false g = absurd (cc)
 
-pub word_low : (w : List ℕ) (d : Decision) → word_read w ≡ Decided d → d.tx < 4096
+pub word_low : (w : List ℕ) (d : Decision) → word_read w ≡ Decided d → d.tx < most_transactions
 word_low [] d h = absurd (cc)
 word_low (x ∷ xs) d h =
     let r = last_apart x xs in ended_low r.0 r.1 d (sym (word_ended r.0 r.1) ∙ (ap word_read (sym r.2) ∙ h))

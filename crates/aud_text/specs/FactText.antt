@@ -28,6 +28,7 @@ use Rattle.aud_text.specs.declared.fault.TextFault.TheVariants as fault
 use Rattle.aud_text.specs.declared.shape.Shape.{Shape}
 use Rattle.aud_text.specs.declared.shape.Shape.TheVariants.{EndMark, Invoke, Respond, TryCommit, TryAbort, Commit, Abort, Strange}
 use Rattle.aud_text.specs.Json.{Key, json_read, has, has_all, has_only, small_at, whole_at, word_at, fits_at, small_fits, text_fits, whole_fits}
+use Rattle.aud_text.specs.Limits.{longest_line}
 
 -- ---- words
 
@@ -209,4 +210,4 @@ judged_json plan (Ok d) = judged plan d
 
 -- what a line says in the plan
 abbrev pub fact_read : PlanOf → List ℕ → Result Fact TextFault
-fact_read plan line = judged_json plan (json_read 4096 line)
+fact_read plan line = judged_json plan (json_read longest_line line)

@@ -10,6 +10,7 @@ use Rattle.aud_text.specs.declared.fault.TextFault.{TextFault}
 use Rattle.aud_text.specs.declared.fault.TextFault.TheVariants as fault
 use Rattle.aud_text.specs.declared.word.WordRead.{WordRead}
 use Rattle.aud_text.specs.declared.word.WordRead.TheVariants.{Decided, TooGreat, Unknown}
+use Rattle.aud_text.specs.Limits.{longest_order}
 
 -- ---- one decision
 
@@ -62,7 +63,7 @@ words_read (w ∷ ws) = with_word (word_read w) (words_read ws)
 -- what an order text says
 abbrev pub order_read : List ℕ → Result (List Decision) TextFault
 order_read text =
-    if nat_le (length text) 32768
+    if nat_le (length text) longest_order
     then (if bytes_eq text (codes "none") then Ok [] else words_read (words_of text))
     else Err fault.TooLong
 
@@ -73,4 +74,4 @@ order_text (d ∷ ds) = join_with_byte 32 (map decision_text (d ∷ ds))
 
 -- the text reads as the decisions, where their ids and the text are within the limits
 abbrev pub ReadsBackAs : List Decision → List ℕ → Type 0
-ReadsBackAs ds text = All (λ d. d.tx < most_transactions) ds → length text ≤ 32768 → order_read text ≡ Ok ds
+ReadsBackAs ds text = All (λ d. d.tx < most_transactions) ds → length text ≤ longest_order → order_read text ≡ Ok ds

@@ -21,6 +21,7 @@ use Rattle.aud_text.specs.declared.header.Header.{Header}
 use Rattle.aud_text.specs.declared.object.ObjectLine.{ObjectLine}
 use Rattle.aud_text.specs.Json.{Key, json_read, has_all, has_only, small_at, whole_at, word_at, text_fits, whole_fits}
 use Rattle.aud_text.specs.Lines.{Filled, lines_of, filled_left, filled_lines}
+use Rattle.aud_text.specs.Limits.{longest_line}
 
 -- ---- the header line
 
@@ -54,7 +55,7 @@ header_json (Ok d) = header_members d (as_object d)
 
 -- what a line says as the header
 abbrev pub header_read : List ℕ → Result Header TextFault
-header_read line = header_json (json_read 4096 line)
+header_read line = header_json (json_read longest_line line)
 
 -- the first fault of a plan that shows before its objects are read
 abbrev pub header_fault : Header → Option PlanFault
@@ -133,7 +134,7 @@ object_json format (Ok d) = object_judged format d
 
 -- what a line says as an object
 abbrev pub object_read : Format → List ℕ → Result Declared TextFault
-object_read format line = object_json format (json_read 4096 line)
+object_read format line = object_json format (json_read longest_line line)
 
 -- what a line says, as a declaration
 abbrev pub declared : ObjectLine → Declared

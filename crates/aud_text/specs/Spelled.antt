@@ -2,10 +2,9 @@
 use Rattle.std.specs.Prelude.{ℕ, ℤ, List, ◌++◌, true, false, Option, Some, None, codes, decimal}
 use Rattle.std.specs.Fmt.{signed_decimal}
 use Rattle.aud_event.specs.Meanings.{PlanOf}
-use Rattle.aud_event.specs.Objects.{name_of, args_of}
+use Rattle.aud_event.specs.Objects.{name_of, args_of, word_of_op}
 use Rattle.aud_event.specs.declared.signature.Args.{Args}
 use Rattle.aud_event.specs.declared.signature.Args.TheVariants as args
-use Rattle.aud_event.specs.Words.{word_of_op}
 use Rattle.aud_event.specs.declared.object.OpName.{OpName}
 use Rattle.aud_event.specs.declared.object.Answer.{Answer}
 use Rattle.aud_event.specs.declared.object.Answer.TheVariants.{Done, Int, Flag, Empty}

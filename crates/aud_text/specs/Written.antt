@@ -4,10 +4,9 @@ use Rattle.std.specs.Int.{w64}
 use Rattle.serde_json.specs.Data.{Data, boolean, number, unsigned, string, object, Members, no_members, member}
 use Rattle.serde_json.specs.Find.{of_integer}
 use Rattle.aud_event.specs.Meanings.{PlanOf}
-use Rattle.aud_event.specs.Objects.{name_of, args_of}
+use Rattle.aud_event.specs.Objects.{name_of, args_of, word_of_op}
 use Rattle.aud_event.specs.declared.signature.Args.{Args}
 use Rattle.aud_event.specs.declared.signature.Args.TheVariants as args
-use Rattle.aud_event.specs.Words.{word_of_op}
 use Rattle.aud_event.specs.declared.object.OpName.{OpName}
 use Rattle.aud_event.specs.declared.object.Answer.{Answer}
 use Rattle.aud_event.specs.declared.object.Answer.TheVariants.{Done, Int, Flag, Empty}

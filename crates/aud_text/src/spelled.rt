@@ -5,8 +5,7 @@ ghost use Rattle.std.specs.Prelude.{◌≡◌, ◌≢◌, ◌++◌, ℕ, List, O
 ghost use Rattle.std.specs.Int.{w64};
 ghost use Rattle.std.specs.Fmt.{signed_decimal};
 ghost use Rattle.aud_event.specs.Meanings.{PlanOf};
-ghost use Rattle.aud_event.specs.Objects.{name_of, args_of};
-ghost use Rattle.aud_event.specs.Words.{word_of_op};
+ghost use Rattle.aud_event.specs.Objects.{name_of, args_of, word_of_op};
 ghost use Rattle.aud_text.specs.FactText.{fact_read};
 ghost use Rattle.aud_text.specs.Written.{first_of, object_name, AnswerFits, ArgsFit, EventFits, FactFits};
 ghost use Rattle.aud_text.specs.Spelled.{place_text, log_text, use_text, tail_text, end_text, argument_text, answer_text, end_word, mark_text, record_text, spelled_text};

@@ -10,6 +10,7 @@ ghost use Rattle.aud_event.specs.Meanings.{PlanOf};
 ghost use Rattle.aud_event.specs.Facts.{first_fact_fault};
 ghost use Rattle.aud_text.specs.FactText.{fact_read, judged};
 ghost use Rattle.aud_text.specs.Written.{data_of, answer_data, object_name, small_data, headed, tailed, operated, first_of, with_value, record_members, end_members, AnswerFits, ArgsFit, EventFits, FactFits, IsFactOf};
+ghost use Rattle.aud_text.specs.Limits.{longest_line};
 
 use aud_event::{Answer, Args, EndMark, Event, Fact, Op, OpName, OutOfMemory, Plan, Record};
 use serde_json::{Map, Value};
@@ -214,5 +215,5 @@ pub fn write_fact<A: Allocator>(
 /// The value that is written of a fact is judged as that fact, and its text fits a line, whatever the plan.
 pub fn facts_read_back()
     ensures judged { (plan : PlanOf) (f : FactOf) → IsFactOf plan f → judged plan (data_of plan f) ≡ Ok f }
-    ensures short { (plan : PlanOf) (f : FactOf) → IsFactOf plan f → length (compact_text (data_of plan f)) ≤ 4096 }
+    ensures short { (plan : PlanOf) (f : FactOf) → IsFactOf plan f → length (compact_text (data_of plan f)) ≤ longest_line }
 {}

@@ -2,7 +2,8 @@
 #![tactic(auto)]
 
 use aud_audit::run_command;
-use aud_cli::{Cause, Ended, Usage, exit_status, job_of, read_whole};
+use aud_cli::{Cause, Ended, read_whole};
+use aud_words::{Usage, exit_status, job_of};
 use std::alloc::Global;
 use std::io::{self, ErrorKind, Write};
 use std::process::ExitCode;

@@ -1,8 +1,9 @@
 use Rattle.aud_order.specs.Shapes.{objects_of, history_of}
+use Rattle.aud_search.proofs.Lettered.{by-letter}
 use Rattle.aud_search.proofs.search.decide.Goals as goal
 
-pub returns-in-NotOpaque-clause-letter : goal.returns-in-NotOpaque-clause-letter
-returns-in-NotOpaque-clause-letter g c = λ letter.
-    let shape = c.args.shape.now in
-    let reported = rw c.in-NotOpaque.is at c.in_ok-witness.ensures in
-    reported.0 ((c.letter_is_opaque.ensures (objects_of shape) (history_of shape)).0 letter).1
+pub returns-clause-letter : goal.returns-clause-letter
+returns-clause-letter g c =
+    let objects = objects_of c.args.shape.now in
+    let h = history_of c.args.shape.now in
+    by-letter objects h c.decide_by_lists.result (c.letter_is_opaque.ensures objects h) c.history-well_formed.ensures.sound c.decide_by_lists.ensures

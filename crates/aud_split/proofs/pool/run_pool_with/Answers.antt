@@ -52,50 +52,43 @@ take_apart-requires-clause-room g c =
     let tasks_len = c.len-2.ensures in
     let room = c.in-Ok.ensures.room in (omega arith, omega arith, omega arith)
 
-pub returns-in-Ok-run-clause-all : goal.returns-in-Ok-run-clause-all
-returns-in-Ok-run-clause-all g c =
-    let workers = c.in-Ok-run.end.workers.items in
-    let left = c.in-Ok-run.end.left.items in
-    let drawn = ap (map (λ (d : ℕ × List Decision). d.1)) c.take_apart.ensures.drawn ∙ all_tasks 0 workers in
-    subst (λ (l : List (List Decision)). IsPermutation c.args.tasks.items (l ++ left)) (sym drawn) c.in-Ok-run.ensures.all
-
-pub returns-in-Ok-run-clause-left : goal.returns-in-Ok-run-clause-left
-returns-in-Ok-run-clause-left g c =
-    let workers = c.in-Ok-run.end.workers.items in
-    let len = ap length c.take_apart.ensures.seats ∙ length-map workers (λ w. w.seat) in
-    let n : vec_len c.take_apart.new.lists.seats ≡ length c.take_apart.new.lists.seats.items = c.take_apart.new.lists.seats.ok.0 in
-    ⊎_elim inl (λ all. inr (λ w lt. ap (faulted w) c.take_apart.ensures.faults ∙ all_faulted workers all w (omega arith))) c.in-Ok-run.ensures.left
-
-pub returns-in-Ok-run-clause-passes : goal.returns-in-Ok-run-clause-passes
-returns-in-Ok-run-clause-passes g c =
-    let s = c.args.shape.value in
-    let workers = c.in-Ok-run.end.workers.items in
-    subst (λ (l : List PassOf). HaveSearched s c.args.passes.items l) (sym c.take_apart.ensures.seats)
-    (grown_of (HasSearched s) (HaveSearched s) tt (λ p q ps qs one rest. (one, rest)) c.args.passes.items workers c.in-Ok-run.ensures.seats)
-
-pub returns-in-Ok-run-clause-settled : goal.returns-in-Ok-run-clause-settled
-returns-in-Ok-run-clause-settled g c =
-    let done : PassOf → List Decision → Type 0 = λ p t. IsSettled c.args.shape.value c.args.budget p.view t in
-    let workers = c.in-Ok-run.end.workers.items in
-    let seats = c.take_apart.ensures.seats in
-    let len = ap length seats ∙ length-map workers (λ w. w.seat) in
-    λ w p lt.
-    subst (λ (l : List PassOf). AreWorked (done (get_or l w p)) (faulted w c.take_apart.new.lists.faults.items) (drawn_by w c.take_apart.new.lists.drawn.items)) (sym seats)
-    (subst (λ (f : List (ℕ × PoolFault)). AreWorked (done (get_or (map (λ w. w.seat) workers) w p)) (faulted w f) (drawn_by w c.take_apart.new.lists.drawn.items)) (sym c.take_apart.ensures.faults)
-    (subst (λ (l : List (ℕ × List Decision)). AreWorked (done (get_or (map (λ w. w.seat) workers) w p)) (faulted w (failures 0 workers)) (drawn_by w l)) (sym c.take_apart.ensures.drawn)
-    (answered_of done workers c.in-Ok-run.ensures.worked w p (omega arith))))
-
-pub returns-in-Ok-run-clause-workers : goal.returns-in-Ok-run-clause-workers
-returns-in-Ok-run-clause-workers g c =
-    let workers = c.in-Ok-run.end.workers.items in
-    let len = ap length c.take_apart.ensures.seats ∙ length-map workers (λ w. w.seat) in
-    let n : vec_len c.take_apart.new.lists.seats ≡ length c.take_apart.new.lists.seats.items = c.take_apart.new.lists.seats.ok.0 in
-    subst (All (λ (d : ℕ × List Decision). d.0 < vec_len c.take_apart.new.lists.seats)) (sym c.take_apart.ensures.drawn) (numbers_below 0 (vec_len c.take_apart.new.lists.seats) workers (omega arith))
-
-pub returns-in-Ok-run-clause-faults : goal.returns-in-Ok-run-clause-faults
-returns-in-Ok-run-clause-faults g c =
-    let workers = c.in-Ok-run.end.workers.items in
-    let len = ap length c.take_apart.ensures.seats ∙ length-map workers (λ w. w.seat) in
-    let n : vec_len c.take_apart.new.lists.seats ≡ length c.take_apart.new.lists.seats.items = c.take_apart.new.lists.seats.ok.0 in
-    let count : 0 + length workers ≡ vec_len c.take_apart.new.lists.seats = omega arith in
-    subst (AreFaults 0 (vec_len c.take_apart.new.lists.seats)) (sym c.take_apart.ensures.faults) (subst (λ (k : ℕ). AreFaults 0 k (failures 0 workers)) count (faults_of 0 workers))
+pub returns-in-Ok-run-clause-ran : goal.returns-in-Ok-run-clause-ran
+returns-in-Ok-run-clause-ran g c =
+    record {
+      all =
+          let workers = c.in-Ok-run.end.workers.items in
+          let left = c.in-Ok-run.end.left.items in
+          let drawn = ap (map (λ (d : ℕ × List Decision). d.1)) c.take_apart.ensures.drawn ∙ all_tasks 0 workers in
+          subst (λ (l : List (List Decision)). IsPermutation c.args.tasks.items (l ++ left)) (sym drawn) c.in-Ok-run.ensures.all;
+      left_so =
+          let workers = c.in-Ok-run.end.workers.items in
+          let len = ap length c.take_apart.ensures.seats ∙ length-map workers (λ w. w.seat) in
+          let n : vec_len c.take_apart.new.lists.seats ≡ length c.take_apart.new.lists.seats.items = c.take_apart.new.lists.seats.ok.0 in
+          ⊎_elim inl (λ all. inr (λ w lt. ap (faulted w) c.take_apart.ensures.faults ∙ all_faulted workers all w (omega arith))) c.in-Ok-run.ensures.left;
+      searched =
+          let s = c.args.shape.value in
+          let workers = c.in-Ok-run.end.workers.items in
+          subst (λ (l : List PassOf). HaveSearched s c.args.passes.items l) (sym c.take_apart.ensures.seats)
+          (grown_of (HasSearched s) (HaveSearched s) tt (λ p q ps qs one rest. (one, rest)) c.args.passes.items workers c.in-Ok-run.ensures.seats);
+      settled =
+          let done : PassOf → List Decision → Type 0 = λ p t. IsSettled c.args.shape.value c.args.budget p.view t in
+          let workers = c.in-Ok-run.end.workers.items in
+          let seats = c.take_apart.ensures.seats in
+          let len = ap length seats ∙ length-map workers (λ w. w.seat) in
+          λ w p lt.
+          subst (λ (l : List PassOf). AreWorked (done (get_or l w p)) (faulted w c.take_apart.new.lists.faults.items) (drawn_by w c.take_apart.new.lists.drawn.items)) (sym seats)
+          (subst (λ (f : List (ℕ × PoolFault)). AreWorked (done (get_or (map (λ w. w.seat) workers) w p)) (faulted w f) (drawn_by w c.take_apart.new.lists.drawn.items)) (sym c.take_apart.ensures.faults)
+          (subst (λ (l : List (ℕ × List Decision)). AreWorked (done (get_or (map (λ w. w.seat) workers) w p)) (faulted w (failures 0 workers)) (drawn_by w l)) (sym c.take_apart.ensures.drawn)
+          (answered_of done workers c.in-Ok-run.ensures.worked w p (omega arith))));
+      workers =
+          let workers = c.in-Ok-run.end.workers.items in
+          let len = ap length c.take_apart.ensures.seats ∙ length-map workers (λ w. w.seat) in
+          let n : vec_len c.take_apart.new.lists.seats ≡ length c.take_apart.new.lists.seats.items = c.take_apart.new.lists.seats.ok.0 in
+          subst (All (λ (d : ℕ × List Decision). d.0 < vec_len c.take_apart.new.lists.seats)) (sym c.take_apart.ensures.drawn) (numbers_below 0 (vec_len c.take_apart.new.lists.seats) workers (omega arith));
+      numbered =
+          let workers = c.in-Ok-run.end.workers.items in
+          let len = ap length c.take_apart.ensures.seats ∙ length-map workers (λ w. w.seat) in
+          let n : vec_len c.take_apart.new.lists.seats ≡ length c.take_apart.new.lists.seats.items = c.take_apart.new.lists.seats.ok.0 in
+          let count : 0 + length workers ≡ vec_len c.take_apart.new.lists.seats = omega arith in
+          subst (AreFaults 0 (vec_len c.take_apart.new.lists.seats)) (sym c.take_apart.ensures.faults) (subst (λ (k : ℕ). AreFaults 0 k (failures 0 workers)) count (faults_of 0 workers));
+    }

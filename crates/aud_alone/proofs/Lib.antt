@@ -1,0 +1,3 @@
+pub mod AloneLemmas
+pub mod Declaring
+pub mod Refuting

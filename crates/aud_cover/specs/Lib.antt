@@ -1,4 +1,0 @@
-pub mod Closings
-pub mod Openings
-pub mod Laws
-pub mod Leading
