@@ -8,3 +8,4 @@ pub mod Lines
 pub mod OnTheWay
 pub mod Placing
 pub mod Refutes
+mod Found

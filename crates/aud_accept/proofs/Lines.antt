@@ -1,9 +1,9 @@
 -- What is reported of the lines of a certificate, one after the other.
 use Rattle.std.specs.Prelude.{◌≡◌, ◌↔◌, ◌⊎◌, ℕ, ◌+◌, ◌<◌, ◌≤◌, Bool, true, false, IsTrue, List, [], ◌∷◌, ◌++◌, map, length, refl}
-use Rattle.std.specs.List.{Contains}
+use Rattle.std.specs.List.{Contains, All}
 use Rattle.std.proofs.Common.{sym, ◌∙◌, ap, subst, inl, inr, arith, get_or, take, drop}
 use Rattle.std.proofs.lemmas.List.{drop_more, drop_all}
-use Rattle.std.proofs.lemmas.List.Elements.{Contains-push, Contains-push_cases, Contains-append_left}
+use Rattle.std.proofs.lemmas.List.Elements.{Contains-push, Contains-push_cases, Contains-append_left, All-get_or}
 use Rattle.aud_event.specs.Meanings.{Declared}
 use Rattle.aud_history.specs.Histories.{History}
 use Rattle.aud_witness.specs.declared.decision.Decision.{Decision}
@@ -12,8 +12,8 @@ use Rattle.aud_order.specs.Shapes.{ShapeOf, objects_of, history_of}
 use Rattle.aud_order.specs.Kids.{AreKids}
 use Rattle.aud_accept.proofs.Placing.{no_decision}
 use Rattle.aud_accept.specs.declared.cert.CertLine.{CertLine}
-use Rattle.aud_accept.specs.declared.cert.CertLine.TheVariants.{Kids, Silent, Same}
-use Rattle.aud_accept.specs.Acceptance.{prefix_in, HasKids, HasSame, Rests, IsAcceptedLine, AreAccepted, EndsEmpty, IsAccepted}
+use Rattle.aud_accept.specs.declared.cert.CertLine.TheVariants.{Kids, Silent, Same, Ahead, First}
+use Rattle.aud_accept.specs.Acceptance.{prefix_in, HasKids, HasSame, Rests, IsPlain, IsAcceptedLine, AreAccepted, EndsEmpty, IsAccepted, JudgesLine, JudgesLines}
 use Rattle.aud_accept.specs.OfShapes.{HasLines}
 use Rattle.aud_accept.proofs.Ends.{first-more, here-in}
 
@@ -64,6 +64,8 @@ module _ {X : Type 0} (objects : List Declared) (h : History) where
   rests-moved seen earlier (Kids p) more has = record { unfull = has.unfull; kids = λ d next. more (p ++ d ∷ []) (has.kids d next) }
   rests-moved seen earlier (Silent p d) more has = record { silent = has.silent; good = has.good; line = more (p ++ d ∷ []) has.line }
   rests-moved seen earlier (Same p q) more has = record { line = more q has.line; alike = has.alike }
+  rests-moved seen earlier (Ahead p) more has = has
+  rests-moved seen earlier (First p d) more has = record { commits = has.commits; enough = has.enough; good = has.good; line = more (p ++ d ∷ []) has.line }
 
   line-moved : (seen earlier : List (List Decision)) (line : CertLine X) → ((p : List Decision) → Contains seen p → Contains earlier p) → IsAcceptedLine objects h seen line → IsAcceptedLine objects h earlier line
   line-moved seen earlier line more accepted = record { good = accepted.good; rests = rests-moved seen earlier line more accepted.rests }
@@ -111,19 +113,20 @@ module _ {X : Type 0} (objects : List Declared) (h : History) where
       left = drop_more lines count line inside ∙ ap (λ (l : CertLine X). l ∷ drop (count + 1) lines) (sym here)
 
   pub passed-bad : (lines : List (CertLine X)) (count : ℕ) (line : CertLine X) (seen : List (List Decision)) (b : Bool) → Passed lines count seen → count < length lines → line ≡ get_or lines count line →
-      (IsTrue b ↔ IsAcceptedLine objects h seen line) → b ≡ false → IsTrue false ↔ IsAccepted objects h lines
+      JudgesLine objects h seen line b → b ≡ false → JudgesLines objects h lines false
   passed-bad lines count line seen b was inside here reported fails = (
     (λ e. absurd (cc)),
-    λ accepted.
+    λ plain accepted.
         let both = subst (AreAccepted objects h was.earlier) left (was.rest.0 accepted.each) in
-        let clash : b ≡ true = reported.1 (line-moved was.earlier seen line (λ p there. (was.reports p).1 there) both.0) in absurd (cc),
+        let own : IsPlain line = subst IsPlain (sym here) (All-get_or IsPlain lines count line inside plain) in
+        let clash : b ≡ true = reported.1 own (line-moved was.earlier seen line (λ p there. (was.reports p).1 there) both.0) in absurd (cc),
   )
     where
       left : drop count lines ≡ line ∷ drop (count + 1) lines
       left = drop_more lines count line inside ∙ ap (λ (l : CertLine X). l ∷ drop (count + 1) lines) (sym here)
 
-  pub passed-all : (lines : List (CertLine X)) (count : ℕ) (seen : List (List Decision)) → Passed lines count seen → length lines ≤ count → EndsEmpty (map prefix_in lines) → IsTrue true ↔ IsAccepted objects h lines
+  pub passed-all : (lines : List (CertLine X)) (count : ℕ) (seen : List (List Decision)) → Passed lines count seen → length lines ≤ count → EndsEmpty (map prefix_in lines) → JudgesLines objects h lines true
   passed-all lines count seen was past last = (
     (λ e. record { each = was.rest.1 (subst (AreAccepted objects h was.earlier) (sym (drop_all count lines past)) tt); last = last }),
-    λ accepted. refl,
+    λ plain accepted. refl,
   )

@@ -1,5 +1,5 @@
 -- What is accepted is refuted.
-use Rattle.std.specs.Prelude.{◌↔◌, List, [], ◌∷◌, ◌++◌, map, Bool, Result, Ok, Err, IfOk, IsTrue}
+use Rattle.std.specs.Prelude.{◌≡◌, List, [], ◌∷◌, ◌++◌, map, Bool, Result, Ok, Err, IfOk, IsTrue}
 use Rattle.std.specs.List.{Contains}
 use Rattle.std.proofs.Common.{sym, subst, inl, inr, arith, append_assoc}
 use Rattle.std.proofs.lemmas.List.{append-nil}
@@ -9,13 +9,19 @@ use Rattle.aud_history.specs.Histories.{History}
 use Rattle.aud_history.specs.WellFormed.{IsWellFormed}
 use Rattle.aud_history.specs.FirstFault.{IsWithinLimits}
 use Rattle.aud_witness.specs.declared.decision.Decision.{Decision}
-use Rattle.aud_witness.specs.Orders.{IsGood, Refuted}
+use Rattle.aud_witness.specs.declared.decision.Fate.{Fate}
+use Rattle.aud_witness.specs.declared.decision.Fate.TheVariants.{C}
+use Rattle.aud_witness.specs.Orders.{IsGood, IsGoodNext, Refuted}
 use Rattle.aud_order.proofs.Moves.{refuted-by_silent, spots-decide}
 use Rattle.aud_accept.proofs.Kids.{refuted-by_kids}
 use Rattle.aud_accept.specs.declared.cert.CertLine.{CertLine}
-use Rattle.aud_accept.specs.declared.cert.CertLine.TheVariants.{Kids, Silent, Same}
-use Rattle.aud_accept.specs.Acceptance.{prefix_in, Rests, AreAccepted, IsAccepted}
+use Rattle.aud_accept.specs.declared.cert.CertLine.TheVariants.{Kids, Silent, Same, Ahead, First}
+use Rattle.aud_accept.specs.Acceptance.{prefix_in, Rests, AreAccepted, IsAccepted, JudgesLines}
 use Rattle.aud_accept.specs.Laws.{AcceptedIsRefuted}
+
+-- a decision is its transaction with its fate
+decision-with : (d : Decision) (f : Fate) → d.fate ≡ f → d ≡ record { tx = d.tx; fate = f }
+decision-with d f same = λ i. record { tx = d.tx; fate = same i }
 
 module _ (plan : PlanOf) (h : History) (fine : IsWellFormed h) (within : IsWithinLimits plan h) where
   abbrev AreRefuted : List (List Decision) → Type 0
@@ -33,6 +39,10 @@ module _ (plan : PlanOf) (h : History) (fine : IsWellFormed h) (within : IsWithi
       refuted-by_silent plan h p d fine within has.silent has.good (dead (p ++ d ∷ []) has.line)
   rests-refuted earlier (Same p q) goods dead good has =
       λ rest shown. dead q has.line rest (spots-decide plan h p q rest fine within good (goods q has.line) has.alike.placed has.alike.states shown)
+  rests-refuted earlier (Ahead p) goods dead good has = has
+  rests-refuted earlier (First p d) goods dead good has =
+      let same : d ≡ record { tx = d.tx; fate = C } = decision-with d C has.commits in
+      has.enough (subst (IsGoodNext plan.objects h p) same has.good) (subst (λ (e : Decision). Refuted plan.objects h (p ++ e ∷ [])) same (dead (p ++ d ∷ []) has.line))
 
   lines-refuted : {X : Type 0} (lines : List (CertLine X)) (earlier : List (List Decision)) → AreGood earlier → AreRefuted earlier → AreAccepted plan.objects h earlier lines →
       AreRefuted (earlier ++ map prefix_in lines)
@@ -54,8 +64,8 @@ accepted-refuted plan h lines fine within accepted =
     lines-refuted plan h fine within lines [] (λ p there. absurd (none-there p there)) (λ p there. absurd (none-there p there)) accepted.each []
     (subst (λ (ps : List (List Decision)). Contains ps []) (sym ends) (Contains-push before []))
 
--- what says exactly whether the lines are accepted says true of refuted ones alone
+-- what judges the lines says true of refuted ones alone
 pub refuted-if_ok : {X E : Type 0} (plan : PlanOf) (h : History) (lines : List (CertLine X)) (r : Result Bool E) → IsWellFormed h → IsWithinLimits plan h →
-    IfOk r (λ good. IsTrue good ↔ IsAccepted plan.objects h lines) → IfOk r (λ good. IsTrue good → Refuted plan.objects h [])
-refuted-if_ok plan h lines (Ok good) fine within exact = λ yes. accepted-refuted plan h lines fine within (exact.0 yes)
+    IfOk r (JudgesLines plan.objects h lines) → IfOk r (λ good. IsTrue good → Refuted plan.objects h [])
+refuted-if_ok plan h lines (Ok good) fine within judged = λ yes. accepted-refuted plan h lines fine within (judged.0 yes)
 refuted-if_ok plan h lines (Err e) fine within exact = exact

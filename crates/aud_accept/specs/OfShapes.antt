@@ -1,12 +1,15 @@
 -- The words of acceptance over the objects and the history of one shape.
-use Rattle.std.specs.Prelude.{◌≡◌, List, ◌++◌, ◌∷◌, []}
+use Rattle.std.specs.Prelude.{◌≡◌, Bool, List, ◌++◌, ◌∷◌, []}
 use Rattle.std.specs.List.{Contains}
 use Rattle.aud_witness.specs.declared.decision.Decision.{Decision}
-use Rattle.aud_witness.specs.Orders.{IsGood}
+use Rattle.aud_witness.specs.declared.decision.Fate.TheVariants.{C}
+use Rattle.aud_witness.specs.Orders.{IsGood, IsGoodNext}
+use Rattle.aud_order.specs.Cursors.{CursorOf}
 use Rattle.aud_order.specs.Shapes.{ShapeOf, objects_of, history_of}
+use Rattle.aud_first.specs.Exchanges.{IsEnough}
 use Rattle.aud_accept.specs.declared.cert.CertLine.{CertLine}
-use Rattle.aud_accept.specs.declared.cert.CertLine.TheVariants.{Kids, Silent, Same}
-use Rattle.aud_accept.specs.Acceptance.{HasKids, HasSilent, HasSame, IsAcceptedLine}
+use Rattle.aud_accept.specs.declared.cert.CertLine.TheVariants.{Kids, Silent, Same, Ahead, First}
+use Rattle.aud_accept.specs.Acceptance.{HasKids, HasSilent, HasSame, HasFirst, IsAcceptedLine, JudgesLine}
 use Rattle.aud_accept.specs.Moves.{StaysBefore}
 
 -- each of the lists is good
@@ -26,6 +29,18 @@ HasSilentFor s earlier p d = HasSilent (objects_of s) (history_of s) earlier p d
 abbrev pub HasSameFor : ShapeOf → List (List Decision) → List Decision → List Decision → Type 0
 HasSameFor s earlier p q = HasSame (objects_of s) (history_of s) earlier p q
 
+abbrev pub HasFirstFor : ShapeOf → List (List Decision) → List Decision → Decision → Type 0
+HasFirstFor s earlier p d = HasFirst (objects_of s) (history_of s) earlier p d
+
+-- the decision commits a transaction that is good after the cursor's prefix, and enough there
+pub record IsSeenEnough (c : CursorOf) (d : Decision) : Type 0 where
+  pub commits : d.fate ≡ C
+  pub enough : IsEnough c d.tx
+  pub good : IsGoodNext (objects_of c.shape) (history_of c.shape) c.path d
+
+abbrev pub JudgesLineFor : {X : Type 0} → ShapeOf → List (List Decision) → CertLine X → Bool → Type 0
+JudgesLineFor s earlier line told = JudgesLine (objects_of s) (history_of s) earlier line told
+
 abbrev pub IsAcceptedFor : {X : Type 0} → ShapeOf → List (List Decision) → CertLine X → Type 0
 IsAcceptedFor s earlier line = IsAcceptedLine (objects_of s) (history_of s) earlier line
 
@@ -37,3 +52,5 @@ abbrev pub StaysAtKids : {X : Type 0} → CertLine X → List Decision → Type 
 StaysAtKids (Kids p) path = path ≡ p
 StaysAtKids (Silent _ _) path = Unit {0}
 StaysAtKids (Same _ _) path = Unit {0}
+StaysAtKids (Ahead _) path = Unit {0}
+StaysAtKids (First _ _) path = Unit {0}

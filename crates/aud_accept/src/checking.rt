@@ -2,20 +2,22 @@
 
 ghost use Rattle.std.specs.Prelude.{◌≡◌, ◌↔◌, ◌++◌, ◌∷◌, [], map, Some, IfOk, IfSome, OnOk, IsTrue};
 ghost use Rattle.aud_witness.specs.declared.decision.Decision.{Decision};
+ghost use Rattle.aud_witness.specs.declared.decision.Fate.{Fate as FateOf};
 ghost use Rattle.aud_witness.specs.Orders.{Refuted};
 ghost use Rattle.aud_order.specs.Silent.{silent_fate};
 ghost use Rattle.aud_order.specs.Shapes.{objects_of, history_of};
-ghost use Rattle.aud_accept.specs.Acceptance.{prefix_in, LeadAlike, EndsEmpty, IsAccepted};
-ghost use Rattle.aud_accept.specs.OfShapes.{AreGoodFor, HasKidsFor, HasLines, HasSameFor, HasSilentFor, IsAcceptedFor, StaysAtKids};
+ghost use Rattle.aud_accept.specs.Acceptance.{prefix_in, LeadAlike, EndsEmpty, IsAccepted, JudgesLines};
+ghost use Rattle.aud_accept.specs.OfShapes.{AreGoodFor, HasFirstFor, HasKidsFor, HasLines, HasSameFor, HasSilentFor, IsSeenEnough, JudgesLineFor, StaysAtKids};
 ghost use Rattle.aud_accept.specs.Landings.{IsLandingOf};
 
 use crate::cert::{Cert, CertLine};
 use crate::earlier::{Earlier, is_among};
 use crate::landing::Landing;
+use crate::lookout::Lookout;
 use crate::moving::go_to;
 use aud_event::OutOfMemory;
 use aud_order::{Cursor, Shape};
-use aud_witness::Decision;
+use aud_witness::{Decision, Fate};
 use bumpalo::Bump;
 use std::alloc::Allocator;
 
@@ -87,6 +89,65 @@ fn has_silent<'c, A: Allocator + Copy>(
     Ok(earlier.has_after(prefix, decision))
 }
 
+/// Whether the transaction commits by the decision.
+fn commits(decision: Decision) -> bool
+    ensures { IsTrue result → decision.fate ≡ FateOf.C }
+{
+    match decision.fate {
+        Fate::C => true,
+        Fate::A => false,
+    }
+}
+
+/// Whether the decision commits a transaction that is seen to be enough after the prefix, and is good there.
+fn is_good_and_enough<A: Allocator + Copy>(
+    shape: &Shape<A>,
+    cursor: &mut Cursor<A>,
+    lookout: &mut Lookout<A>,
+    decision: Decision,
+) -> Result<bool, OutOfMemory>
+    requires shape { cursor.old.shape ≡ shape.now }
+    requires lookout { lookout.old ≡ shape.now }
+    ensures seen { IfOk result (λ seen. IsTrue seen → IsSeenEnough cursor.old decision) }
+    ensures shape { OnOk result (cursor.new.shape ≡ cursor.old.shape) }
+    ensures lookout { lookout.new ≡ lookout.old }
+{
+    if !commits(decision) {
+        return Ok(false);
+    }
+    let Some(place) = shape.table().place(decision.tx) else {
+        return Ok(false);
+    };
+    if !lookout.is_enough(cursor, place)? {
+        return Ok(false);
+    }
+    let pushed = cursor.push(decision)?;
+    Ok(pushed.is_good())
+}
+
+/// Whether the decision commits a transaction that is seen to be enough after the prefix, is good there, and leads to the prefix of an
+/// earlier line.
+fn has_first<'c, A: Allocator + Copy>(
+    shape: &Shape<A>,
+    cursor: &mut Cursor<A>,
+    lookout: &mut Lookout<A>,
+    earlier: &Earlier<'c, A>,
+    prefix: &'c [Decision],
+    decision: Decision,
+) -> Result<bool, OutOfMemory>
+    requires path { cursor.old.path ≡ prefix.now }
+    requires shape { cursor.old.shape ≡ shape.now }
+    requires lookout { lookout.old ≡ shape.now }
+    ensures accepted { IfOk result (λ has. IsTrue has → HasFirstFor shape.now earlier.now.prefixes prefix.now decision) }
+    ensures shape { OnOk result (cursor.new.shape ≡ cursor.old.shape) }
+    ensures lookout { lookout.new ≡ lookout.old }
+{
+    if !earlier.has_after(prefix, decision) {
+        return Ok(false);
+    }
+    is_good_and_enough(shape, cursor, lookout, decision)
+}
+
 /// Whether the prefixes of the two cursors place the same transactions and leave the same states.
 fn lead_alike<A: Allocator + Copy>(cursor: &Cursor<A>, other: &Cursor<A>) -> bool
     requires { other.now.shape ≡ cursor.now.shape }
@@ -150,14 +211,17 @@ fn accepts<'c, A: Allocator + Copy, B: Allocator>(
     shape: &Shape<A>,
     cursor: &mut Cursor<A>,
     other: &mut Cursor<A>,
+    lookout: &mut Lookout<A>,
     earlier: &Earlier<'c, A>,
     line: &'c CertLine<B>,
 ) -> Result<bool, OutOfMemory>
     requires cursor { cursor.old.shape ≡ shape.now }
+    requires lookout { lookout.old ≡ shape.now }
     requires other { other.old.shape ≡ shape.now }
     requires earlier { earlier.now.shape ≡ shape.now }
     requires good { AreGoodFor shape.now earlier.now.prefixes }
-    ensures accepted { IfOk result (λ good. IsTrue good ↔ IsAcceptedFor shape.now earlier.now.prefixes line.now) }
+    ensures judged { IfOk result (JudgesLineFor shape.now earlier.now.prefixes line.now) }
+    ensures lookout { lookout.new ≡ lookout.old }
     ensures cursor { OnOk result (cursor.new.shape ≡ shape.now) }
     ensures there { IfOk result (λ good. IsTrue good → StaysAtKids line.now cursor.new.path) }
     ensures other { OnOk result (other.new.shape ≡ shape.now) }
@@ -171,6 +235,15 @@ fn accepts<'c, A: Allocator + Copy, B: Allocator>(
             has_silent(shape, cursor, earlier, prefix.decisions(), *decision)
         }
         CertLine::Same(_, prefix) => has_same(cursor, other, earlier, prefix.decisions()),
+        CertLine::Ahead(_) => lookout.sees_doom(cursor),
+        CertLine::First(prefix, decision) => has_first(
+            shape,
+            cursor,
+            lookout,
+            earlier,
+            prefix.decisions(),
+            *decision,
+        ),
     }
 }
 
@@ -184,7 +257,10 @@ fn landing_of<A: Allocator + Copy, B: Allocator>(
 {
     match line {
         CertLine::Kids(_) => Landing::of(cursor),
-        CertLine::Silent(_, _) | CertLine::Same(_, _) => None,
+        CertLine::Silent(_, _)
+        | CertLine::Same(_, _)
+        | CertLine::Ahead(_)
+        | CertLine::First(_, _) => None,
     }
 }
 
@@ -198,23 +274,32 @@ fn is_last_empty<A: Allocator>(lines: &[CertLine<A>]) -> bool
     }
 }
 
-/// Whether the certificate has lines, each is accepted after those before it, and the last refutes the empty prefix.
+/// Whether the certificate has lines, each is seen to be accepted after those before it, and the last refutes the empty prefix.
 fn is_accepted<A: Allocator + Copy, B: Allocator>(
     alloc: A,
     shape: &Shape<A>,
     cert: &Cert<B>,
 ) -> Result<bool, OutOfMemory>
-    ensures { IfOk result (λ good. IsTrue good ↔ IsAccepted (objects_of shape.now) (history_of shape.now) cert.now.lines.items) }
+    ensures { IfOk result (JudgesLines (objects_of shape.now) (history_of shape.now) cert.now.lines.items) }
 {
     if !is_last_empty(&cert.lines) {
         return Ok(false);
     }
     let mut cursor = Cursor::root(alloc, shape)?;
     let mut other = Cursor::root(alloc, shape)?;
+    let mut lookout = Lookout::new(alloc, shape);
     let lists = Bump::new(alloc);
     let mut earlier = Earlier::none(alloc, shape, &lists);
     for line in &cert.lines {
-        if !accepts(alloc, shape, &mut cursor, &mut other, &earlier, line)? {
+        if !accepts(
+            alloc,
+            shape,
+            &mut cursor,
+            &mut other,
+            &mut lookout,
+            &earlier,
+            line,
+        )? {
             return Ok(false);
         }
         let landing = landing_of(&cursor, line);
@@ -226,6 +311,9 @@ fn is_accepted<A: Allocator + Copy, B: Allocator>(
 /// Whether the certificate is accepted: it has lines, each is accepted after those before it, and the last refutes the empty
 /// prefix. Nothing in it is trusted, and where it is accepted no order shows the history.
 ///
+/// A line by the look ahead or by a choice that is enough is accepted where this is seen; the checker looks as the search does, at
+/// some transactions and not at all. Where no line is so, the answer is exact.
+///
 /// A line costs the blocks of what its prefix has not in common with the line's before it, and a look-up for each prefix that it
 /// rests on. The memory is in proportion to the certificate.
 pub fn check_cert<A: Allocator + Copy, B: Allocator>(
@@ -233,7 +321,7 @@ pub fn check_cert<A: Allocator + Copy, B: Allocator>(
     shape: &Shape<A>,
     cert: &Cert<B>,
 ) -> Result<bool, OutOfMemory>
-    ensures accepted { IfOk result (λ good. IsTrue good ↔ IsAccepted (objects_of shape.now) (history_of shape.now) cert.now.lines.items) }
+    ensures accepted { IfOk result (JudgesLines (objects_of shape.now) (history_of shape.now) cert.now.lines.items) }
     ensures refuted { IfOk result (λ good. IsTrue good → Refuted (objects_of shape.now) (history_of shape.now) []) }
 {
     let _within = shape.plan();

@@ -6,8 +6,10 @@ mod checking;
 mod earlier;
 mod landing;
 pub mod laws;
+mod lookout;
 mod moving;
 mod place;
 
-pub use cert::{Cert, CertLine};
+pub use cert::{Cert, CertLine, Rules};
 pub use checking::check_cert;
+pub use lookout::Lookout;

@@ -197,10 +197,10 @@ impl<'a, A: Allocator + Copy> Ahead<'a, A> {
     }
 
     /// Whether it is plain that no list that begins with the cursor's shows the history. It looks at the transactions that have to be
-    /// placed first, after the empty list at all. Where memory is refused it says no.
-    pub fn is_doomed(&mut self, cursor: &Cursor<A>) -> bool
+    /// placed first, after the empty list at all.
+    pub fn sees_doom(&mut self, cursor: &Cursor<A>) -> Result<bool, OutOfMemory>
         requires { cursor.now.shape ≡ self.old }
-        ensures doomed { IsTrue result → IsDoomed cursor.now }
+        ensures doomed { IfOk result (λ doomed. IsTrue doomed → IsDoomed cursor.now) }
         ensures same { self.new ≡ self.old }
     {
         let looks = if cursor.prefix().is_empty() {
@@ -208,7 +208,16 @@ impl<'a, A: Allocator + Copy> Ahead<'a, A> {
         } else {
             LOOKS
         };
-        match self.look(cursor, looks) {
+        self.look(cursor, looks)
+    }
+
+    /// The same, but where memory is refused it says no.
+    pub fn is_doomed(&mut self, cursor: &Cursor<A>) -> bool
+        requires { cursor.now.shape ≡ self.old }
+        ensures doomed { IsTrue result → IsDoomed cursor.now }
+        ensures same { self.new ≡ self.old }
+    {
+        match self.sees_doom(cursor) {
             Ok(doomed) => doomed,
             Err(_) => false,
         }

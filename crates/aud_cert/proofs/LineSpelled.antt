@@ -2,8 +2,10 @@
 use Rattle.std.proofs.Common.{◌≡◌, ◌≤◌, ℕ, List, Option, Some, None, Ok, length, refl, ap, subst, ◌∙◌}
 use Rattle.std.specs.Prelude.{IfSome}
 use Rattle.aud_accept.specs.declared.cert.CertLine.{CertLine}
-use Rattle.aud_accept.specs.declared.cert.CertLine.TheVariants.{Kids, Silent, Same}
-use Rattle.aud_accept.specs.Acceptance.{elsewhere}
+use Rattle.aud_accept.specs.declared.cert.CertLine.TheVariants.{Kids, Silent, Same, Ahead, First}
+use Rattle.aud_accept.specs.declared.cert.Rules.{Rules}
+use Rattle.aud_accept.specs.declared.cert.Rules.TheVariants as rules
+use Rattle.aud_accept.specs.Acceptance.{elsewhere, IsOf}
 use Rattle.aud_cert.specs.LineText.{Line, line_read}
 use Rattle.aud_cert.specs.Written.{line_text, HasShort}
 use Rattle.aud_cert.proofs.Back.{line-back}
@@ -17,15 +19,27 @@ same-text : {X : Type 0} (l : CertLine X) → line_text l ≡ line_text (own l)
 same-text (Kids p) = refl
 same-text (Silent p d) = refl
 same-text (Same p q) = refl
+same-text (Ahead p) = refl
+same-text (First p d) = refl
 
 same-short : {X : Type 0} (l : CertLine X) → HasShort l → HasShort (own l)
 same-short (Kids p) short = short
 same-short (Silent p d) short = short
 same-short (Same p q) short = short
+same-short (Ahead p) short = short
+same-short (First p d) short = short
 
-pub line-spelled : {X : Type 0} (line : List ℕ) (o : Option (CertLine X)) → length line ≤ longest_cert_line → IfSome o (λ l. line ≡ line_text l) → IfSome o HasShort →
-    IfSome o (λ l. line_read line ≡ Ok (elsewhere l))
-line-spelled line None fits same short = tt
-line-spelled line (Some l) fits same short =
+same-rules : {X : Type 0} (r : Rules) (l : CertLine X) → IsOf r l → IsOf r (own l)
+same-rules rules.One (Kids p) of = of
+same-rules rules.One (Silent p d) of = of
+same-rules rules.One (Same p q) of = of
+same-rules rules.One (Ahead p) of = of
+same-rules rules.One (First p d) of = of
+same-rules rules.Two l of = of
+
+pub line-spelled : {X : Type 0} (r : Rules) (line : List ℕ) (o : Option (CertLine X)) → length line ≤ longest_cert_line → IfSome o (λ l. line ≡ line_text l) → IfSome o HasShort → IfSome o (λ l. IsOf r l) →
+    IfSome o (λ l. line_read r line ≡ Ok (elsewhere l))
+line-spelled r line None fits same short of = tt
+line-spelled r line (Some l) fits same short of =
     let is = same ∙ same-text l in
-    ap line_read is ∙ line-back (own l) (record { orders = same-short l short; text = subst (λ s. length s ≤ longest_cert_line) is fits })
+    ap (line_read r) is ∙ line-back r (own l) (same-rules r l of) (record { orders = same-short l short; text = subst (λ s. length s ≤ longest_cert_line) is fits })

@@ -1,11 +1,13 @@
 //! The lines of a certificate, as a search writes them.
 
 ghost use Rattle.std.specs.Prelude.{◌≡◌, ◌<◌, [], Some, map, length, slice_get, IfOk};
+ghost use Rattle.std.specs.List.{All};
+ghost use Rattle.aud_accept.specs.declared.cert.Rules.{Rules as RulesOf};
 ghost use Rattle.aud_order.specs.Shapes.{objects_of, history_of};
-ghost use Rattle.aud_accept.specs.Acceptance.{prefix_in, IsAcceptedLine, IsAccepted};
+ghost use Rattle.aud_accept.specs.Acceptance.{prefix_in, IsPlain, IsAcceptedLine, IsAccepted};
 ghost use Rattle.aud_cert.specs.Recorded.{IsLonger};
 
-use aud_accept::{Cert, CertLine};
+use aud_accept::{Cert, CertLine, Rules};
 use aud_event::{Dup, OutOfMemory};
 use aud_marks::Marks;
 use aud_object::Store;
@@ -27,14 +29,15 @@ pub(crate) struct Lines<'a, A: Allocator + Copy = Global> {
 impl<'a, A: Allocator + Copy> Model for Lines<'a, A> {
     ghost use Rattle.std.specs.Prelude.{[]};
     ghost use Rattle.aud_order.specs.Shapes.{objects_of, history_of};
-    ghost use Rattle.aud_accept.specs.Acceptance.{AreAccepted};
+    ghost use Rattle.std.specs.List.{All};
+    ghost use Rattle.aud_accept.specs.Acceptance.{AreAccepted, IsPlain};
     ghost use Rattle.aud_cert.specs.Recorded.{LinesOf};
 
     ghost Value = { LinesOf A };
 
     ghost view = { λ l. record { shape = l.shape.now; lines = l.lines.items } };
 
-    ghost invariant = { λ l. AreAccepted (objects_of l.shape.now) (history_of l.shape.now) [] l.lines.items };
+    ghost invariant = { λ l. AreAccepted (objects_of l.shape.now) (history_of l.shape.now) [] l.lines.items × All IsPlain l.lines.items };
 }
 
 impl<'a, A: Allocator + Copy> Lines<'a, A> {
@@ -51,7 +54,8 @@ impl<'a, A: Allocator + Copy> Lines<'a, A> {
 
     /// Adds a line that is accepted after the others, and answers its number.
     fn add(&mut self, line: CertLine<A>) -> Result<usize, OutOfMemory>
-        requires { IsAcceptedLine (objects_of self.old.shape) (history_of self.old.shape) (map prefix_in self.old.lines) line }
+        requires accepted { IsAcceptedLine (objects_of self.old.shape) (history_of self.old.shape) (map prefix_in self.old.lines) line }
+        requires plain { IsPlain line }
         ensures noted { IfOk result (λ note. slice_get (map prefix_in self.new.lines) note ≡ Some (prefix_in line)) }
         ensures grows { IsLonger self.old self.new }
     {
@@ -68,15 +72,20 @@ impl<'a, A: Allocator + Copy> Lines<'a, A> {
         self.lines[note].prefix().dup()
     }
 
-    /// The certificate whose last line is the one of the number, which refutes the empty prefix.
+    /// The certificate by the first rules whose last line is the one of the number, which refutes the empty prefix.
     pub(crate) fn up_to(self, last: usize) -> Cert<A>
         requires { slice_get (map prefix_in self.lines) last ≡ Some [] }
-        ensures { IsAccepted (objects_of self.entry.shape) (history_of self.entry.shape) result.lines.items }
+        ensures rules { result.rules ≡ RulesOf.One }
+        ensures plain { All IsPlain result.lines.items }
+        ensures accepted { IsAccepted (objects_of self.entry.shape) (history_of self.entry.shape) result.lines.items }
     {
         let mut lines = self.lines;
         let _few = lines.len();
         lines.truncate(last + 1);
-        Cert { lines }
+        Cert {
+            rules: Rules::One,
+            lines,
+        }
     }
 }
 

@@ -1,15 +1,15 @@
 //! Reading the text of a certificate.
 
-ghost use Rattle.std.specs.Prelude.{◌≡◌, ◌+◌, ◌≤◌, ◌⊎◌, Ok, Err, length, map, MatchResult};
+ghost use Rattle.std.specs.Prelude.{◌≡◌, ◌+◌, ◌≤◌, ◌⊎◌, Ok, Err, length, map, IfOk, MatchResult};
 ghost use Rattle.serde_json.specs.View.{view};
 ghost use Rattle.serde_json.specs.Find.{as_object};
 ghost use Rattle.aud_accept.specs.Acceptance.{elsewhere};
 ghost use Rattle.aud_text.specs.Lines.{lines_of};
-ghost use Rattle.aud_cert.specs.CertText.{header_keys, count_at, header_members, header_read, at_line, lines_left, cert_read};
+ghost use Rattle.aud_cert.specs.CertText.{header_keys, header_allowed, rules_keys, natural_at, two_of, rules_at, header_members, header_read, at_line, lines_left, cert_read, rules_read};
 
 use crate::fault::CertTextFault;
 use crate::line::{CERT_LINE_MAX, read_line};
-use aud_accept::{Cert, CertLine};
+use aud_accept::{Cert, CertLine, Rules};
 use aud_text::{
     TextFault, count_lines, has_only_allowed, has_required, json_in, next_filled, whole_of,
 };
@@ -18,17 +18,40 @@ use std::alloc::{Allocator, Global};
 
 static HEADER_KEYS: [&str; 1] = ["cert"];
 
+static RULES_KEYS: [&str; 1] = ["rules"];
+
+static ALLOWED_KEYS: [&str; 2] = ["cert", "rules"];
+
+/// What the header says: how many lines follow, and by which rules.
+#[derive(Clone, Copy)]
+pub(crate) struct Header {
+    count: u64,
+    rules: Rules,
+}
+
 fn keys_of_header() -> &'static [&'static str]
     ensures { map (λ k. k.now) result.now ≡ header_keys }
 {
     HEADER_KEYS.as_slice()
 }
 
-/// How many lines the header says.
-fn count_in(value: &Value) -> Option<u64>
-    ensures { result ≡ count_at (view value.now) }
+fn keys_of_rules() -> &'static [&'static str]
+    ensures { map (λ k. k.now) result.now ≡ rules_keys }
 {
-    let count = whole_of(value, "cert")?;
+    RULES_KEYS.as_slice()
+}
+
+fn keys_allowed() -> &'static [&'static str]
+    ensures { map (λ k. k.now) result.now ≡ header_allowed }
+{
+    ALLOWED_KEYS.as_slice()
+}
+
+/// The whole number at the key, if it is from 0 to the greatest i64.
+fn natural_in(value: &Value, key: &str) -> Option<u64>
+    ensures { result ≡ natural_at key.now (view value.now) }
+{
+    let count = whole_of(value, key)?;
     if count < 0 {
         None
     } else {
@@ -36,26 +59,46 @@ fn count_in(value: &Value) -> Option<u64>
     }
 }
 
-fn judge_header(value: &Value) -> Result<u64, TextFault>
+/// The second rules, if the number is theirs.
+fn two(number: Option<u64>) -> Option<Rules>
+    ensures { result ≡ two_of number }
+{
+    match number {
+        Some(2) => Some(Rules::Two),
+        _ => None,
+    }
+}
+
+/// The rules that the header names: the first, where it names none.
+fn rules_in(value: &Value) -> Option<Rules>
+    ensures { result ≡ rules_at (view value.now) }
+{
+    if has_required(value, keys_of_rules()) {
+        two(natural_in(value, "rules"))
+    } else {
+        Some(Rules::One)
+    }
+}
+
+fn judge_header(value: &Value) -> Result<Header, TextFault>
     ensures { result ≡ header_members (view value.now) (as_object (view value.now)) }
 {
     let Some(members) = value.as_object() else {
         return Err(TextFault::NotObject);
     };
-    let keys = keys_of_header();
-    if !has_required(value, keys) {
+    if !has_required(value, keys_of_header()) {
         return Err(TextFault::KeyMissing);
     }
-    if !has_only_allowed(members, keys) {
+    if !has_only_allowed(members, keys_allowed()) {
         return Err(TextFault::KeyUnknown);
     }
-    match count_in(value) {
-        Some(count) => Ok(count),
-        None => Err(TextFault::TypeOrRange),
+    match (natural_in(value, "cert"), rules_in(value)) {
+        (Some(count), Some(rules)) => Ok(Header { count, rules }),
+        _ => Err(TextFault::TypeOrRange),
     }
 }
 
-fn read_header(alloc: Global, line: &[u8]) -> Result<u64, TextFault>
+fn read_header(alloc: Global, line: &[u8]) -> Result<Header, TextFault>
     ensures { (result ≡ Err TextFault.OutOfMemory) ⊎ (result ≡ header_read line.now) }
 {
     let value = match json_in(alloc, line, CERT_LINE_MAX) {
@@ -86,20 +129,21 @@ fn most_lines(count: u64, left: usize) -> usize {
     }
 }
 
-/// The certificate's lines, so many of what is left of the text. No line that is not empty comes after them.
+/// The certificate's lines, as many as the header says of what is left of the text. No line that is not empty comes after them.
 fn read_lines<A: Allocator + Copy>(
     alloc: Global,
     lists: A,
     text: &[u8],
     left: &[u8],
     number: usize,
-    count: u64,
+    header: Header,
 ) -> Result<Vec<CertLine<A>, A>, CertTextFault>
     requires within { length left.now ≤ length text.now }
     requires room { number + length left.now ≤ length text.now + 1 }
-    ensures { MatchResult result (λ lines. lines_left text.now left.now number count ≡ Ok (map elsewhere lines.items))
-        (λ e. (e.fault ≡ TextFault.OutOfMemory) ⊎ (lines_left text.now left.now number count ≡ Err e)) }
+    ensures { MatchResult result (λ lines. lines_left header.rules text.now left.now number header.count ≡ Ok (map elsewhere lines.items))
+        (λ e. (e.fault ≡ TextFault.OutOfMemory) ⊎ (lines_left header.rules text.now left.now number header.count ≡ Err e)) }
 {
+    let Header { count, rules } = header;
     let mut list = Vec::new(alloc);
     let mut rest = left;
     let mut line = number;
@@ -114,7 +158,7 @@ fn read_lines<A: Allocator + Copy>(
             return Err(ends_early(text));
         };
         line = next.number;
-        let read = match read_line(alloc, lists, next.line, &mut list) {
+        let read = match read_line(alloc, lists, rules, next.line, &mut list) {
             Ok(read) => read,
             Err(fault) => return Err(CertTextFault { line, fault }),
         };
@@ -138,11 +182,12 @@ fn read_lines<A: Allocator + Copy>(
 
 /// The certificate that a text says, or the first fault of the text, in memory of the program's own allocator.
 ///
-/// A header line says how many lines follow. Empty lines are skipped and counted; a line has at most 65,536 bytes. A text that
+/// A header line says how many lines follow, and by which rules. Empty lines are skipped and counted; a line has at most 65,536 bytes. A text that
 /// ends too early is refused at the line after its last, and a line after those that the header counts as one with an unknown key.
 pub fn read_cert(alloc: Global, text: &[u8]) -> Result<Cert, CertTextFault>
-    ensures { MatchResult result (λ cert. cert_read text.now ≡ Ok cert.lines.items)
+    ensures read { MatchResult result (λ cert. cert_read text.now ≡ Ok cert.lines.items)
         (λ e. (e.fault ≡ TextFault.OutOfMemory) ⊎ (cert_read text.now ≡ Err e)) }
+    ensures rules { IfOk result (λ cert. cert.rules ≡ rules_read text.now) }
 {
     read_cert_into(alloc, alloc, text)
 }
@@ -153,19 +198,23 @@ pub fn read_cert_into<A: Allocator + Copy>(
     lists: A,
     text: &[u8],
 ) -> Result<Cert<A>, CertTextFault>
-    ensures { MatchResult result (λ cert. cert_read text.now ≡ Ok (map elsewhere cert.lines.items))
+    ensures read { MatchResult result (λ cert. cert_read text.now ≡ Ok (map elsewhere cert.lines.items))
         (λ e. (e.fault ≡ TextFault.OutOfMemory) ⊎ (cert_read text.now ≡ Err e)) }
+    ensures rules { IfOk result (λ cert. cert.rules ≡ rules_read text.now) }
 {
     let Some(first) = next_filled(text, 1) else {
         return Err(ends_early(text));
     };
     let line = first.number;
-    let count = match read_header(alloc, first.line) {
-        Ok(count) => count,
+    let header = match read_header(alloc, first.line) {
+        Ok(header) => header,
         Err(fault) => return Err(CertTextFault { line, fault }),
     };
-    match read_lines(alloc, lists, text, first.rest, line + 1, count) {
-        Ok(lines) => Ok(Cert { lines }),
+    match read_lines(alloc, lists, text, first.rest, line + 1, header) {
+        Ok(lines) => Ok(Cert {
+            rules: header.rules,
+            lines,
+        }),
         Err(fault) => Err(fault),
     }
 }

@@ -1,5 +1,5 @@
 -- What may be said of an input.
-use Rattle.std.specs.Prelude.{◌≡◌, ◌≢◌, ℕ, ◌+◌, List, [], Option, Some, None, Bool, true, false, Result, Ok, Err, length, map, string_bytes}
+use Rattle.std.specs.Prelude.{◌≡◌, ◌≢◌, ℕ, ◌+◌, List, [], Option, Some, None, Result, Ok, Err, length, map, string_bytes}
 use Rattle.aud_event.specs.declared.fact.Fact.{Fact}
 use Rattle.aud_event.specs.Meanings.{PlanOf}
 use Rattle.aud_history.specs.Histories.{History}
@@ -16,7 +16,9 @@ use Rattle.aud_text.specs.Orders.{order_read}
 use Rattle.aud_text.specs.Lines.{lines_of}
 use Rattle.aud_text.specs.declared.fault.TextFault.{TextFault}
 use Rattle.aud_text.specs.declared.fault.TextFault.TheVariants as text_fault
-use Rattle.aud_accept.specs.Acceptance.{IsAccepted, elsewhere}
+use Rattle.std.specs.List.{All}
+use Rattle.aud_accept.specs.Acceptance.{IsAccepted, IsPlain, IsOf, elsewhere}
+use Rattle.aud_accept.specs.declared.cert.Rules.{Rules}
 use Rattle.aud_cert.specs.LineText.{Line as CertLineOf}
 use Rattle.aud_cert.specs.CertText.{cert_read}
 use Rattle.aud_cert.specs.declared.fault.CertTextFault.{CertTextFault}
@@ -41,11 +43,12 @@ CheckSays order plan h (said.Verdict (verdict.Opaque p)) = (p ≡ order) × Show
 CheckSays order plan h (said.OrderRefused e) = first_order_fault plan.objects h order ≡ Some e
 CheckSays order plan h _ = ⊥
 
--- where no order shows the history: `not opaque`, and with a certificate one that is accepted
-abbrev pub NoneSays : Bool → Answers
-NoneSays false plan h (said.Verdict verdict.NotOpaque) = Opaque plan.objects h → ⊥
-NoneSays true plan h (said.Certified cert) = (Opaque plan.objects h → ⊥) × IsAccepted plan.objects h cert.lines.items
-NoneSays cert plan h _ = ⊥
+-- where no order shows the history: `not opaque`, and with a certificate by some rules one that names them, has lines of them, and is
+-- accepted
+abbrev pub NoneSays : Option Rules → Answers
+NoneSays None plan h (said.Verdict verdict.NotOpaque) = Opaque plan.objects h → ⊥
+NoneSays (Some r) plan h (said.Certified cert) = (cert.rules ≡ r) × All (IsOf r) cert.lines.items × IsAccepted plan.objects h cert.lines.items × (Opaque plan.objects h → ⊥)
+NoneSays certifying plan h _ = ⊥
 
 -- the budget can be spent with neither found
 abbrev pub IsSpent : Option ℕ → PlanOf → History → Type 0
@@ -54,21 +57,22 @@ IsSpent (Some b) plan h = SpentBy plan.objects h [] b
 
 -- decide: `opaque` with any order that shows the history, or what is said where none does; where there is a budget, or
 -- `unfinished` if it can be spent
-abbrev pub DecideSays : Option ℕ → Bool → Answers
-DecideSays budget cert plan h (said.Verdict (verdict.Opaque p)) = Shows plan.objects h p
-DecideSays budget cert plan h (said.Verdict verdict.Unfinished) = IsSpent budget plan h
-DecideSays budget cert plan h s = NoneSays cert plan h s
+abbrev pub DecideSays : Option ℕ → Option Rules → Answers
+DecideSays budget certifying plan h (said.Verdict (verdict.Opaque p)) = Shows plan.objects h p
+DecideSays budget certifying plan h (said.Verdict verdict.Unfinished) = IsSpent budget plan h
+DecideSays budget certifying plan h s = NoneSays certifying plan h s
 
--- verify: `not opaque` where the certificate is accepted, and then no order shows the history; else that it is refused
+-- verify: `not opaque` only where the certificate is accepted, and then no order shows the history; else that it is refused, which of
+-- lines of the first rules says that it is not accepted
 abbrev pub VerifySays : List CertLineOf → Answers
 VerifySays lines plan h (said.Verdict verdict.NotOpaque) = IsAccepted plan.objects h lines × (Opaque plan.objects h → ⊥)
-VerifySays lines plan h said.CertificateRefused = IsAccepted plan.objects h lines → ⊥
+VerifySays lines plan h said.CertificateRefused = All IsPlain lines → IsAccepted plan.objects h lines → ⊥
 VerifySays lines plan h _ = ⊥
 
 -- what may be said where this is asked
 abbrev pub QuestionSays : Question → Answers
 QuestionSays (question.Shows order) = CheckSays order
-QuestionSays (question.Any budget cert) = DecideSays budget cert
+QuestionSays (question.Any budget certifying) = DecideSays budget certifying
 QuestionSays (question.Accepts cert) = VerifySays (map elsewhere cert.now.lines.items)
 
 -- of a set of facts: the status, if they are not sealed, ill-formedness, if their history is not well-formed, else the
@@ -116,5 +120,5 @@ PlaceSays input (Some n) s = CertifiedSays n (input_read (text_before input n)) 
 -- what a job may say of an input: the first of these that applies
 abbrev pub Line : Job → List ℕ → Said → Type 0
 Line (Check text) input s = OrderSays (order_read (string_bytes text)) input s
-Line (Decide budget cert) input s = InputSays (DecideSays budget cert) (input_read input) s
+Line (Decide budget certifying) input s = InputSays (DecideSays budget certifying) (input_read input) s
 Line Verify input s = PlaceSays input (certificate_place input) s

@@ -9,6 +9,7 @@ mod question;
 mod reading;
 mod run;
 
+pub use aud_cert::Rules;
 pub use ended::{Cause, Ended, end_of};
 pub use input::{Input, InputFault, read_input};
 pub use job::{AuditJob, Command, Job};

@@ -3,10 +3,11 @@
 ghost use Rattle.std.specs.Prelude.{IfOk, None, Some, map};
 ghost use Rattle.aud_history.specs.WellFormed.{IsWellFormed};
 ghost use Rattle.aud_accept.specs.Acceptance.{elsewhere};
+ghost use Rattle.aud_accept.specs.declared.cert.Rules.{Rules as RulesOf};
 ghost use Rattle.aud_cli.specs.Line.{CheckSays, DecideSays, NoneSays, VerifySays, QuestionSays};
 ghost use Rattle.aud_witness.specs.Orders.{Opaque};
 
-use aud_cert::{Cert, check_cert, make_cert};
+use aud_cert::{Cert, Rules, cert_by_rules, check_cert, make_cert};
 use aud_event::OutOfMemory;
 use aud_facts::Sealed;
 use aud_history::History;
@@ -24,8 +25,8 @@ use std::sync::Arc;
 pub enum Question<'q, 'l> {
     /// Whether this order shows it.
     Shows(Prefix),
-    /// Whether any order does, perhaps with a budget, and with a certificate where none does or without.
-    Any(Option<u64>, bool),
+    /// Whether any order does, perhaps with a budget, and with a certificate by some rules where none does or without.
+    Any(Option<u64>, Option<Rules>),
     /// Whether the certificate that none does is accepted.
     Accepts(&'q Cert<&'l Bump>),
 }
@@ -43,38 +44,64 @@ fn answer_check(alloc: Global, order: Prefix, history: &History) -> Result<Said,
 fn answer_explore(
     alloc: Global,
     budget: u64,
-    with_certificate: bool,
+    certifying: Option<Rules>,
     shape: &Shape,
 ) -> Result<Said, OutOfMemory>
-    ensures { IfOk result (DecideSays (Some budget) with_certificate shape.now.sealed.facts.plan shape.now.sealed.history) }
+    ensures { IfOk result (DecideSays (Some budget) certifying shape.now.sealed.facts.plan shape.now.sealed.history) }
 {
     match explore(alloc, shape, &Prefix::empty(alloc), budget)? {
         Outcome::Witness(order) => Ok(Said::Verdict(Verdict::Opaque(order))),
-        Outcome::Refuted => said_of_none(alloc, with_certificate, shape),
+        Outcome::Refuted => said_of_none(alloc, certifying, shape),
         Outcome::Spent => Ok(Said::Verdict(Verdict::Unfinished)),
     }
 }
 
-/// What is said where no order shows the history: with a certificate, or without.
-fn said_of_none(alloc: Global, with_certificate: bool, shape: &Shape) -> Result<Said, OutOfMemory>
+/// A certificate by the first rules that no order shows the history.
+fn plain_cert(alloc: Global, shape: &Shape) -> Result<Said, OutOfMemory>
     requires { Opaque shape.now.sealed.facts.plan.objects shape.now.sealed.history → ⊥ }
-    ensures { IfOk result (NoneSays with_certificate shape.now.sealed.facts.plan shape.now.sealed.history) }
+    ensures { IfOk result (NoneSays (Some RulesOf.One) shape.now.sealed.facts.plan shape.now.sealed.history) }
 {
-    if !with_certificate {
-        return Ok(Said::Verdict(Verdict::NotOpaque));
-    }
     match make_cert(alloc, shape)? {
         Some(cert) => Ok(Said::Certified(cert)),
         None => unreachable!(),
     }
 }
 
-fn answer_decide(alloc: Global, with_certificate: bool, shape: &Shape) -> Result<Said, OutOfMemory>
-    ensures { IfOk result (DecideSays None with_certificate shape.now.sealed.facts.plan shape.now.sealed.history) }
+/// The same by the second rules.
+fn later_cert(alloc: Global, shape: &Shape) -> Result<Said, OutOfMemory>
+    requires { Opaque shape.now.sealed.facts.plan.objects shape.now.sealed.history → ⊥ }
+    ensures { IfOk result (NoneSays (Some RulesOf.Two) shape.now.sealed.facts.plan shape.now.sealed.history) }
+{
+    let cert = cert_by_rules(alloc, shape)?;
+    Ok(Said::Certified(cert))
+}
+
+/// What is said where no order shows the history: with a certificate, or without.
+fn said_of_none(
+    alloc: Global,
+    certifying: Option<Rules>,
+    shape: &Shape,
+) -> Result<Said, OutOfMemory>
+    requires { Opaque shape.now.sealed.facts.plan.objects shape.now.sealed.history → ⊥ }
+    ensures { IfOk result (NoneSays certifying shape.now.sealed.facts.plan shape.now.sealed.history) }
+{
+    match certifying {
+        None => Ok(Said::Verdict(Verdict::NotOpaque)),
+        Some(Rules::One) => plain_cert(alloc, shape),
+        Some(Rules::Two) => later_cert(alloc, shape),
+    }
+}
+
+fn answer_decide(
+    alloc: Global,
+    certifying: Option<Rules>,
+    shape: &Shape,
+) -> Result<Said, OutOfMemory>
+    ensures { IfOk result (DecideSays None certifying shape.now.sealed.facts.plan shape.now.sealed.history) }
 {
     match decide(alloc, shape)? {
         Decided::Opaque(order) => Ok(Said::Verdict(Verdict::Opaque(order))),
-        Decided::NotOpaque => said_of_none(alloc, with_certificate, shape),
+        Decided::NotOpaque => said_of_none(alloc, certifying, shape),
     }
 }
 
@@ -100,13 +127,13 @@ impl<'q, 'l> Question<'q, 'l> {
     {
         match self {
             Question::Shows(order) => answer_check(alloc, order, sealed.history()),
-            Question::Any(None, with_certificate) => {
+            Question::Any(None, certifying) => {
                 let shape = Shape::of(alloc, sealed)?;
-                answer_decide(alloc, with_certificate, &shape)
+                answer_decide(alloc, certifying, &shape)
             }
-            Question::Any(Some(budget), with_certificate) => {
+            Question::Any(Some(budget), certifying) => {
                 let shape = Shape::of(alloc, sealed)?;
-                answer_explore(alloc, budget, with_certificate, &shape)
+                answer_explore(alloc, budget, certifying, &shape)
             }
             Question::Accepts(cert) => {
                 let shape = Shape::of(alloc, sealed)?;

@@ -116,8 +116,8 @@ fn said_of(alloc: Global, job: &Job, text: &[u8]) -> Result<Said, OutOfMemory>
             Err(TextFault::OutOfMemory) => Err(OutOfMemory),
             Err(fault) => Ok(Said::OrderTextRefused(fault)),
         },
-        Job::Decide(budget, with_certificate) => {
-            judge(alloc, Question::Any(*budget, *with_certificate), text)
+        Job::Decide(budget, certifying) => {
+            judge(alloc, Question::Any(*budget, *certifying), text)
         }
         Job::Verify => verify(alloc, text),
     }

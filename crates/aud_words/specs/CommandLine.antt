@@ -19,7 +19,7 @@ abbrev pub flag_rule : Text → Rule
 flag_rule name = record (new_rule name) { long = Some name; action = Some SetTrue }
 
 abbrev pub decide_app : App
-decide_app = with_rule (with_rule (new_app (codes "decide")) (value_rule (codes "budget"))) (flag_rule (codes "cert"))
+decide_app = with_rule (with_rule (with_rule (new_app (codes "decide")) (value_rule (codes "budget"))) (flag_rule (codes "cert"))) (value_rule (codes "rules"))
 
 abbrev pub verify_app : App
 verify_app = new_app (codes "verify")

@@ -64,7 +64,8 @@ const DECIDE_ABOUT: &str = "Says whether any order of the transactions shows the
 const DECIDE_AFTER: &str =
     r#"Where the run is opaque the line has an order that shows it. With a budget the search gives up after
 so many expanded beginnings of orders, and says 'unfinished'; a number up to 1,000,000,000,000. With --cert
-the lines of a certificate follow 'not opaque', for 'opaq verify'; it is made without a budget.
+the lines of a certificate follow 'not opaque', for 'opaq verify'; it is made without a budget. With --rules 2 it
+may use two rules more, by which runs of many threads have short ones.
 
 Example: opaq decide < run.jsonl, with the file of opaq --help
 
@@ -184,7 +185,13 @@ fn decide_command<'a>(alloc: Global) -> Result<Command<'a>, AllocError>
         .about(DECIDE_ABOUT)
         .after_help(DECIDE_AFTER)
         .arg(budget)?
-        .arg(flag_arg(alloc, "cert", "Where no order does, adds a certificate"))
+        .arg(flag_arg(alloc, "cert", "Where no order does, adds a certificate"))?
+        .arg(value_arg(
+            alloc,
+            "rules",
+            "N",
+            "With --cert: 2 for a certificate of a run of many threads",
+        ))
 }
 
 fn verify_command<'a>(alloc: Global) -> Command<'a>

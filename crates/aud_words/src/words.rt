@@ -2,13 +2,14 @@
 
 ghost use Rattle.std.specs.Prelude.{◌≡◌, ◌⊎◌, ℕ, Option, Some, IfOk, MatchOption, MatchResult, codes, map, option_map, string_bytes};
 ghost use Rattle.clap.specs.Words.{first_of, found_of, rows_of, kind_of, subcommand_rows_of};
-ghost use Rattle.aud_words.specs.Words.{Commands, Asked, IsBudget, IsCount, IsNumberUpTo, is_true};
+ghost use Rattle.aud_words.specs.Words.{Commands, Asked, IsBudget, IsCertifying, IsCount, IsNumberUpTo, is_true};
+ghost use Rattle.aud_accept.specs.declared.cert.Rules.{Rules as RulesOf};
 ghost use Rattle.aud_cli.specs.Jobs.{IsInRange};
 ghost use Rattle.aud_cli.specs.declared.job.Command.{Command as CommandOf};
 
 use crate::command_line::opaq_command;
 use crate::usage::Usage;
-use aud_cli::{AuditJob, Command, Job};
+use aud_cli::{AuditJob, Command, Job, Rules};
 use clap::error::ErrorKind;
 use clap::{ArgMatches, Error};
 use std::alloc::{AllocError, Global};
@@ -79,15 +80,42 @@ fn has_flag(matches: &ArgMatches<'_>, id: &str) -> bool
     }
 }
 
+/// The rules of a certificate that the text names.
+fn rules_named(text: &str) -> Option<Rules>
+    ensures { MatchOption result (IsNumberUpTo 2 text.now 2 → ⊥) (λ rules. (rules ≡ RulesOf.Two) × IsNumberUpTo 2 text.now 2) }
+{
+    match number_up_to(2, text) {
+        Some(2) => Some(Rules::Two),
+        _ => None,
+    }
+}
+
+/// By which rules a certificate is wanted, if one is; nothing where rules are named and none is, or the text names none.
+fn certifying_of(matches: &ArgMatches<'_>) -> Option<Option<Rules>>
+    ensures { MatchOption result
+        ((c : Option RulesOf) → IsCertifying (is_true (first_of (codes "cert") (rows_of (found_of matches.now)))) (first_of (codes "rules") (rows_of (found_of matches.now))) c → ⊥)
+        (IsCertifying (is_true (first_of (codes "cert") (rows_of (found_of matches.now)))) (first_of (codes "rules") (rows_of (found_of matches.now)))) }
+{
+    let is_wanted = has_flag(matches, "cert");
+    match text_at(matches, "rules") {
+        None if is_wanted => Some(Some(Rules::One)),
+        None => Some(None),
+        Some(text) if is_wanted => match rules_named(text) {
+            Some(rules) => Some(Some(rules)),
+            None => None,
+        },
+        Some(_) => None,
+    }
+}
+
 fn decide_job(matches: &ArgMatches<'_>) -> Option<Command>
     ensures { MatchOption result
         ((command : CommandOf) → Commands (codes "decide") (rows_of (found_of matches.now)) command → ⊥)
         (Commands (codes "decide") (rows_of (found_of matches.now))) }
 {
-    match budget_of(matches) {
-        Some(budget) => Some(Command::Lines(Job::Decide(budget, has_flag(matches, "cert")))),
-        None => None,
-    }
+    let budget = budget_of(matches)?;
+    let certifying = certifying_of(matches)?;
+    Some(Command::Lines(Job::Decide(budget, certifying)))
 }
 
 /// The greatest number of nodes.

@@ -19,13 +19,14 @@ returns-then-not-branch g c =
     passed-bad (objects_of shape) (history_of shape) lines at.line-index line at.earlier.prefixes c.in_ok-accepts.field-0 at.invariant.passed
     (subst (λ l. at.line-index < length l) c.deref-line-items.ensures.value c.loop-line-test.true)
     (c.line-item.is ∙ ap (λ l. get_or l at.line-index line) c.deref-line-items.ensures.value)
-    c.in_ok-accepts.ensures.accepted c.if-not-branch.true
+    c.in_ok-accepts.ensures.judged c.if-not-branch.true
 
 pub loop-line-init : goal.loop-line-init
 loop-line-init g c =
     let shape = c.args.shape.now in record {
       cursor = ap (λ (u : CursorOf). u.shape) c.in_ok-cursor.ensures;
       other = ap (λ (u : CursorOf). u.shape) c.in_ok-other.ensures;
+      lookout = c.new-lookout.ensures;
       kept = ap (λ (e : EarlierOf). e.shape) c.none-earlier.ensures;
       passed = passed-none (objects_of shape) (history_of shape) c.args.cert.now.lines.items c.none-earlier.result.prefixes (ap (λ (e : EarlierOf). e.prefixes) c.none-earlier.ensures);
     }
@@ -45,11 +46,12 @@ loop-line-preserved g c =
     let item = c.decisions.ensures ∙ c.prefix.ensures in record {
       cursor = c.in_ok-accepts.ensures.cursor;
       other = c.in_ok-accepts.ensures.other;
+      lookout = c.in_ok-accepts.ensures.lookout ∙ at.invariant.lookout;
       kept = c.in_ok-add.ensures.shape ∙ at.invariant.kept;
       passed = passed-more (objects_of shape) (history_of shape) lines at.line-index line at.earlier.prefixes c.add.new.self.prefixes at.invariant.passed
           (subst (λ l. at.line-index < length l) c.deref-line-items.ensures.value c.loop-line-test.true)
           (c.line-item.is ∙ ap (λ l. get_or l at.line-index line) c.deref-line-items.ensures.value)
-          (c.in_ok-accepts.ensures.accepted.0 c.if-not-branch.false)
+          (c.in_ok-accepts.ensures.judged.0 c.if-not-branch.false)
           (subst (λ (q : List Decision). (p : List Decision) → Contains c.add.new.self.prefixes p ↔ (Contains at.earlier.prefixes p ⊎ (p ≡ q))) item c.in_ok-add.ensures.prefixes);
     }
 

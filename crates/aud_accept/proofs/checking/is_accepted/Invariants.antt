@@ -7,6 +7,7 @@ abbrev pub invariant-loop-line : goal.invariant-loop-line
 invariant-loop-line g l = record {
   cursor : l.cursor.shape ≡ l.shape;
   other : l.other.shape ≡ l.shape;
+  lookout : l.lookout ≡ l.shape;
   kept : l.earlier.shape ≡ l.shape;
   passed : Passed (objects_of l.shape) (history_of l.shape) l.cert.lines.items l.line-index l.earlier.prefixes;
 }

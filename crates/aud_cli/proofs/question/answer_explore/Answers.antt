@@ -15,5 +15,5 @@ pub returns-in-Refuted : goal.returns-in-Refuted
 returns-in-Refuted c =
     let plan = c.args.shape.now.sealed.facts.plan in
     let h = c.args.shape.now.sealed.history in
-    if_ok (NoneSays c.args.with_certificate plan h) (DecideSays (Some c.args.budget) c.args.with_certificate plan h) c.said_of_none.result
-    (λ s says. none-decides (Some c.args.budget) c.args.with_certificate plan h s says) c.said_of_none.ensures
+    if_ok (NoneSays c.args.certifying plan h) (DecideSays (Some c.args.budget) c.args.certifying plan h) c.said_of_none.result
+    (λ s says. none-decides (Some c.args.budget) c.args.certifying plan h s says) c.said_of_none.ensures
