@@ -195,12 +195,23 @@ fn usage_of(alloc: Global, error: &Error) -> Usage
     }
 }
 
+/// Why the rules are not taken that the words name.
+fn wrong_rules(matches: &ArgMatches<'_>) -> &'static str {
+    if has_flag(matches, "cert") {
+        "error: the rules of a certificate are 2\n"
+    } else {
+        "error: --rules goes with --cert\n"
+    }
+}
+
 /// The text for the user where a number of a subcommand's options is none that it takes.
 fn wrong_number(name: &str, matches: &ArgMatches<'_>) -> &'static str {
     if name == "audit" && count_of(matches, "nodes", NODES_MAX).is_none() {
         "error: the number of nodes is no number from 1 to 8\n"
     } else if name == "audit" && count_of(matches, "workers", WORKERS_MAX).is_none() {
         "error: the number of workers is no number from 1 to 16\n"
+    } else if name == "decide" && certifying_of(matches).is_none() {
+        wrong_rules(matches)
     } else {
         "error: the budget is no number up to 1000000000000\n"
     }
