@@ -12,8 +12,6 @@ mod gossip;
 #[cfg(test)]
 mod knowing;
 #[cfg(test)]
-mod knowing_growth;
-#[cfg(test)]
 mod news;
 #[cfg(test)]
 mod nodes;
@@ -29,5 +27,3 @@ mod searching;
 mod threads;
 #[cfg(test)]
 mod worlds;
-#[cfg(test)]
-mod worlds_growth;
