@@ -41,12 +41,13 @@ impl Case {
     }
 
     /// A line: the exit status, with the line that opaq prints where its words are understood; of an audit, which is not run
-    /// here, it is that of words that are not.
+    /// here, what it is asked for.
     pub fn answer(&self, alloc: Global, command: &str) -> Result<String, AllocError> {
         let words = words_of(alloc, command)?;
         match job_of(alloc, words.as_slice()) {
             Ok(Command::Lines(job)) => self.run(alloc, &job),
-            Ok(Command::Audit(_)) | Err(_) => format!(in alloc; "{USAGE}\n"),
+            Ok(Command::Audit(job)) => format!(in alloc; "{job:?}\n"),
+            Err(_) => format!(in alloc; "{USAGE}\n"),
         }
     }
 

@@ -16,7 +16,7 @@
 //! blanks, and a part within double quotes is one word.
 //!
 //! The heading of each case is printed again, and for each command line the exit status and the line that opaq prints. Words
-//! that opaq does not understand have the status 64 and no line.
+//! that opaq does not understand have the status 64 and no line; of an audit it prints what the words ask for.
 //!
 //! The expected lines, in `stdout`, were settled outside: they are never taken from what this program prints.
 

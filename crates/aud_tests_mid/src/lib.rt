@@ -1,5 +1,5 @@
 #![tactic(auto)]
-//! The tests of the crates between the facts and knowledge, and brute force by the definition of opacity.
+//! The tests of the crates between the facts and knowledge.
 
 #[cfg(test)]
 mod alone;
@@ -9,8 +9,6 @@ mod certs;
 mod cover;
 #[cfg(test)]
 mod fixtures;
-#[cfg(test)]
-mod oracle;
 #[cfg(test)]
 mod refusals;
 #[cfg(test)]
@@ -23,5 +21,3 @@ mod search;
 mod splits;
 #[cfg(test)]
 mod text;
-#[cfg(test)]
-mod worked;

@@ -3,17 +3,17 @@
 use crate::certs::{is_cert_written, is_found_by_lines, is_refuted_by_lines};
 use crate::cover::{closes, leaves_open};
 use crate::fixtures::{order, shape_from};
-use crate::oracle::{fault_of, is_only_witness};
 use crate::report::{is_long_line, is_read, is_reported};
-use crate::search::{is_decided, refutes_five_counters};
+use crate::search::is_decided;
 use crate::splits::splits_into;
 use crate::text::{are_decisions, is_written};
 use aud_facts::{Facts, Sealed};
+use aud_history::History;
 use aud_refusing::Refusing;
-use aud_witness::OrderFault;
+use aud_witness::{OrderFault, Prefix, shows};
 use aud_worked::{
-    BOTH_FIND_IT_ABSENT, COUNT_IS_LOST, NOTHING_HAPPENED, PENDING_COMMIT_IS_UNSEEN,
-    READER_AFTER_COMMIT, TORN_READ_THEN_ABORT, Unread, facts_of, facts_on, sealed_from,
+    FIVE_COUNTERS, NOTHING_HAPPENED, PENDING_COMMIT_IS_UNSEEN, READER_AFTER_COMMIT,
+    TORN_READ_THEN_ABORT, Unread, facts_of, facts_on, sealed_from,
 };
 use std::alloc::{AllocError, Allocator, Global};
 use std::test::Fail;
@@ -50,18 +50,28 @@ enum Asked {
     IsSplit,
     /// Whether the search finds `1c 2c`.
     IsDecided,
-    /// Whether the search refutes five counters on the plan.
+    /// Whether the search refutes them.
     IsRefuted,
     /// Whether a certificate is made of them, and accepted.
     IsCertified,
     /// Whether a certificate is made of them, and is a finding.
     IsFound,
-    /// Whether brute force finds `2a 1c` alone.
-    IsOnlyWitness,
     /// Nothing yet of the order.
     Nothing(&'static str),
     /// Whether this is reported of the order.
     IsTold(&'static str, Option<OrderFault>),
+}
+
+/// What is reported of the order, of a history that is well-formed.
+fn fault_of<A: Allocator + Copy>(
+    alloc: A,
+    history: &History<A>,
+    order: &Prefix<A>,
+) -> Result<Option<OrderFault>, Unread> {
+    match history.first_fault() {
+        Some(_) => Err(Unread::Unsealed),
+        None => Ok(shows(alloc, history, order)?.err()),
+    }
 }
 
 /// Whether this is reported of the order, of the history of a sealed set.
@@ -82,7 +92,6 @@ fn answer_of_sealed<A: Allocator + Copy>(
     asked: Asked,
 ) -> Result<bool, Unread> {
     match asked {
-        Asked::IsOnlyWitness => is_only_witness(alloc, sealed.history(), "2a 1c"),
         Asked::Nothing(decisions) => {
             let _order = order(alloc, decisions)?;
             Ok(true)
@@ -109,7 +118,7 @@ fn answer_of<A: Allocator + Copy>(
             splits_into(alloc, &shape, "none", 2, &["1c", "1a 2c", "2c 1c", "2c 1a"])
         }
         Asked::IsDecided => is_decided(alloc, &shape_from(alloc, facts)?, "1c 2c"),
-        Asked::IsRefuted => refutes_five_counters(alloc, facts),
+        Asked::IsRefuted => is_decided(alloc, &shape_from(alloc, facts)?, "not opaque"),
         Asked::IsCertified => is_refuted_by_lines(alloc, facts),
         Asked::IsFound => is_found_by_lines(alloc, facts),
         _ => {
@@ -242,7 +251,7 @@ fn each_refusal_is_told(rt: HostRuntime) -> Result<(), Fail> {
 #[test]
 fn what_is_forgotten_changes_no_answer(rt: HostRuntime) -> Result<(), Fail> {
     let question = Question::OfFacts(Asked::IsRefuted);
-    let found = outcomes(rt.alloc(), COUNT_IS_LOST, question, 200)?;
+    let found = outcomes(rt.alloc(), FIVE_COUNTERS, question, 400)?;
     let (_told, passed) = found.ok_or("right answers")?;
     assert!(rt; passed > 10, "{passed} passed");
     Ok(())
@@ -264,19 +273,6 @@ fn certificates_meet_each_refusal(rt: HostRuntime) -> Result<(), Fail> {
             "{told} told, {passed} passed"
         );
     }
-    Ok(())
-}
-
-/// A vector asks again for just enough where more was refused, so not each refusal is an error; none is a wrong answer.
-#[test]
-fn brute_force_meets_each_refusal(rt: HostRuntime) -> Result<(), Fail> {
-    let question = Question::OfFacts(Asked::IsOnlyWitness);
-    let found = outcomes(rt.alloc(), BOTH_FIND_IT_ABSENT, question, 4000)?;
-    let (told, passed) = found.ok_or("right answers")?;
-    assert!(rt;
-        10 < told && told.wrapping_add(passed) < 4000,
-        "{told} told, {passed} passed"
-    );
     Ok(())
 }
 

@@ -1,19 +1,16 @@
-//! The lines as they are printed, and devices that fail.
+//! A line as it is written, and devices that fail.
 
 ghost use Rattle.std.specs.Prelude.{◌≡◌, IfOk};
 
 use crate::fixtures::order;
-use aud_event::{FactFault, OutOfMemory, PlanFault};
-use aud_facts::Kind;
-use aud_history::Rule;
+use aud_event::OutOfMemory;
 use aud_know::Verdict;
 use aud_refusing::Refusing;
 use aud_report::{
     ChokingSink, DrippingSource, MemorySink, MemorySource, ReadFault, ReportFault, Said, read_all,
     write_all, write_line, write_report,
 };
-use aud_text::{PlanTextFault, TextFault};
-use aud_witness::OrderFault;
+use aud_text::TextFault;
 use aud_worked::Unread;
 use std::alloc::{AllocError, Allocator, Global};
 use std::test::Fail;
@@ -44,101 +41,6 @@ pub(crate) fn is_long_line<A: Allocator + Copy>(alloc: A, outside: Global) -> Re
     let text = "1c 2a 3c 4a 5c 6a 7c 8a 9c 1023a";
     let line = "opaque 1c 2a 3c 4a 5c 6a 7c 8a 9c 1023a\n";
     is_opaque_line(alloc, outside, text, line)
-}
-
-#[test]
-fn answers_are_written(rt: HostRuntime) -> Result<(), Fail> {
-    for (text, line) in &[("1c 2a", "opaque 1c 2a\n"), ("none", "opaque none\n")] {
-        assert!(rt;
-            is_opaque_line(rt.alloc(), rt.alloc(), text, line)?,
-            "{line}"
-        );
-    }
-    assert!(rt;
-        is_line(
-            rt.alloc(),
-            &Said::Verdict(Verdict::NotOpaque),
-            "not opaque\n"
-        )?
-    );
-    assert!(rt;
-        is_line(
-            rt.alloc(),
-            &Said::Verdict(Verdict::Unfinished),
-            "unfinished\n"
-        )?
-    );
-    Ok(())
-}
-
-/// What else is said.
-#[derive(Clone, Copy)]
-enum Word {
-    Conflict(Kind, u32, u32),
-    Waiting(u32),
-    Gap(u32),
-    IllFormed(u32, Rule),
-    OrderRefused(OrderFault),
-    OrderTextRefused(TextFault),
-    PlanRefused(usize, TextFault),
-    RecordRefused(usize, TextFault),
-}
-
-fn said(word: Word) -> Said {
-    match word {
-        Word::Conflict(kind, log, at) => Said::Verdict(Verdict::Conflict(kind, log, at)),
-        Word::Waiting(log) => Said::Verdict(Verdict::Waiting(log)),
-        Word::Gap(stamp) => Said::Verdict(Verdict::Gap(stamp)),
-        Word::IllFormed(stamp, rule) => Said::Verdict(Verdict::IllFormed(stamp, rule)),
-        Word::OrderRefused(fault) => Said::OrderRefused(fault),
-        Word::OrderTextRefused(fault) => Said::OrderTextRefused(fault),
-        Word::PlanRefused(line, fault) => Said::PlanRefused(PlanTextFault { line, fault }),
-        Word::RecordRefused(line, fault) => Said::RecordRefused(line, fault),
-    }
-}
-
-#[test]
-fn lines_are_written(rt: HostRuntime) -> Result<(), Fail> {
-    let cases: [(Word, &str); 10] = [
-        (
-            Word::Conflict(Kind::TwoRecords, 0, 0),
-            "conflict 1 at log 0 place 0\n",
-        ),
-        (
-            Word::Conflict(Kind::StampOrder, 63, 4095),
-            "conflict 5 at log 63 place 4095\n",
-        ),
-        (Word::Waiting(1), "waiting for log 1\n"),
-        (Word::Gap(0), "gap at stamp 0\n"),
-        (
-            Word::IllFormed(2, Rule::AbortWithoutCause),
-            "ill-formed rule 8 at stamp 2\n",
-        ),
-        (
-            Word::OrderRefused(OrderFault::RealTime(2)),
-            "order refused 4 tx 2\n",
-        ),
-        (
-            Word::OrderTextRefused(TextFault::UnknownWord),
-            "order text refused 7\n",
-        ),
-        (
-            Word::PlanRefused(1, TextFault::Plan(PlanFault::TooManyLogs)),
-            "plan line 1 refused 10 2\n",
-        ),
-        (
-            Word::PlanRefused(1, TextFault::KeyMissing),
-            "plan line 1 refused 4\n",
-        ),
-        (
-            Word::RecordRefused(3, TextFault::Fact(FactFault::TxRange)),
-            "record line 3 refused 8 4\n",
-        ),
-    ];
-    for (word, line) in &cases {
-        assert!(rt; is_line(rt.alloc(), &said(*word), line)?, "{line}");
-    }
-    Ok(())
 }
 
 /// A source of three bytes that fails once it was read so many times.

@@ -428,10 +428,12 @@ fn another_plan_is_refused(rt: HostRuntime) -> Result<(), Fail> {
 }
 
 #[test]
-fn faults_have_numbers(rt: HostRuntime) -> Result<(), Fail> {
-    assert_eq!(rt; KnowFault::PlanMismatch.number(), 1);
-    assert_eq!(rt; KnowFault::OutOfMemory.number(), 2);
-    Ok(())
+fn faults_have_numbers(rt: HostRuntime) {
+    let numbers = [
+        KnowFault::PlanMismatch.number(),
+        KnowFault::OutOfMemory.number(),
+    ];
+    assert!(rt; numbers == [1, 2]);
 }
 
 #[test]

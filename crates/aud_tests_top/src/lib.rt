@@ -1,24 +1,16 @@
-//! Tests of what a node knows, of worlds of nodes, of running nodes, and of the program's words, runs and audits.
+//! Tests of what a node knows, of worlds of nodes, of running nodes, and of runs and audits over devices that fail.
 #![tactic(auto)]
 
 #[cfg(test)]
 mod audits;
 #[cfg(test)]
-mod certified;
-#[cfg(test)]
 mod devices;
-#[cfg(test)]
-mod drawn;
 #[cfg(test)]
 mod fixtures;
 #[cfg(test)]
 mod gossip;
 #[cfg(test)]
 mod knowing;
-#[cfg(test)]
-mod knowing_growth;
-#[cfg(test)]
-mod lines;
 #[cfg(test)]
 mod news;
 #[cfg(test)]
@@ -34,8 +26,4 @@ mod searching;
 #[cfg(test)]
 mod threads;
 #[cfg(test)]
-mod words;
-#[cfg(test)]
 mod worlds;
-#[cfg(test)]
-mod worlds_growth;

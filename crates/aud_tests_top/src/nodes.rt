@@ -263,32 +263,18 @@ fn a_node_is_closed_by_all_its_passes(rt: HostRuntime) -> Result<(), Fail> {
 
 #[test]
 fn faults_have_numbers(rt: HostRuntime) {
-    let start = [
-        StartFault::SeatRange,
-        StartFault::OutOfMemory,
-        StartFault::NoPlace,
+    let numbers = [
+        StartFault::SeatRange.number(),
+        StartFault::OutOfMemory.number(),
+        StartFault::NoPlace.number(),
+        OfferFault::PlanMismatch.number(),
+        OfferFault::OutOfMemory.number(),
+        OfferFault::WrongNode.number(),
+        ReadFault::OutOfMemory.number(),
+        ReadFault::WrongNode.number(),
+        CloseFault::PassMissing(7).number(),
+        CloseFault::OutOfMemory.number(),
+        CloseFault::ForeignPass(7).number(),
     ];
-    for (place, fault) in start.iter().enumerate() {
-        assert!(rt; fault.number() as usize == place + 1);
-    }
-    let offer = [
-        OfferFault::PlanMismatch,
-        OfferFault::OutOfMemory,
-        OfferFault::WrongNode,
-    ];
-    for (place, fault) in offer.iter().enumerate() {
-        assert!(rt; fault.number() as usize == place + 1);
-    }
-    let read = [ReadFault::OutOfMemory, ReadFault::WrongNode];
-    for (place, fault) in read.iter().enumerate() {
-        assert!(rt; fault.number() as usize == place + 1);
-    }
-    let close = [
-        CloseFault::PassMissing(7),
-        CloseFault::OutOfMemory,
-        CloseFault::ForeignPass(7),
-    ];
-    for (place, fault) in close.iter().enumerate() {
-        assert!(rt; fault.number() as usize == place + 1);
-    }
+    assert!(rt; numbers == [1, 2, 3, 1, 2, 3, 1, 2, 1, 2, 3]);
 }
