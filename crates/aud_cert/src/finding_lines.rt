@@ -156,7 +156,7 @@ fn enough_in<A: Allocator + Copy>(
 }
 
 /// What is to be tried after the cursor's list.
-fn open<A: Allocator + Copy>(
+fn open_at<A: Allocator + Copy>(
     alloc: A,
     shape: &Shape<A>,
     cursor: &mut Cursor<A>,
@@ -254,7 +254,7 @@ pub(crate) fn find_lines<A: Allocator + Copy>(
         return Ok(Some(notes.lines));
     }
     let mut lists = Vec::new(alloc);
-    lists.push(open(alloc, shape, cursor, lookout)?)?;
+    lists.push(open_at(alloc, shape, cursor, lookout)?)?;
     for _step in 0..MOST_STEPS {
         let Some((next, because)) = next_of(&mut lists) else {
             return Ok(Some(notes.lines));
@@ -268,7 +268,7 @@ pub(crate) fn find_lines<A: Allocator + Copy>(
         match go_on(shape, cursor, lookout, decision, because, &mut notes)? {
             None => return Ok(None),
             Some(false) => {}
-            Some(true) => lists.push(open(alloc, shape, cursor, lookout)?)?,
+            Some(true) => lists.push(open_at(alloc, shape, cursor, lookout)?)?,
         }
     }
     Ok(None)
