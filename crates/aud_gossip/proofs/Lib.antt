@@ -1,2 +1,3 @@
 pub mod Offering
 mod Joining
+pub mod Worlds

@@ -1,3 +1,4 @@
 pub mod Receiving
 pub mod Deltas
 pub mod Faults
+pub mod Worlds

@@ -229,27 +229,30 @@ fn a_pass_of_another_node_is_refused(rt: HostRuntime) -> Result<(), Fail> {
     Ok(())
 }
 
-/// What a node is not closed for without the pass of seat 1 of three, how many passes it hands back then, and whether it
-/// is closed with all.
+/// What a node is not closed for without the pass of seat 1 of three, how many passes it hands back then, and how many offers
+/// its log has once it is closed with all, of which that pass made one before.
 fn closed_late<J: Fleet, R: Wait>(
     rt: &R,
     alloc: Global,
     opened: Opened,
     plan: Plan,
-) -> Option<(CloseFault, usize, bool)>
+) -> Option<(CloseFault, usize, usize)>
     requires named { opened.book ≡ J.book opened.number }
     requires planned { plan ≡ J.plan opened.number }
 {
     let (node, mut passes) = Running::<J, &R>::start(rt, alloc, opened, plan, 3).ok()?;
     let third = passes.pop()?;
-    let second = passes.pop()?;
+    let mut second = passes.pop()?;
+    let offered = node.offer(rt, alloc, &mut second, Item::Fact(end(0, 6)));
+    offered.ok()?;
     passes.push(third).ok()?;
     let Err((node, mut passes, fault)) = node.close(rt, passes) else {
         return None;
     };
     let back = passes.len();
     passes.push(second).ok()?;
-    Some((fault, back, node.close(rt, passes).is_ok()))
+    let closed = node.close(rt, passes).ok()?;
+    Some((fault, back, closed.offered.len()))
 }
 
 #[test]
@@ -257,7 +260,7 @@ fn a_node_is_closed_by_all_its_passes(rt: HostRuntime) -> Result<(), Fail> {
     let alloc = rt.alloc();
     let plan = plan_of(alloc, &facts_of(alloc, TORN_READ)?)?;
     let closed = closed_late::<Brand, _>(&rt, alloc, Opened::new(0), plan);
-    assert!(rt; closed == Some((CloseFault::PassMissing(1), 2, true)));
+    assert!(rt; closed == Some((CloseFault::PassMissing(1), 2, 1)));
     Ok(())
 }
 

@@ -6,3 +6,6 @@ pub mod Stepping
 pub mod Running
 pub mod Tracing
 pub mod Taking
+pub mod Logging
+pub mod Giving
+pub mod Making

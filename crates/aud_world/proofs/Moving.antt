@@ -32,7 +32,7 @@ moves_append c [] ns = refl
 moves_append c (m ∷ ms) ns = moves_append (after_move c m) ms ns
 
 -- as many nodes as at first
-as_many : (n : ℕ) (more : List KnownAtom) (xss : List (List KnownAtom)) → length (gain n more xss) ≡ length xss
+pub as_many : (n : ℕ) (more : List KnownAtom) (xss : List (List KnownAtom)) → length (gain n more xss) ≡ length xss
 as_many n more [] = refl
 as_many zero more (xs ∷ xss) = refl
 as_many (suc n) more (xs ∷ xss) = ap suc (as_many n more xss)

@@ -4,3 +4,4 @@ pub mod Worlds
 pub mod Faults
 pub mod Took
 pub mod Headline
+pub mod Logs
