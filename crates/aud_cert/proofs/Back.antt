@@ -1,7 +1,7 @@
 -- What is written of a certificate is read again.
 use Rattle.std.proofs.Common.{◌≡◌, ◌<◌, ◌≤◌, ◌+◌, ◌-◌, ℕ, suc, List, [], ◌∷◌, ◌++◌, true, map, length, nat_le, nat_lt, codes, flat_map, decimal, Some, Ok, refl, ap, ◌∙◌, sym, arith, append_assoc, length-append}
 use Rattle.std.specs.List.{All}
-use Rattle.std.proofs.lemmas.Fmt.{length-decimal-le}
+use Rattle.std.proofs.lemmas.Fmt.{length-decimal-le, decimal_digit}
 use Rattle.std.proofs.lemmas.List.Elements.{All-head, All-tail}
 use Rattle.json.specs.Print.{escape_byte, escape}
 use Rattle.json.proofs.Printed.Decimals.{IsNumber-decimal}
@@ -81,7 +81,7 @@ line-is (First p d) short =
 header-is : (r : Rules) (n : ℕ) → compact_text (header_data r n) ≡ header_text r n
 unfolding escape_byte
 header-is rules.One n = refl
-header-is rules.Two n = refl
+header-is rules.Two n = ap (λ t. codes "{\"cert\":" ++ (decimal n ++ (codes ",\"rules\":" ++ (t ++ codes "}")))) (decimal_digit 2 (omega arith))
 
 -- ---- the values are judged as the lines
 

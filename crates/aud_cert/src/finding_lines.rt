@@ -238,7 +238,51 @@ fn go_on<A: Allocator + Copy>(
     Ok(Some(true))
 }
 
-/// Lines that may certify the history by the second rules, if a short search finds some: it refutes the empty list, to which the cursor
+/// What became of a step.
+#[derive(Clone, Copy)]
+enum Step {
+    /// The search goes on.
+    On,
+    /// All lists are refuted.
+    Refuted,
+    /// A list shows the history.
+    Shown,
+}
+
+/// Tries the next decision after the last of the lists, or notes that this is refuted.
+fn take_step<A: Allocator + Copy>(
+    alloc: A,
+    shape: &Shape<A>,
+    cursor: &mut Cursor<A>,
+    lookout: &mut Lookout<A>,
+    lists: &mut Vec<Open<A>, A>,
+    notes: &mut Notes<A>,
+) -> Result<Step, OutOfMemory>
+    requires cursor { cursor.old.shape ≡ shape.now }
+    requires lookout { lookout.old ≡ shape.now }
+    ensures cursor { OnOk result (cursor.new.shape ≡ shape.now) }
+    ensures lookout { lookout.new ≡ lookout.old }
+{
+    let Some((next, because)) = next_of(lists) else {
+        return Ok(Step::Refuted);
+    };
+    let Some(decision) = next else {
+        notes.note(cursor, because)?;
+        let _ = lists.pop();
+        let _ = cursor.pop();
+        return Ok(Step::On);
+    };
+    match go_on(shape, cursor, lookout, decision, because, notes)? {
+        None => Ok(Step::Shown),
+        Some(false) => Ok(Step::On),
+        Some(true) => {
+            lists.push(open_at(alloc, shape, cursor, lookout)?)?;
+            Ok(Step::On)
+        }
+    }
+}
+
+/// Lines that may certify the history by the second rules, if a short search finds some: it refutes the empty list, at which the cursor
 /// stands.
 pub(crate) fn find_lines<A: Allocator + Copy>(
     alloc: A,
@@ -255,20 +299,11 @@ pub(crate) fn find_lines<A: Allocator + Copy>(
     }
     let mut lists = Vec::new(alloc);
     lists.push(open_at(alloc, shape, cursor, lookout)?)?;
-    for _step in 0..MOST_STEPS {
-        let Some((next, because)) = next_of(&mut lists) else {
-            return Ok(Some(notes.lines));
-        };
-        let Some(decision) = next else {
-            notes.note(cursor, because)?;
-            let _ = lists.pop();
-            let _ = cursor.pop();
-            continue;
-        };
-        match go_on(shape, cursor, lookout, decision, because, &mut notes)? {
-            None => return Ok(None),
-            Some(false) => {}
-            Some(true) => lists.push(open_at(alloc, shape, cursor, lookout)?)?,
+    for step in 0..MOST_STEPS {
+        match take_step(alloc, shape, cursor, lookout, &mut lists, &mut notes)? {
+            Step::On => {}
+            Step::Refuted => return Ok(Some(notes.lines)),
+            Step::Shown => return Ok(None),
         }
     }
     Ok(None)

@@ -143,22 +143,21 @@ fn read_lines<A: Allocator + Copy>(
     ensures { MatchResult result (λ lines. lines_left header.rules text.now left.now number header.count ≡ Ok (map elsewhere lines.items))
         (λ e. (e.fault ≡ TextFault.OutOfMemory) ⊎ (lines_left header.rules text.now left.now number header.count ≡ Err e)) }
 {
-    let Header { count, rules } = header;
     let mut list = Vec::new(alloc);
     let mut rest = left;
     let mut line = number;
-    let Ok(mut lines) = Vec::with_capacity(lists, most_lines(count, left.len())) else {
+    let Ok(mut lines) = Vec::with_capacity(lists, most_lines(header.count, left.len())) else {
         return Err(CertTextFault {
             line,
             fault: TextFault::OutOfMemory,
         });
     };
-    for i in 0..count {
+    for i in 0..header.count {
         let Some(next) = next_filled(rest, line) else {
             return Err(ends_early(text));
         };
         line = next.number;
-        let read = match read_line(alloc, lists, rules, next.line, &mut list) {
+        let read = match read_line(alloc, lists, header.rules, next.line, &mut list) {
             Ok(read) => read,
             Err(fault) => return Err(CertTextFault { line, fault }),
         };
