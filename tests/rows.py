@@ -1,6 +1,6 @@
 """Rows that the program answers: what it is given, and the line and the status that are wanted. A script of rows is asked
-`SCRIPT BINARY`, and runs them by the built program, or `SCRIPT --cases FOLDER`, and writes them as files for `rt try --cases FOLDER` in
-crates/opaq, which compares what is printed before any proof. Rows that need an earlier answer are asked of the built program alone."""
+`SCRIPT BINARY`, and runs them by the built program, or `SCRIPT --stored FOLDER`, and puts those that `aud_rows` can be given after FOLDER/stdin,
+and what it has to print of them after FOLDER/stdout. Rows that need an earlier answer are asked of the built program alone."""
 import os
 import re
 import subprocess
@@ -20,10 +20,21 @@ WORKED = {**texts_in("crates/aud_worked/src/histories.rt"), **texts_in("crates/a
 WORKED.update(texts_in("crates/aud_tests_top/src/fixtures.rt"))
 
 
+def quoted(word):
+    return f'"{word}"' if not word or " " in word else word
+
+
+def is_storable(text, words):
+    """Whether `aud_rows` may be given that: it runs no audit, and reads whole lines, which are no headings."""
+    if not isinstance(text, str) or not text.isascii() or "\r" in text or words[0] == "audit":
+        return False
+    return (not text or text.endswith("\n")) and not re.search("^[#$] ", text, re.M)
+
+
 class Rows:
     def __init__(self, words):
         self.passed = self.failed = 0
-        self.is_built = words[0] != "--cases"
+        self.is_built = words[0] != "--stored"
         self.where = os.path.realpath(words[-1])
 
     def ask(self, text, *words):
@@ -45,14 +56,14 @@ class Rows:
             status = {"opaque": 0, "not": 1, "unfinished": 2}.get(line.split()[0], 3)
         if self.is_built:
             self.wants(name, self.ask(text, *words), (line + "\n", status))
-            return
-        # a file of arguments has no empty word
-        if "" in words:
-            return
-        self.passed += 1
-        for ending, part in (("", text), (".args", "\n".join(words)), (".stdout", line + "\n")):
-            with open(os.path.join(self.where, f"{self.passed:05}{ending}"), "wb") as file:
-                file.write(part.encode() if isinstance(part, str) else part)
+        elif is_storable(text, words):
+            self.passed += 1
+            self.store("stdin", f"# {self.passed}\n$ opaq {' '.join(map(quoted, words))}\n{text}")
+            self.store("stdout", f"# {self.passed}\n{status} {line}\n")
+
+    def store(self, name, text):
+        with open(os.path.join(self.where, name), "a", encoding="utf-8") as file:
+            file.write(text)
 
     def end(self):
         print(f"{self.passed} passed, {self.failed} failed")

@@ -250,26 +250,23 @@ fn begins_with(text: &[u8], line: &[u8], rest: &[u8]) -> bool {
     }
 }
 
-/// Whether the first filled line of the text, whose lines are counted from a number on, is this one with its number, and no other.
-fn is_filled(text: &[u8], from: usize, number: usize, line: &[u8]) -> bool {
-    match next_filled(text, from) {
-        Some(filled) => {
-            let is_last = next_filled(filled.rest, number).is_none();
-            filled.number == number && filled.line == line && is_last
-        }
-        None => false,
+#[test]
+fn lines_are_counted(rt: HostRuntime) {
+    let cases: [(&str, usize); 3] = [("ab\n\ncd", 3), ("ab\n\ncd\n", 3), ("", 0)];
+    for (text, count) in &cases {
+        assert_eq!(rt; count_lines(text.as_bytes()), *count, "of {text:?}");
     }
 }
 
 #[test]
-fn lines_are_counted(rt: HostRuntime) {
-    let counts = [
-        count_lines(b"ab\n\ncd"),
-        count_lines(b"ab\n\ncd\n"),
-        count_lines(b""),
-    ];
-    let is_first = begins_with(b"ab\n\ncd", b"ab", b"\ncd") && first_line(b"").is_none();
-    assert!(rt; counts == [3, 3, 0] && is_first && is_filled(b"\ncd", 2, 3, b"cd"));
+fn lines_of_a_text(rt: HostRuntime) -> Result<(), Fail> {
+    assert!(rt; first_line(b"").is_none());
+    assert!(rt; begins_with(b"ab\n\ncd", b"ab", b"\ncd"));
+    let filled = next_filled(b"\ncd", 2).ok_or("a line")?;
+    assert_eq!(rt; filled.number, 3);
+    assert_eq!(rt; filled.line, b"cd".as_slice());
+    assert!(rt; next_filled(filled.rest, 4).is_none());
+    Ok(())
 }
 
 /// An object with the keys `a` and `b`.
