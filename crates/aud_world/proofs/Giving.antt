@@ -1,5 +1,5 @@
 -- Moves for each log of a running node: a sender for each item, which is given what a Knowledge was made of, and posts it.
-use Rattle.std.proofs.Common.{◌≡◌, ◌≢◌, ℕ, zero, suc, ◌+◌, ◌<◌, List, [], ◌∷◌, ◌++◌, length, replicate, refl, sym, ap, subst, ◌∙◌, arith, ◌⊎◌, inl, inr, append_assoc}
+use Rattle.std.proofs.Common.{◌≡◌, ◌≢◌, ℕ, zero, suc, ◌+◌, ◌<◌, List, [], ◌∷◌, ◌++◌, length, refl, sym, ap, subst, ◌∙◌, arith, inl, inr, append_assoc}
 use Rattle.std.specs.List.{AllByRecursion}
 use Rattle.std.proofs.Common.{length-append}
 use Rattle.std.proofs.lemmas.List.{append-nil}
@@ -10,7 +10,7 @@ use Rattle.aud_know.specs.Findings.{found}
 use Rattle.aud_know.specs.declared.item.Item.{Item}
 use Rattle.aud_know.specs.declared.item.Item.TheVariants as item
 use Rattle.aud_world.specs.Clouds.{Cloud, at_place, gain}
-use Rattle.aud_world.specs.Moves.{after_move, after_moves, at_first, brought, brought_by, IsTrueMove}
+use Rattle.aud_world.specs.Moves.{after_moves, at_first, brought, IsTrueMove}
 use Rattle.aud_world.specs.Logs.{IsLog, IsTrueItem}
 use Rattle.aud_world.specs.declared.moves.Move.{Move}
 use Rattle.aud_world.specs.declared.moves.Move.TheVariants.{Feed, Find, Post, Deliver}
