@@ -37,15 +37,24 @@ impl<J: Fleet, R: Wait + Drop> Drop for Scribe<J, R> {
 }
 
 impl<J: Fleet, R: Wait + Drop> Scribe<J, R> {
-    // Publishes the value in place of all that was published.
-    fn show(&mut self, next: Published)
+    // Publishes the value in place of all that was published, if the writer's queue has room for it or grows.
+    fn show(&mut self, next: Published) -> Result<(), AllocError>
         requires named { next.front.book ≡ J.book next.front.number }
         requires planned { next.known.value.plan ≡ J.plan next.front.number }
-        ensures { self.new.writer.desk.shown.value.front ≡ next.front }
+        ensures { OnOk result (self.new.writer.desk.shown.value.front ≡ next.front) }
     {
         replace_with(&mut self.writer, (&self.rt, next), |writer, (rt, next)| {
-            (shown(rt, writer, next), ())
+            shown(rt, writer, next)
         })
+    }
+
+    // Publishes what is held, twice. Then the writer's queue has room for all that it ever has at once: an offer puts one operation
+    // beside the one that the last publish left there, as the second time did.
+    fn make_room(&mut self, held: &Held<J>) -> Result<(), AllocError>
+        ensures { OnOk result (self.new.writer.desk.shown.value.front ≡ held.now.latest.front) }
+    {
+        self.show(held.latest.copy()?)?;
+        self.show(held.latest.copy()?)
     }
 }
 
@@ -85,22 +94,23 @@ fn extend<R: Wait>(rt: &R, head: &Head, front: &Front, seat: u32, item: &Arc<Ite
     next
 }
 
-// Publishes the value in place of all that was published.
-fn shown<R: Wait, J: Fleet>(rt: &R, mut writer: Ink<J>, next: Published) -> Ink<J>
+// Publishes the value in place of all that was published, if the writer's queue has room for it or grows.
+fn shown<R: Wait, J: Fleet>(
+    rt: &R,
+    mut writer: Ink<J>,
+    next: Published,
+) -> (Ink<J>, Result<(), AllocError>)
     requires named { next.front.book ≡ J.book next.front.number }
     requires planned { next.known.value.plan ≡ J.plan next.front.number }
-    ensures { result.desk.shown.value.front ≡ next.front }
+    ensures { OnOk result.1 (result.0.desk.shown.value.front ≡ next.front) }
 {
     match writer.append(next) {
         Ok(()) => {}
-        Err(_) => {
-            wait_forever(rt);
-            unreachable!();
-        }
+        Err(_) => return (writer, Err(AllocError)),
     }
     let (writer, done) = writer.publish_as::<Gives<J>, R>(rt);
     match done {
-        Ok(()) => writer,
+        Ok(()) => (writer, Ok(())),
         Err(_) => {
             wait_forever(rt);
             unreachable!();
@@ -246,8 +256,10 @@ impl<J: Fleet, R: Wait + Drop> Desk<J, R> {
         let second = held.latest.copy()?;
         let counts = Vec::from_elem(alloc, 0u64, seats as usize)?;
         let writer = Writer::new(alloc, first, second, seats as usize)?;
+        let mut scribe = Scribe { writer, rt };
+        scribe.make_room(&held)?;
         Ok(Desk {
-            scribe: Scribe { writer, rt },
+            scribe,
             held,
             log: Vec::new(alloc),
             counts,
@@ -286,7 +298,7 @@ impl<J: Fleet, R: Wait + Drop> Desk<J, R> {
         true
     }
 
-    // Makes room for one offer more, in the log and in the writer.
+    // Makes room for one offer more in the log. The writer's queue has it from the beginning.
     fn ready(&mut self) -> Result<(), AllocError>
         ensures log { self.new.log.items ≡ self.old.log.items }
         ensures counts { self.new.counts ≡ self.old.counts }
@@ -297,15 +309,7 @@ impl<J: Fleet, R: Wait + Drop> Desk<J, R> {
         if self.log.len() >= MOST {
             return Err(AllocError);
         }
-        self.log.reserve(1)?;
-        // What is published already is said once more: then the writer can take one operation more without growing.
-        if !self.scribe.writer.has_pending_operations() {
-            let again = self.held.latest.copy()?;
-            if self.scribe.writer.append(again).is_err() {
-                return Err(AllocError);
-            }
-        }
-        Ok(())
+        self.log.reserve(1)
     }
 
     /// Publishes one offer more. Every growth comes first, and what is refused gives the item back.
@@ -340,7 +344,10 @@ impl<J: Fleet, R: Wait + Drop> Desk<J, R> {
             desk,
             pass: theirs,
         } = widen(&self.scribe.rt, head, &self.held, seat, &item, known);
-        self.scribe.show(readers);
+        if self.scribe.show(readers).is_err() {
+            wait_forever(&self.scribe.rt);
+            unreachable!();
+        }
         self.held = desk;
         note(&mut self.log, &mut self.counts, seat, item);
         pass.gain(theirs);

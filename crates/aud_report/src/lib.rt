@@ -7,7 +7,7 @@ mod memory;
 mod report;
 mod said;
 
-pub use device::{ReadFault, Sink, SinkFault, Source, SourceFault, read_all, write_all};
+pub use device::{ReadFault, Sink, SinkFault, Source, SourceFault, read_all, take_all, write_all};
 pub use faulty::{ChokingSink, DrippingSource};
 pub use memory::{MemorySink, MemorySource};
 pub use report::{ReportFault, write_report};

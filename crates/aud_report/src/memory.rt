@@ -5,15 +5,16 @@ ghost use Rattle.std.specs.Prelude.{◌≡◌, [], false};
 use crate::device::{Sink, SinkFault, Source, SourceFault};
 use std::alloc::{Allocator, Global};
 use std::marker::Model;
+use std::mem::replace;
 
-/// Bytes in memory, given in as few reads as the buffers allow. It never fails.
+/// Bytes in memory, given in as few reads as the buffers allow, or handed out if nothing was read. It never fails.
 #[derive(Drop)]
-pub struct MemorySource<A: Allocator = Global> {
-    bytes: Vec<u8, A>,
+pub struct MemorySource {
+    bytes: Vec<u8>,
     at: usize,
 }
 
-impl<A: Allocator> Model for MemorySource<A> {
+impl Model for MemorySource {
     ghost use Rattle.std.specs.Prelude.{ℕ, ◌≤◌, List, drop, length};
 
     ghost Value = { List ℕ };
@@ -23,16 +24,16 @@ impl<A: Allocator> Model for MemorySource<A> {
     ghost invariant = { λ s. s.at ≤ length s.bytes.items };
 }
 
-impl<A: Allocator> MemorySource<A> {
+impl MemorySource {
     /// A source that has these bytes. It does not allocate.
-    pub fn new(bytes: Vec<u8, A>) -> MemorySource<A>
+    pub fn new(bytes: Vec<u8>) -> MemorySource
         ensures { result ≡ bytes.items }
     {
         MemorySource { bytes, at: 0 }
     }
 }
 
-impl<A: Allocator> Source for MemorySource<A> {
+impl Source for MemorySource {
     ghost left = { λ s. s };
 
     ghost failures = { λ _. 0 };
@@ -46,6 +47,14 @@ impl<A: Allocator> Source for MemorySource<A> {
         buf[..count].copy_from_slice(&self.bytes[self.at..end]);
         self.at = end;
         Ok(count)
+    }
+
+    fn hand_out(&mut self) -> Option<Vec<u8>> {
+        if self.at > 0 {
+            return None;
+        }
+        let alloc = *self.bytes.allocator();
+        Some(replace(&mut self.bytes, Vec::new(alloc)))
     }
 }
 

@@ -20,6 +20,8 @@ mod open;
 #[cfg(test)]
 mod pool;
 #[cfg(test)]
+mod rows;
+#[cfg(test)]
 mod running;
 #[cfg(test)]
 mod searching;
