@@ -1,12 +1,9 @@
-//! Plans and checks on outside values, with each growth refused in turn.
+//! Plans on outside values, with each growth refused in turn. Why a fact is refused `tests/texts` asks.
 
 use crate::fixtures::{
     Growths, Trial, Tried, checked_plan, declared, each_is_right, end, holds, plan_of, record,
 };
-use aud_event::{
-    Answer, Dup, Event, Fact, FactFault, Format, Key, ObjDecl, ObjKind, Op, OpName, OutOfMemory,
-    Plan, PlanFault,
-};
+use aud_event::{Dup, Event, FactFault, Format, Key, ObjKind, Op, OutOfMemory, Plan, PlanFault};
 use std::alloc::{Allocator, Global};
 use std::sync::Arc;
 
@@ -66,27 +63,13 @@ fn copies<A: Allocator + Copy>(alloc: A) -> Result<bool, OutOfMemory> {
     }
 }
 
-/// Whether the check of a fact says that, under a plan of one log, a register and a queue.
-fn is_checked<A: Allocator + Copy>(
-    alloc: A,
-    fact: &Fact,
-    wanted: Result<(), FactFault>,
-) -> Result<bool, OutOfMemory> {
-    let plan = plan_of(alloc, 1, &TWO)?;
-    Ok(fact.check(&plan) == wanted)
-}
-
-/// What is tried of plans and facts.
+/// What is tried of plans.
 #[derive(Clone, Copy)]
 enum OfPlan {
     /// A plan of two objects is copied.
     Copies,
     /// The logs of a plan of a register `x` and another object, that object, and the plan's fault.
     Faults(u32, &'static str, ObjKind, i64, Option<PlanFault>),
-    /// The log, the place, the stamp and the transaction of a record, its event, and what its check says.
-    Records(u32, u32, u32, u32, Event, Result<(), FactFault>),
-    /// The log and the count of an end mark, and what its check says.
-    Ends(u32, u32, Result<(), FactFault>),
 }
 
 impl Trial for OfPlan {
@@ -97,10 +80,6 @@ impl Trial for OfPlan {
                 let objects = [("x", ObjKind::Register, 7), (name, kind, opening)];
                 Ok(is_fault(checked_plan(alloc, logs, &objects), fault))
             }
-            OfPlan::Records(log, at, stamp, tx, event, wanted) => {
-                Ok(is_checked(alloc, &record(log, at, stamp, tx, event), wanted))
-            }
-            OfPlan::Ends(log, count, wanted) => Ok(is_checked(alloc, &end(log, count), wanted)),
         }
     }
 }
@@ -158,73 +137,13 @@ fn a_plan_is_refused_for_its_first_fault(rt: HostRuntime) {
     each_is_right(&rt, Growths::Met(0), &FAULTS);
 }
 
-const BAD: Event = Event::Inv(2, Op::Deq);
-
-const MISPLACED: Event = Event::Inv(0, Op::Deq);
-
-const UNFIT: Event = Event::Ret(1, OpName::Deq, Answer::Done);
-
-#[test]
-fn a_fact_is_refused_for_its_first_fault(rt: HostRuntime) {
-    each_is_right(
-        &rt,
-        Growths::Met(0),
-        &[
-            OfPlan::Records(1, 4096, 262_144, 1024, BAD, Err(FactFault::LogRange)),
-            OfPlan::Records(0, 4096, 262_144, 1024, BAD, Err(FactFault::AtRange)),
-            OfPlan::Records(0, 4095, 262_144, 1024, BAD, Err(FactFault::StampRange)),
-            OfPlan::Records(0, 4095, 262_143, 1024, BAD, Err(FactFault::TxRange)),
-            OfPlan::Records(0, 4095, 262_143, 1023, BAD, Err(FactFault::NoObject)),
-            OfPlan::Records(0, 0, 0, 0, MISPLACED, Err(FactFault::OpKind)),
-            OfPlan::Records(0, 0, 0, 0, UNFIT, Err(FactFault::AnswerKind)),
-            OfPlan::Records(0, 4095, 262_143, 1023, Event::TryA, Ok(())),
-            OfPlan::Ends(0, 4096, Ok(())),
-            OfPlan::Ends(0, 4097, Err(FactFault::AtRange)),
-            OfPlan::Ends(1, 4097, Err(FactFault::LogRange)),
-        ],
-    );
-}
-
-/// A map and a counter.
-const LATER: [(&str, ObjKind, i64); 2] = [("m", ObjKind::MapOf, 0), ("c", ObjKind::Counter, 0)];
-
-/// What the check of a transaction's event says under a plan of these in the second format.
-fn later_check(alloc: Global, tx: u32, event: Event) -> Result<Result<(), FactFault>, PlanFault> {
-    let plan = Plan::new_in(alloc, Format::Two, 1, declared(alloc, &LATER)?)?;
-    Ok(record(0, 0, 0, tx, event).check(&plan))
-}
-
-/// Events of the second format.
-const LOOKED: Event = Event::Ret(0, OpName::Look, Answer::Empty);
-
-const SUMMED: Event = Event::Inv(1, Op::Plus(2_147_483_648));
-
-const TOO_MUCH: Event = Event::Inv(1, Op::Plus(-2_147_483_649));
-
-#[test]
-fn the_second_format_has_more(rt: HostRuntime) {
-    let alloc = rt.alloc();
-    let found = [
-        later_check(alloc, 4095, LOOKED),
-        later_check(alloc, 4096, LOOKED),
-        later_check(alloc, 0, SUMMED),
-        later_check(alloc, 0, TOO_MUCH),
-        later_check(alloc, 0, Event::Inv(0, Op::Plus(1))),
-    ];
-    let faults = [
-        Ok(Ok(())),
-        Ok(Err(FactFault::TxRange)),
-        Ok(Ok(())),
-        Ok(Err(FactFault::ArgRange)),
-        Ok(Err(FactFault::OpKind)),
-    ];
-    assert!(rt; found == faults);
-}
+/// A counter.
+const COUNTER: [(&str, ObjKind, i64); 1] = [("c", ObjKind::Counter, 0)];
 
 /// Whether a plan is not the same in the other format, and has no sums there.
 fn differs_by_format(alloc: Global) -> Result<bool, PlanFault> {
-    let one = Plan::new(alloc, 1, declared(alloc, &LATER[1..])?)?;
-    let two = Plan::new_in(alloc, Format::Two, 1, declared(alloc, &LATER[1..])?)?;
+    let one = Plan::new(alloc, 1, declared(alloc, &COUNTER)?)?;
+    let two = Plan::new_in(alloc, Format::Two, 1, declared(alloc, &COUNTER)?)?;
     let sums = record(0, 0, 0, 0, Event::Inv(0, Op::Plus(1)));
     Ok(
         !one.same(&two)
@@ -249,37 +168,6 @@ fn is_shared(alloc: Global) -> Result<bool, OutOfMemory> {
 #[test]
 fn plans_are_shared(rt: HostRuntime) {
     holds(&rt, is_shared(rt.alloc()));
-}
-
-/// So many registers with different names.
-fn registers(alloc: Global, count: u32) -> Result<Vec<ObjDecl>, OutOfMemory> {
-    let mut objects = Vec::new(alloc);
-    for number in 0..count {
-        objects.push(ObjDecl {
-            name: format!(in alloc; "r{number}")?,
-            kind: ObjKind::Register,
-            opening: 0,
-        })?;
-    }
-    Ok(objects)
-}
-
-/// The number of the register `r255` in a plan of so many registers, or the fault of that plan.
-fn number_of_last(
-    alloc: Global,
-    count: u32,
-) -> Result<Result<Option<u16>, PlanFault>, OutOfMemory> {
-    match Plan::new(alloc, 1, registers(alloc, count)?) {
-        Ok(plan) => Ok(Ok(plan.number("r255"))),
-        Err(fault) => Ok(Err(fault)),
-    }
-}
-
-#[test]
-fn a_plan_has_at_most_256_objects(rt: HostRuntime) {
-    let many = number_of_last(rt.alloc(), 257);
-    let most = number_of_last(rt.alloc(), 256);
-    assert!(rt; many == Ok(Err(PlanFault::TooManyObjects)) && most == Ok(Ok(Some(255))));
 }
 
 #[test]

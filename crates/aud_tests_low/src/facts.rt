@@ -1,10 +1,10 @@
-//! Sets of facts: the worked inputs in every rotation of their lines, and each growth refused in turn.
+//! Sets of facts, with each growth refused in turn. What is said of runs in every rotation of their lines `tests/worked` asks.
 
 use crate::fixtures::{
     Growths, READ, READS, Trial, Tried, WRITES, WRITTEN, each_is_right, end, record, register_plan,
     unless_refused,
 };
-use aud_event::{Dup, Event, Fact, Op, OutOfMemory, Plan};
+use aud_event::{Dup, Event, Fact, OutOfMemory, Plan};
 use aud_facts::laws::{
     joins_associate, joins_commute, joins_repeat, parts_are_quiet, quiet_is_no_conflict,
     sealed_is_all, sealed_is_full,
@@ -116,81 +116,6 @@ fn is_as_told<A: Allocator + Copy>(
     Ok(is_right && facts.status() == status)
 }
 
-/// Facts of a plan of so many logs, their status, and their events where they are sealed.
-#[derive(Clone, Copy)]
-struct Told<'a> {
-    logs: u32,
-    lines: &'a [Fact],
-    status: FactStatus,
-    events: &'static [(u32, Event)],
-}
-
-/// Whether that is told of the lines in every rotation, and each makes the same set.
-fn is_always_told<A: Allocator + Copy>(alloc: A, told: &Told) -> Result<bool, OutOfMemory> {
-    let first = rotated(alloc, told.logs, told.lines, 0)?;
-    for from in 0..told.lines.len() {
-        let all = rotated(alloc, told.logs, told.lines, from)?;
-        if !all.same(&first) || !is_as_told(&all, told.status, told.events)? {
-            return Ok(false);
-        }
-    }
-    is_as_told(&first, told.status, told.events)
-}
-
-/// The lines with a fact put in so often before a place.
-fn with_fact<A: Allocator + Copy>(
-    alloc: A,
-    lines: &[Fact],
-    place: usize,
-    fact: Fact,
-    times: usize,
-) -> Result<Vec<Fact, A>, OutOfMemory> {
-    let mut all = Vec::from_slice(alloc, lines)?;
-    for _ in 0..times {
-        let place = place.min(all.len());
-        all.insert(place, fact)?;
-    }
-    Ok(all)
-}
-
-/// Whether the fact, put in the run in one log before a place, makes that conflict there in every rotation.
-fn clashes<A: Allocator + Copy>(
-    alloc: A,
-    place: usize,
-    fact: Fact,
-    status: FactStatus,
-) -> Result<bool, OutOfMemory> {
-    let lines = with_fact(alloc, &one_log(), place, fact, 1)?;
-    let told = Told {
-        logs: 1,
-        lines: &lines,
-        status,
-        events: &[],
-    };
-    is_always_told(alloc, &told)
-}
-
-/// Whether the run in two logs is sealed once the late record comes so often at the place.
-fn is_sealed_with<A: Allocator + Copy>(
-    alloc: A,
-    place: usize,
-    times: usize,
-) -> Result<bool, OutOfMemory> {
-    let lines = with_fact(alloc, &two_logs(), place, late(), times)?;
-    let facts = rotated(alloc, 2, &lines, 0)?;
-    is_as_told(&facts, FactStatus::Sealed, &WORKED)
-}
-
-/// Whether it is sealed once that record comes there, and when it comes again and again.
-fn is_sealed_late<A: Allocator + Copy>(alloc: A, place: usize) -> Result<bool, OutOfMemory> {
-    for times in 1..6usize {
-        if !is_sealed_with(alloc, place, times)? {
-            return Ok(false);
-        }
-    }
-    Ok(true)
-}
-
 /// Whether the set has these lines and no others.
 fn has_just<A: Allocator + Copy>(facts: &Facts<A>, lines: &[Fact]) -> bool {
     let set = facts.set();
@@ -230,7 +155,8 @@ fn bulk_is_whole<A: Allocator + Copy>(
     alloc: A,
     plan: Arc<Plan<A>, A>,
 ) -> Result<bool, OutOfMemory> {
-    let lines = with_fact(alloc, &one_log(), 9, end(0, 8), 1)?;
+    let mut lines = Vec::from_slice(alloc, &one_log())?;
+    lines.push(end(0, 8))?;
     if all_fit(&plan, &lines) {
         let facts = Facts::from_vec(alloc, plan, lines)?;
         Ok(has_just(&facts, &one_log()))
@@ -305,13 +231,7 @@ fn shares_out<A: Allocator + Copy>(facts: &Facts<A>) -> Result<bool, OutOfMemory
 
 /// What is tried of the facts of a run.
 #[derive(Clone, Copy)]
-enum OfFacts<'a> {
-    /// What is told of facts in every rotation.
-    Always(Told<'a>),
-    /// A place in the run in one log, a fact that is put in there, and the conflict that this makes.
-    Clash(usize, Fact, FactStatus),
-    /// A place at which the late record comes.
-    Late(usize),
+enum OfFacts {
     Inserts,
     Joins,
     Seals,
@@ -355,12 +275,9 @@ fn two_sets<A: Allocator + Copy>(alloc: A, tried: OfFacts) -> Tried {
     })
 }
 
-impl<'a> Trial for OfFacts<'a> {
-    fn tried<A: Allocator + Copy>(&self, alloc: A, ample: A) -> Tried {
+impl Trial for OfFacts {
+    fn tried<A: Allocator + Copy>(&self, alloc: A, _ample: A) -> Tried {
         match *self {
-            OfFacts::Always(told) => Ok(is_always_told(ample, &told)),
-            OfFacts::Clash(place, fact, status) => Ok(clashes(ample, place, fact, status)),
-            OfFacts::Late(place) => Ok(is_sealed_late(ample, place)),
             OfFacts::Bulk => Ok(bulk_is_whole(alloc, register_plan(alloc, 1)?)),
             OfFacts::Inserts => Ok(inserts(&mut rotated(alloc, 1, &one_log()[..8], 0)?)),
             OfFacts::Seals => one_set(alloc, true),
@@ -369,90 +286,6 @@ impl<'a> Trial for OfFacts<'a> {
             OfFacts::Joins | OfFacts::BothJoin | OfFacts::AreApart => two_sets(alloc, *self),
         }
     }
-}
-
-/// What is told of lines that are not sealed.
-fn unsealed(logs: u32, lines: &[Fact], status: FactStatus) -> OfFacts<'_> {
-    OfFacts::Always(Told {
-        logs,
-        lines,
-        status,
-        events: &[],
-    })
-}
-
-/// What is told of lines in one log that are sealed.
-fn sealed<'a>(lines: &'a [Fact], events: &'static [(u32, Event)]) -> OfFacts<'a> {
-    OfFacts::Always(Told {
-        logs: 1,
-        lines,
-        status: FactStatus::Sealed,
-        events,
-    })
-}
-
-#[test]
-fn runs_are_sealed_or_wait_in_every_rotation(rt: HostRuntime) {
-    let gap = [record(0, 0, 1, 1, Event::TryC), end(0, 1)];
-    each_is_right(
-        &rt,
-        Growths::Met(0),
-        &[
-            sealed(&one_log(), &WORKED),
-            sealed(&[end(0, 0)], &[]),
-            unsealed(2, &two_logs(), FactStatus::Waiting(1)),
-            unsealed(1, &gap, FactStatus::Gap(0)),
-            unsealed(64, &[], FactStatus::Waiting(0)),
-        ],
-    );
-}
-
-#[test]
-fn clashing_facts_conflict_in_every_rotation(rt: HostRuntime) {
-    let twice = [
-        record(0, 0, 0, 1, Event::TryC),
-        record(0, 1, 0, 1, Event::Commit),
-    ];
-    let past = [record(0, 3, 0, 1, Event::TryC), end(0, 2)];
-    let falls = [
-        record(0, 0, 1, 1, Event::TryC),
-        record(0, 1, 0, 1, Event::Commit),
-        end(0, 2),
-    ];
-    let other = record(0, 0, 0, 1, Event::Inv(0, Op::Write(2)));
-    let two_records = FactStatus::Conflict(Kind::TwoRecords, 0, 0);
-    each_is_right(
-        &rt,
-        Growths::Met(0),
-        &[
-            unsealed(1, &twice, FactStatus::Conflict(Kind::StampTwice, 0, 0)),
-            unsealed(1, &past, FactStatus::Conflict(Kind::PastCount, 0, 3)),
-            unsealed(1, &falls, FactStatus::Conflict(Kind::StampOrder, 0, 1)),
-            OfFacts::Clash(0, other, two_records),
-            OfFacts::Clash(1, other, two_records),
-            OfFacts::Clash(9, end(0, 9), FactStatus::Conflict(Kind::TwoCounts, 0, 8)),
-        ],
-    );
-}
-
-#[test]
-fn a_log_waits_for_its_record(rt: HostRuntime) {
-    each_is_right(
-        &rt,
-        Growths::Met(0),
-        &[
-            OfFacts::Late(0),
-            OfFacts::Late(1),
-            OfFacts::Late(2),
-            OfFacts::Late(3),
-            OfFacts::Late(4),
-            OfFacts::Late(5),
-            OfFacts::Late(6),
-            OfFacts::Late(7),
-            OfFacts::Late(8),
-            OfFacts::Late(9),
-        ],
-    );
 }
 
 #[test]
@@ -478,18 +311,6 @@ fn sets_join_and_are_shared_out_and_a_sealed_one_that_grows_conflicts(rt: HostRu
             OfFacts::Shares,
         ],
     );
-}
-
-#[test]
-fn kinds_have_their_numbers(rt: HostRuntime) {
-    let numbers = [
-        Kind::TwoRecords.number(),
-        Kind::StampTwice.number(),
-        Kind::TwoCounts.number(),
-        Kind::PastCount.number(),
-        Kind::StampOrder.number(),
-    ];
-    assert!(rt; numbers == [1, 2, 3, 4, 5]);
 }
 
 #[test]

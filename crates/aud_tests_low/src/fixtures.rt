@@ -65,21 +65,13 @@ pub fn register_plan<A: Allocator + Copy>(
     Ok(Arc::new(alloc, plan)?)
 }
 
-/// The history of the events under a plan of one log and a register `x`, if they fit it.
-pub fn if_fitting<A: Allocator + Copy>(
-    alloc: A,
-    events: &[(u32, Event)],
-) -> Result<Option<History<A>>, OutOfMemory> {
-    let plan = register_plan(alloc, 1)?;
-    Ok(History::checked(plan, Vec::from_slice(alloc, events)?))
-}
-
-/// The history of events that fit that plan, so that it can fail for memory alone.
+/// The history of events that fit a plan of one log and a register `x`, so that it can fail for memory alone.
 pub fn history_of<A: Allocator + Copy>(
     alloc: A,
     events: &[(u32, Event)],
 ) -> Result<History<A>, OutOfMemory> {
-    if_fitting(alloc, events)?.ok_or(OutOfMemory)
+    let plan = register_plan(alloc, 1)?;
+    History::checked(plan, Vec::from_slice(alloc, events)?).ok_or(OutOfMemory)
 }
 
 pub fn record(log: u32, at: u32, stamp: u32, tx: u32, event: Event) -> Fact {

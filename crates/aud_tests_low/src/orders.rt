@@ -4,8 +4,8 @@ use crate::fixtures::{
     Growths, READS, Trial, Tried, WRITES, WRITTEN, each_is_right, end, history_of, record,
 };
 use aud_event::{Answer, Dup, Event, Key, OpName, OutOfMemory};
-use aud_history::{History, Status};
-use aud_witness::{Agenda, Decision, Fate, OrderFault, Placing, Prefix, allows};
+use aud_history::History;
+use aud_witness::{Agenda, Decision, Fate, OrderFault, Placing, Prefix};
 use std::alloc::Allocator;
 use std::cmp::Ordering;
 
@@ -191,18 +191,4 @@ fn copies_tie_with_their_sources(rt: HostRuntime) {
         copy_ties(&C2),
     ];
     assert!(rt; ties == [Ok(true); 5]);
-}
-
-#[test]
-fn order_faults_have_their_numbers(rt: HostRuntime) {
-    let numbers = [
-        OrderFault::UnknownTx(9).number(),
-        OrderFault::Missing(9).number(),
-        OrderFault::RealTime(9).transaction(),
-    ];
-    let allowed = [
-        allows(Status::CommitPending, Fate::A),
-        allows(Status::Live, Fate::C),
-    ];
-    assert!(rt; numbers == [1, 6, 9] && allowed == [true, false]);
 }
