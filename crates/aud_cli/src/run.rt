@@ -8,14 +8,14 @@ ghost use Rattle.aud_cli.specs.Outcomes.{IsLine, RunOutcome};
 
 use crate::certificate::split_input;
 use crate::ended::{Cause, Ended, end_of};
-use crate::input::{Input, InputFault, read_input};
+use crate::input::{Input, InputFault, read_input, take_input};
 use crate::job::Job;
 use crate::question::Question;
 use aud_cert::{CertTextFault, read_cert_into};
 use aud_event::OutOfMemory;
 use aud_facts::Facts;
 use aud_know::well_formed_history;
-use aud_report::{ReadFault, Said, Sink, Source, read_all, write_all, write_line};
+use aud_report::{ReadFault, Said, Sink, Source, take_all, write_all, write_line};
 use aud_text::{TextFault, count_lines, read_order};
 use bumpalo::Bump;
 use std::alloc::Global;
@@ -45,10 +45,10 @@ fn judge_input(alloc: Global, question: Question<'_, '_>, input: Input) -> Resul
     judge_facts(alloc, question, &facts)
 }
 
-fn judge(alloc: Global, question: Question<'_, '_>, text: &[u8]) -> Result<Said, OutOfMemory>
-    ensures { IfOk result (InputSays (QuestionSays question.entry) (input_read text.now)) }
+fn judge(alloc: Global, question: Question<'_, '_>, text: Vec<u8>) -> Result<Said, OutOfMemory>
+    ensures { IfOk result (InputSays (QuestionSays question.entry) (input_read text.items)) }
 {
-    match read_input(alloc, text) {
+    match take_input(alloc, text) {
         Ok(input) => judge_input(alloc, question, input),
         Err(InputFault::Plan(refused)) => Ok(Said::PlanRefused(refused)),
         Err(InputFault::Record(line, fault)) => Ok(Said::RecordRefused(line, fault)),
@@ -107,8 +107,8 @@ fn verify(alloc: Global, text: &[u8]) -> Result<Said, OutOfMemory>
 }
 
 /// What the job says of a text.
-fn said_of(alloc: Global, job: &Job, text: &[u8]) -> Result<Said, OutOfMemory>
-    ensures { IfOk result (Line job.now text.now) }
+fn said_of(alloc: Global, job: &Job, text: Vec<u8>) -> Result<Said, OutOfMemory>
+    ensures { IfOk result (Line job.now text.items) }
 {
     match job {
         Job::Check(order) => match read_order(alloc, order.as_bytes()) {
@@ -119,14 +119,14 @@ fn said_of(alloc: Global, job: &Job, text: &[u8]) -> Result<Said, OutOfMemory>
         Job::Decide(budget, certifying) => {
             judge(alloc, Question::Any(*budget, *certifying), text)
         }
-        Job::Verify => verify(alloc, text),
+        Job::Verify => verify(alloc, text.as_slice()),
     }
 }
 
 /// The line that the job says of a text, with its line feed, and after it the certificate, if that is asked for; and how the job ends
 /// that says it.
-fn line_said(alloc: Global, job: &Job, text: &[u8]) -> Result<(Vec<u8>, Ended), OutOfMemory>
-    ensures { IfOk result (λ answer. IsLine job.now text.now answer.0.items answer.1) }
+fn line_said(alloc: Global, job: &Job, text: Vec<u8>) -> Result<(Vec<u8>, Ended), OutOfMemory>
+    ensures { IfOk result (λ answer. IsLine job.now text.items answer.0.items answer.1) }
 {
     let said = said_of(alloc, job, text)?;
     let line = write_line(alloc, &said)?;
@@ -151,12 +151,12 @@ pub fn run_lines<R: Source, W: Sink>(
         (record { source_failures = R.failures source.new; sink_failures = W.failures sink.new; held = W.held sink.new })
         result }
 {
-    let text = match read_all(alloc, source) {
+    let text = match take_all(alloc, source) {
         Ok(text) => text,
         Err(ReadFault::Failed) => return Ended::Failed(Cause::Input),
         Err(ReadFault::OutOfMemory) => return Ended::Failed(Cause::Memory),
     };
-    let Ok((line, end)) = line_said(alloc, job, text.as_slice()) else {
+    let Ok((line, end)) = line_said(alloc, job, text) else {
         return Ended::Failed(Cause::Memory);
     };
     match write_all(sink, line.as_slice()) {
