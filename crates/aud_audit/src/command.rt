@@ -18,7 +18,7 @@ use std::thread::Threads;
 ///
 /// What is handed out is one line that the command may say of the input, and after it the certificate, if that is asked for; where the
 /// run fails it is nothing, and memory was refused, or in an audit a place for a reader. It takes memory as `run_lines` and `run_audit`
-/// do, and for another copy of the input.
+/// do, and the input is not copied.
 pub fn run_command<R: Threads + Wait + Sync>(
     rt: &R,
     alloc: Global,

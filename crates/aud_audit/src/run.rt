@@ -13,13 +13,13 @@ ghost use Rattle.aud_audit.specs.Meshes.{IsMesh};
 use crate::closing::known_by_all;
 use crate::fault::AuditFault;
 use crate::mesh::{Mesh, open_all, start_all};
-use aud_cli::{AuditJob, Cause, Ended, Input, InputFault, end_of, read_input};
+use aud_cli::{AuditJob, Cause, Ended, Input, InputFault, end_of, take_input};
 use aud_event::OutOfMemory;
 use aud_facts::Facts;
 use aud_findings::{Findings, Search, conclude, search_of};
 use aud_node::{Fleet, Opened};
 use aud_pool::Gate;
-use aud_report::{ReadFault, Said, Sink, Source, read_all, write_all, write_line};
+use aud_report::{ReadFault, Said, Sink, Source, take_all, write_all, write_line};
 use aud_search::{Scene, Shared};
 use aud_witness::Prefix;
 use std::alloc::Global;
@@ -256,12 +256,12 @@ fn audit_text<G: Gate<Prefix> + Sync, R: Threads + Wait + Sync>(
     alloc: Global,
     job: &AuditJob,
     gate: &G,
-    text: &[u8],
+    text: Vec<u8>,
 ) -> Result<Said, AuditFault>
     requires { IsAuditJob job.now }
-    ensures { IfOk result (AuditLine job.now.budget text.now) }
+    ensures { IfOk result (AuditLine job.now.budget text.items) }
 {
-    match read_input(alloc, text) {
+    match take_input(alloc, text) {
         Ok(input) => audit_input(rt, alloc, job, gate, input),
         Err(InputFault::Plan(refused)) => Ok(Said::PlanRefused(refused)),
         Err(InputFault::Record(line, fault)) => Ok(Said::RecordRefused(line, fault)),
@@ -276,10 +276,10 @@ fn audit_said<G: Gate<Prefix> + Sync, R: Threads + Wait + Sync>(
     alloc: Global,
     job: &AuditJob,
     gate: &G,
-    text: &[u8],
+    text: Vec<u8>,
 ) -> Result<(Vec<u8>, Ended), Cause>
     requires { IsAuditJob job.now }
-    ensures line { IfOk result (λ answer. IsAuditLine job.now.budget text.now answer.0.items answer.1) }
+    ensures line { IfOk result (λ answer. IsAuditLine job.now.budget text.items answer.0.items answer.1) }
     ensures cause { IfErr result IsOfAudit }
 {
     let said = match audit_text(rt, alloc, job, gate, text) {
@@ -313,12 +313,12 @@ pub fn run_audit<G: Gate<Prefix> + Sync, R: Threads + Wait + Sync, I: Source, O:
         (record { source_failures = I.failures source.new; sink_failures = O.failures sink.new; held = O.held sink.new })
         result }
 {
-    let text = match read_all(alloc, source) {
+    let text = match take_all(alloc, source) {
         Ok(text) => text,
         Err(ReadFault::Failed) => return Ended::Failed(Cause::Input),
         Err(ReadFault::OutOfMemory) => return Ended::Failed(Cause::Memory),
     };
-    let (line, end) = match audit_said(rt, alloc, job, gate, text.as_slice()) {
+    let (line, end) = match audit_said(rt, alloc, job, gate, text) {
         Ok(answer) => answer,
         Err(cause) => return Ended::Failed(cause),
     };
