@@ -58,7 +58,7 @@ words_of (said.Certified cert) = codes "not opaque"
 
 -- the text of the certificate, where one is said
 abbrev pub certificate_of : Said → List ℕ
-certificate_of (said.Certified cert) = cert_text cert.lines.items
+certificate_of (said.Certified cert) = cert_text cert.rules cert.lines.items
 certificate_of _ = []
 
 -- what is printed: the line, and the certificate after it
