@@ -15,6 +15,10 @@ use Rattle.aud_cert.specs.Limits.{longest_cert_line}
 
 -- ---- the header line
 
+-- how many lines follow, and by which rules
+abbrev pub HeaderOf : Type 0
+HeaderOf = Header
+
 -- the keys that must stand
 abbrev pub header_keys : List Key
 header_keys = codes "cert" ∷ []

@@ -6,9 +6,8 @@ use Rattle.aud_text.specs.declared.fault.TextFault.{TextFault}
 use Rattle.aud_text.specs.Lines.{Filled, lines_of, put_first, filled_from, filled_lines}
 use Rattle.aud_cert.specs.declared.fault.CertTextFault.{CertTextFault}
 use Rattle.aud_accept.specs.declared.cert.Rules.{Rules}
-use Rattle.aud_cert.specs.declared.read.Header.{Header}
 use Rattle.aud_cert.specs.LineText.{Line, line_read}
-use Rattle.aud_cert.specs.CertText.{at_line, with_line, lines_read, headed, lines_headed, header_read, cert_read}
+use Rattle.aud_cert.specs.CertText.{HeaderOf, at_line, with_line, lines_read, headed, lines_headed, header_read, cert_read}
 
 abbrev IsUpTo : ℕ → Filled → Type 0
 IsUpTo m f = f.number ≤ m
@@ -37,7 +36,7 @@ lines-fault r after m (suc k) [] e all low is = at-line m after _ e low is
 lines-fault r after m (suc k) (f ∷ fs) e all low is =
     by-line m f e (All-head (IsUpTo m) f fs all) (line_read r f.line) (lines_read r after k fs) (λ later. lines-fault r after m k fs e (All-tail (IsUpTo m) f fs all) low later) is
 
-headed-fault : (after m n : ℕ) (r : Result Header TextFault) (fs : List Filled) (e : CertTextFault) → n ≤ m → All (IsUpTo m) fs → after ≤ m → headed after n r fs ≡ refusal e → e.line ≤ m
+headed-fault : (after m n : ℕ) (r : Result HeaderOf TextFault) (fs : List Filled) (e : CertTextFault) → n ≤ m → All (IsUpTo m) fs → after ≤ m → headed after n r fs ≡ refusal e → e.line ≤ m
 headed-fault after m n (Err x) fs e low all last is = at-line m n x e low is
 headed-fault after m n (Ok header) fs e low all last is = lines-fault header.rules after m header.count fs e all last is
 
