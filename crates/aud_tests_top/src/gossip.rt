@@ -96,19 +96,10 @@ impl<J: Fleet, S: Wait + Drop> Site<J, S> {
     }
 }
 
-/// The verdicts of two nodes, and whether both know the same.
-type Verdicts = ([Result<Judgement, ReadFault>; 2], bool);
+type Verdicts = [Result<Judgement, ReadFault>; 2];
 
 fn verdicts<J: Fleet, S: Wait + Drop>(first: &mut Site<J, S>, second: &mut Site<J, S>) -> Verdicts {
-    let snapshots = (
-        first.node.snapshot(&mut first.pass),
-        second.node.snapshot(&mut second.pass),
-    );
-    let are_same = match snapshots {
-        (Ok(first), Ok(second)) => first.known.same(&second.known),
-        _ => false,
-    };
-    ([first.verdict(), second.verdict()], are_same)
+    [first.verdict(), second.verdict()]
 }
 
 /// Packets in both directions, each twice, and what each node received.
@@ -203,13 +194,10 @@ fn two_running_nodes_come_to_one_verdict(rt: HostRuntime) -> Result<(), Fail> {
     let opened = (Opened::new(0), Opened::new(1));
     let told = told::<Brand, _>(&rt, alloc, opened, plans, &facts, finding);
     let verdicts = [
-        (
-            [Ok(Judgement::Waiting(1)), Ok(Judgement::Waiting(0))],
-            false,
-        ),
-        ([Ok(Judgement::Unfinished); 2], true),
-        ([Ok(Judgement::NotOpaque); 2], true),
-        ([Ok(Judgement::NotOpaque); 2], true),
+        [Ok(Judgement::Waiting(1)), Ok(Judgement::Waiting(0))],
+        [Ok(Judgement::Unfinished); 2],
+        [Ok(Judgement::NotOpaque); 2],
+        [Ok(Judgement::NotOpaque); 2],
     ];
     assert!(rt; told == Some((verdicts, [TWO_TAKEN; 2], [TWO_TAKEN; 2])));
     Ok(())
