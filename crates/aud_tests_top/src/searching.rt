@@ -3,12 +3,11 @@
 ghost use Rattle.std.specs.Prelude.{◌≡◌, ◌<◌};
 
 use crate::fixtures::{
-    SEEN_REQUEST, SharedShape, TORN_READ, UNSEEN_REQUEST, list, plan_of, refuted, shape_of,
+    SEEN_REQUEST, SharedShape, TORN_READ, UNSEEN_REQUEST, list, plan_of, shape_of,
 };
 use crate::knowing::{Judgement, judged};
 use aud_event::Plan;
 use aud_facts::Facts;
-use aud_know::{Finding, Item};
 use aud_node::{Fleet, Opened, Pass, Running};
 use aud_split::{Gate, PoolEnd, PoolFault, run_pool, split};
 use aud_witness::Prefix;
@@ -50,83 +49,6 @@ impl Gate<Prefix> for Meeting {
     }
 
     fn after(&self, _worker: u32, _task: &Prefix) {}
-}
-
-/// Counts the tasks that come to it.
-#[derive(Drop)]
-struct Counted {
-    tasks: AtomicU64,
-}
-
-impl Gate<Prefix> for Counted {
-    fn before(&self, _worker: u32, _task: &Prefix) {
-        self.tasks.fetch_add(1, Ordering::SeqCst);
-    }
-
-    fn after(&self, _worker: u32, _task: &Prefix) {
-        self.tasks.fetch_add(1, Ordering::SeqCst);
-    }
-}
-
-/// The transaction of the first decision of a task.
-fn first_of(task: &Prefix) -> u64 {
-    match task.decisions().first() {
-        Some(decision) => u64::from(decision.tx),
-        None => 0,
-    }
-}
-
-/// Lets two workers begin together, and keeps what each said of its task: the transaction of the first decision, when it began
-/// and when it ended.
-#[derive(Drop)]
-struct Hearing {
-    meeting: Meeting,
-    began: (AtomicU64, AtomicU64),
-    ended: (AtomicU64, AtomicU64),
-}
-
-impl Hearing {
-    fn new() -> Hearing {
-        Hearing {
-            meeting: Meeting {
-                here: AtomicU64::new(0),
-                alone: AtomicU64::new(0),
-            },
-            began: (AtomicU64::new(0), AtomicU64::new(0)),
-            ended: (AtomicU64::new(0), AtomicU64::new(0)),
-        }
-    }
-
-    /// What the worker said, if it is one of the two.
-    fn heard(&self, worker: u32) -> Option<(u64, u64)> {
-        let (began, ended) = match worker {
-            0 => (&self.began.0, &self.ended.0),
-            1 => (&self.began.1, &self.ended.1),
-            _ => return None,
-        };
-        Some((began.load(Ordering::SeqCst), ended.load(Ordering::SeqCst)))
-    }
-}
-
-impl Gate<Prefix> for Hearing {
-    fn before(&self, worker: u32, task: &Prefix) {
-        let began = if worker == 0 {
-            &self.began.0
-        } else {
-            &self.began.1
-        };
-        began.store(first_of(task), Ordering::SeqCst);
-        self.meeting.before(worker, task);
-    }
-
-    fn after(&self, worker: u32, task: &Prefix) {
-        let ended = if worker == 0 {
-            &self.ended.0
-        } else {
-            &self.ended.1
-        };
-        ended.store(first_of(task), Ordering::SeqCst);
-    }
 }
 
 /// What a pool is to work on: the shape of a run, and tasks of it.
@@ -241,90 +163,6 @@ fn two_workers_search_at_once(rt: HostRuntime) -> Result<(), Fail> {
     Ok(())
 }
 
-/// Which worker of two drew each task, by the task's first transaction.
-fn drawn_by<J: Fleet + Send + Sync, G: Gate<Prefix> + Sync, R: Threads + Wait + Sync>(
-    rt: &R,
-    alloc: Global,
-    opened: Opened,
-    plan: Plan,
-    search: Search,
-    gate: &G,
-) -> Option<Vec<(u32, u64)>>
-    requires named { opened.book ≡ J.book opened.number }
-    requires planned { plan ≡ J.plan opened.number }
-{
-    let (node, passes) = Running::<J, &R>::start(rt, alloc, opened, plan, 2).ok()?;
-    let Search {
-        shape,
-        tasks,
-        budget,
-    } = search;
-    let end = run_pool(rt, alloc, &node, passes, shape, tasks, budget, gate).ok()?;
-    let mut drawn = Vec::new(alloc);
-    for (worker, task) in &end.drawn {
-        drawn.push((*worker, first_of(task))).ok()?;
-    }
-    Some(drawn)
-}
-
-#[test]
-fn a_gate_hears_the_number_of_the_worker(rt: HostRuntime) -> Result<(), Fail> {
-    let alloc = rt.alloc();
-    let run = facts_of(alloc, UNSEEN_REQUEST)?;
-    for _ in 0..20 {
-        let gate = Hearing::new();
-        let plan = plan_of(alloc, &run)?;
-        let search = search_of(alloc, &run, &["1a", "2c"], 100)?;
-        let search = search.ok_or("well-formed")?;
-        let drawn = drawn_by::<Brand, _, _>(&rt, alloc, Opened::new(0), plan, search, &gate);
-        let drawn = drawn.ok_or("a pool")?;
-        assert_eq!(rt; drawn.len(), 2);
-        for (worker, task) in &drawn {
-            assert!(rt; gate.heard(*worker) == Some((*task, *task)));
-        }
-    }
-    Ok(())
-}
-
-/// What a node says whose only worker searches once this is known.
-fn searched_knowing<J: Fleet + Send + Sync, R: Threads + Wait + Sync>(
-    rt: &R,
-    alloc: Global,
-    opened: Opened,
-    plan: Plan,
-    known: Finding,
-    search: Search,
-) -> Option<Summary>
-    requires named { opened.book ≡ J.book opened.number }
-    requires planned { plan ≡ J.plan opened.number }
-{
-    let (node, mut passes) = Running::<J, &R>::start(rt, alloc, opened, plan, 2).ok()?;
-    let mut keeper = passes.pop()?;
-    let offered = node.offer(rt, alloc, &mut keeper, Item::Finding(known));
-    offered.ok()?;
-    let Search {
-        shape,
-        tasks,
-        budget,
-    } = search;
-    let end = run_pool(rt, alloc, &node, passes, shape, tasks, budget, &Open);
-    summary_of(rt, node, keeper, end.ok()?)
-}
-
-#[test]
-fn a_task_that_the_node_knows_is_not_searched(rt: HostRuntime) -> Result<(), Fail> {
-    let alloc = rt.alloc();
-    let run = facts_of(alloc, TORN_READ)?;
-    let known = refuted(alloc, &run, "1c")?;
-    let known = known.ok_or("refuted")?;
-    let plan = plan_of(alloc, &run)?;
-    let search = search_of(alloc, &run, &["1c"], 100)?;
-    let search = search.ok_or("well-formed")?;
-    let said = searched_knowing::<Brand, _>(&rt, alloc, Opened::new(0), plan, known, search);
-    assert!(rt; said == Some((1, 0, 0, Judgement::NotOpaque, 1)));
-    Ok(())
-}
-
 /// A run, the budget of a task, and what is known after its tasks at a depth of two.
 type Row = (&'static str, u64, Summary);
 
@@ -360,8 +198,8 @@ fn what_a_pool_found_is_known(rt: HostRuntime) -> Result<(), Fail> {
     Ok(())
 }
 
-/// What a pool is refused for, how many passes come back, and how often its gate was called.
-type Refused = Option<(PoolFault, usize, u64)>;
+/// What a pool is refused for, and how many passes come back.
+type Refused = Option<(PoolFault, usize)>;
 
 /// What the node refuses a pool of these passes for.
 fn refused_by<J: Fleet + Send + Sync, R: Threads + Wait + Sync>(
@@ -376,12 +214,9 @@ fn refused_by<J: Fleet + Send + Sync, R: Threads + Wait + Sync>(
         tasks,
         budget,
     } = search;
-    let gate = Counted {
-        tasks: AtomicU64::new(0),
-    };
-    match run_pool(rt, alloc, node, passes, shape, tasks, budget, &gate) {
+    match run_pool(rt, alloc, node, passes, shape, tasks, budget, &Open) {
         Ok(_) => None,
-        Err((passes, fault)) => Some((fault, passes.len(), gate.tasks.load(Ordering::SeqCst))),
+        Err((passes, fault)) => Some((fault, passes.len())),
     }
 }
 
@@ -419,7 +254,7 @@ fn a_pool_has_1_to_16_passes_and_one_plan(rt: HostRuntime) -> Result<(), Fail> {
         let search = split_of(alloc, &facts_of(alloc, input)?, 100)?;
         let search = search.ok_or("well-formed")?;
         let said = refused::<Brand, _>(&rt, alloc, Opened::new(0), plan, workers, search);
-        assert!(rt; said == Some((fault, workers as usize, 0)));
+        assert!(rt; said == Some((fault, workers as usize)));
     }
     Ok(())
 }
@@ -454,6 +289,6 @@ fn a_pool_has_passes_of_its_node_alone(rt: HostRuntime) -> Result<(), Fail> {
     let search = split_of(alloc, &run, 100)?;
     let search = search.ok_or("well-formed")?;
     let said = refused_between::<Brand, _>(&rt, alloc, opened, plans, search);
-    assert!(rt; said == Some((PoolFault::WrongNode, 2, 0)));
+    assert!(rt; said == Some((PoolFault::WrongNode, 2)));
     Ok(())
 }
