@@ -178,6 +178,7 @@ KINDS_TWO = {**KINDS, "counter": {**KINDS["counter"], "plus": 1}, "map": {"put":
 OBSERVING = {"read", "get", "contains", "look"}
 ANSWERS = {
     **dict.fromkeys(("read", "get"), "i"),
+    **dict.fromkeys(("write", "inc", "dec", "plus", "enq", "put"), "d"),
     **dict.fromkeys(("add", "remove", "contains", "del"), "b"),
     **dict.fromkeys(("deq", "look"), "ie"),
 }
@@ -278,7 +279,7 @@ def is_typed(key, value):
 
 def fits(op, ans):
     """Whether it is an answer of the operation."""
-    allowed = ANSWERS.get(op, "d")
+    allowed = ANSWERS[op]
     if isinstance(ans, bool):
         return "b" in allowed
     if isinstance(ans, int):
@@ -433,37 +434,56 @@ class Transaction:
         return "c" if all(op in OBSERVING for _, op, _, _, _ in self.done) else None
 
 
-def step(kind, state, op, arg, val):
-    """The state after it, and the answer."""
-    if op in ("read", "get"):
-        return state, state
-    if op == "write":
-        return arg, "done"
-    if kind == "counter":
-        count = state + {"inc": 1, "dec": -1, "plus": arg}[op]
-        return count if -I64 <= count < I64 else state, "done"
-    if op == "enq":
-        return state + (arg,), "done"
-    if op == "deq":
-        return state[1:], state[0] if state else "empty"
-    if kind == "map":
-        entries = dict(state)
-        if op == "look":
-            return state, entries.get(arg, "empty")
-        had = arg in entries
-        entries.pop(arg, None)
-        if op == "put":
-            entries[arg] = val
-        return frozenset(entries.items()), "done" if op == "put" else had
-    had = arg in state
-    return {"add": state | {arg}, "remove": state - {arg}, "contains": state}[op], had if op != "add" else not had
+def counted(count, by):
+    """The counter after it, which stays where the next count has no 64 bits, and the answer."""
+    return count + by if -I64 <= count + by < I64 else count, "done"
+
+
+def without(entries, key):
+    return frozenset(entry for entry in entries if entry[0] != key)
+
+
+# what an object is before the first operation, by its `open`, and for each operation the object after it, and the answer: a kind or an
+# operation that has no line here is an error
+OPENING = {
+    "register": lambda opens: opens,
+    "counter": lambda opens: opens,
+    "set": lambda opens: frozenset(),
+    "queue": lambda opens: (),
+    "map": lambda opens: frozenset(),
+}
+STEPS = {
+    "register": {
+        "read": lambda held, arg, val: (held, held),
+        "write": lambda held, arg, val: (arg, "done"),
+    },
+    "counter": {
+        "get": lambda count, arg, val: (count, count),
+        "inc": lambda count, arg, val: counted(count, 1),
+        "dec": lambda count, arg, val: counted(count, -1),
+        "plus": lambda count, arg, val: counted(count, arg),
+    },
+    "set": {
+        "add": lambda members, arg, val: (members | {arg}, arg not in members),
+        "remove": lambda members, arg, val: (members - {arg}, arg in members),
+        "contains": lambda members, arg, val: (members, arg in members),
+    },
+    "queue": {
+        "enq": lambda items, arg, val: (items + (arg,), "done"),
+        "deq": lambda items, arg, val: (items[1:], items[0] if items else "empty"),
+    },
+    "map": {
+        "put": lambda entries, arg, val: (without(entries, arg) | {(arg, val)}, "done"),
+        "look": lambda entries, arg, val: (entries, dict(entries).get(arg, "empty")),
+        "del": lambda entries, arg, val: (without(entries, arg), arg in dict(entries)),
+    },
+}
 
 
 class History:
     def __init__(self, plan, events):
         self.kinds = {name: kind for name, kind, _ in plan.objects}
-        start = {"set": frozenset(), "map": frozenset(), "queue": ()}
-        self.opening = tuple((name, start.get(kind, opening)) for name, kind, opening in plan.objects)
+        self.opening = tuple((name, OPENING[kind](opening)) for name, kind, opening in plan.objects)
         self.table = {}
         for stamp, (tx, event) in enumerate(events):
             block = self.table.setdefault(tx, Transaction(tx, stamp))
@@ -476,7 +496,7 @@ class History:
         """The states of all objects after it, or None where an answer is not the object's."""
         held = dict(states)
         for name, op, arg, val, ans in block.done:
-            held[name], found = step(self.kinds[name], held[name], op, arg, val)
+            held[name], found = STEPS[self.kinds[name]][op](held[name], arg, val)
             if repr(found) != ans:
                 return None
         return tuple((name, held[name]) for name, _ in states) if fate == "c" else states
