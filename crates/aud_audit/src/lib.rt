@@ -10,6 +10,7 @@ mod fault;
 mod gate;
 mod meeting;
 mod mesh;
+mod room;
 mod run;
 
 pub use aud_pool::Gate;

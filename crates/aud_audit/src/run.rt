@@ -13,6 +13,7 @@ ghost use Rattle.aud_audit.specs.Meshes.{IsMesh};
 use crate::closing::known_by_all;
 use crate::fault::AuditFault;
 use crate::mesh::{Mesh, open_all, start_all};
+use crate::room::with_room;
 use aud_cli::{AuditJob, Cause, Ended, Input, InputFault, end_of, take_input};
 use aud_event::OutOfMemory;
 use aud_facts::Facts;
@@ -230,7 +231,8 @@ fn audit_facts<G: Gate<Prefix> + Sync, R: Threads + Wait + Sync>(
     ensures { IfOk result (SetSays (AuditSays job.now.budget) facts.now.plan facts.now.facts) }
 {
     let opened = open_all(alloc, job.nodes)?;
-    let findings = findings_of::<Brand, _, _>(rt, alloc, opened, job, gate, facts)?;
+    let job = with_room(alloc, job);
+    let findings = findings_of::<Brand, _, _>(rt, alloc, opened, &job, gate, facts)?;
     Ok(conclude(alloc, job.budget, facts, &findings)?)
 }
 
