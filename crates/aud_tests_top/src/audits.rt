@@ -33,13 +33,19 @@ fn audit_by(nodes: u32, workers: u32, budget: Option<u64>) -> Option<AuditJob>
     })
 }
 
-/// How an audit by two nodes of one worker each ends, how many tasks went through the gate, and how many of them met no other.
-fn met<R: Threads + Wait + Sync>(rt: &R, alloc: Global, input: &str) -> Option<(Ended, u64, u64)> {
+/// How an audit by so many nodes of so many workers ends, how many tasks went through the gate, and how many of them met no other.
+fn met<R: Threads + Wait + Sync>(
+    rt: &R,
+    alloc: Global,
+    nodes: u32,
+    workers: u32,
+    input: &str,
+) -> Option<(Ended, u64, u64)> {
     let gate = Meeting {
         here: AtomicU64::new(0),
         alone: AtomicU64::new(0),
     };
-    let job = audit_by(2, 1, None)?;
+    let job = audit_by(nodes, workers, None)?;
     let mut source = MemorySource::new(Vec::from_slice(alloc, input.as_bytes()).ok()?);
     let mut sink = MemorySink::new(alloc);
     let ended = run_audit(rt, alloc, &job, &gate, &mut source, &mut sink);
@@ -51,15 +57,16 @@ fn met<R: Threads + Wait + Sync>(rt: &R, alloc: Global, input: &str) -> Option<(
 }
 
 #[test]
-fn pools_of_two_nodes_work_at_once(rt: HostRuntime) -> Result<(), Fail> {
-    // One task of each node first; and all, where none of these leads to an order, and twice again, where none was left open.
+fn workers_of_an_audit_are_at_their_tasks_at_once(rt: HostRuntime) -> Result<(), Fail> {
+    // One task of each worker first; and all, where none of these leads to an order, and twice again, where none was left open.
     let cases = [
-        (UNSEEN_REQUEST, 100, Some((Ended::Opaque, 2, 0))),
-        (FIVE_COUNTED, 3, Some((Ended::NotOpaque, 20, 0))),
+        (2, 1, UNSEEN_REQUEST, 100, Some((Ended::Opaque, 2, 0))),
+        (1, 2, UNSEEN_REQUEST, 10, Some((Ended::Opaque, 2, 0))),
+        (2, 1, FIVE_COUNTED, 3, Some((Ended::NotOpaque, 20, 0))),
     ];
-    for (input, times, wanted) in cases {
+    for (nodes, workers, input, times, wanted) in cases {
         for _ in 0..times {
-            let met = met(&rt, rt.alloc(), input);
+            let met = met(&rt, rt.alloc(), nodes, workers, input);
             assert_eq!(rt; met, wanted);
         }
     }
