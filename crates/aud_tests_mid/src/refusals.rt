@@ -85,22 +85,6 @@ fn is_told<A: Allocator + Copy>(
     Ok(fault_of(alloc, sealed.history(), &order)? == fault)
 }
 
-/// The answer to a question about facts that are sealed.
-fn answer_of_sealed<A: Allocator + Copy>(
-    alloc: A,
-    sealed: &Sealed<A>,
-    asked: Asked,
-) -> Result<bool, Unread> {
-    match asked {
-        Asked::Nothing(decisions) => {
-            let _order = order(alloc, decisions)?;
-            Ok(true)
-        }
-        Asked::IsTold(decisions, fault) => is_told(alloc, sealed, decisions, fault),
-        _ => Ok(true),
-    }
-}
-
 /// The answer to a question about facts.
 fn answer_of<A: Allocator + Copy>(
     alloc: A,
@@ -121,9 +105,18 @@ fn answer_of<A: Allocator + Copy>(
         Asked::IsRefuted => is_decided(alloc, &shape_from(alloc, facts)?, "not opaque"),
         Asked::IsCertified => is_refuted_by_lines(alloc, facts),
         Asked::IsFound => is_found_by_lines(alloc, facts),
-        _ => {
+        Asked::AreSealed => {
+            let _sealed = sealed_from(facts)?;
+            Ok(true)
+        }
+        Asked::Nothing(decisions) => {
+            let _sealed = sealed_from(facts)?;
+            let _order = order(alloc, decisions)?;
+            Ok(true)
+        }
+        Asked::IsTold(decisions, fault) => {
             let sealed = sealed_from(facts)?;
-            answer_of_sealed(alloc, &sealed, asked)
+            is_told(alloc, &sealed, decisions, fault)
         }
     }
 }
