@@ -1,6 +1,6 @@
 -- The ends of tasks: of a share, later, and at a closed node.
 use Rattle.std.proofs.Common.{◌≡◌, ◌<◌, ◌%◌, ◌++◌, ◌⊎◌, [], ℕ, List, length, map, get_or, All, Contains, Option, Some, None, IfSome, ◌==◌, ◌∷◌, Bool, sym, ap, subst, refl, ◌∙◌, arith, inl, inr, true, ◌+◌}
-use Rattle.std.proofs.lemmas.List.Elements.{All-contains, Contains-append_left, Contains-append_right, Contains-get_or, Contains-push_cases}
+use Rattle.std.proofs.lemmas.List.Elements.{All-contains, Contains-append_left, Contains-get_or, Contains-push_cases}
 use Rattle.std.specs.List.Sorted.{IsPermutation}
 use mathlib.Core.List.{IsPrefix}
 use Rattle.aud_base.proofs.Bools.{nat_eq-is}
@@ -12,7 +12,6 @@ use Rattle.aud_know.specs.Known.{KnownAtom, KnowledgeOf}
 use Rattle.aud_node.specs.Logs.{Entry, atoms_in, state_of}
 use Rattle.aud_node.specs.Meanings.{Agrees, PassOf}
 use Rattle.aud_node.proofs.Own.{atoms-append}
-use Rattle.aud_node.proofs.Growing.{below_more}
 use Rattle.aud_gossip.specs.Receiving.{GoesFurther}
 use Rattle.aud_split.specs.Ends.{faulted}
 use Rattle.aud_split.specs.Laws.{KnownIsKept, PoolEndsAll}
@@ -24,6 +23,7 @@ use Rattle.aud_findings.specs.declared.searching.Search.{Search}
 use Rattle.aud_findings.proofs.Ending.{ended_in, knows_norm}
 use Rattle.aud_audit.specs.Seats.{AreLater, CrewOf}
 use Rattle.aud_audit.specs.Searches.{HasEnded, HaveEnded, HaveEndedShare, IsShare}
+use Rattle.aud_audit.proofs.Sharing.{share_has}
 
 -- # Later
 
@@ -58,7 +58,8 @@ share_ended law s budget tasks share left nodes number n passes drawn faults sha
     (subst (λ (m : ℕ). All (λ (e : ℕ × List Decision). e.0 < m) drawn) count below)
     (subst (λ (f : List (ℕ × PoolFault)). AreSettled s budget passes f drawn) none settled)
     (get_or tasks k d)
-    (shared k d lt is)
+    (let same : k ≡ 0 + k = omega arith in
+    subst (λ (l : List (List Decision)). Contains l (get_or tasks k d)) (sym shared) (share_has nodes number tasks 0 k d lt (subst (λ (n : ℕ). n % nodes ≡ number) same is)))
 
 -- # What is known
 
@@ -88,26 +89,6 @@ ended_cases s budget t all crews c is (d, (there, ended)) =
 
 pub none_ended : (s : ShapeOf) (budget : ℕ) (t : List Decision) (crews : List CrewOf) → crews ≡ [] → HaveEnded s budget crews t → ⊥
 none_ended s budget t crews is (d, (there, ended)) = let (k, lt, at) = subst (λ (l : List CrewOf). Contains l d) is there in absurd (omega arith)
-
--- # Shares
-
--- one task more was looked at: it is in the share
-pub share_more : (tasks : List (List Decision)) (nodes number place : ℕ) (share new : List (List Decision)) (x : List Decision) → new ≡ share ++ x ∷ [] → ((d : List Decision) → x ≡ get_or tasks place d) →
-    ((k : ℕ) → k < place → (d : List Decision) → k % nodes ≡ number → Contains share (get_or tasks k d)) →
-    (k : ℕ) → k < place + 1 → (d : List Decision) → k % nodes ≡ number → Contains new (get_or tasks k d)
-share_more tasks nodes number place share new x is copy before =
-    below_more (λ (k : ℕ). (d : List Decision) → k % nodes ≡ number → Contains new (get_or tasks k d)) place
-    (λ k lt d e. subst (λ (l : List (List Decision)). Contains l (get_or tasks k d)) (sym is) (Contains-append_left share (x ∷ []) (get_or tasks k d) (before k lt d e)))
-    (λ d e. subst (λ (l : List (List Decision)). Contains l (get_or tasks place d)) (sym is) (subst (λ (y : List Decision). Contains (share ++ x ∷ []) y) (copy d) (Contains-append_right share (x ∷ []) x (0, omega arith, refl))))
-
--- and it is not, since it is another node's
-pub share_same : (tasks : List (List Decision)) (nodes number place : ℕ) (share new : List (List Decision)) → new ≡ share → (place % nodes ≡ number → ⊥) →
-    ((k : ℕ) → k < place → (d : List Decision) → k % nodes ≡ number → Contains share (get_or tasks k d)) →
-    (k : ℕ) → k < place + 1 → (d : List Decision) → k % nodes ≡ number → Contains new (get_or tasks k d)
-share_same tasks nodes number place share new is other before =
-    below_more (λ (k : ℕ). (d : List Decision) → k % nodes ≡ number → Contains new (get_or tasks k d)) place
-    (λ k lt d e. subst (λ (l : List (List Decision)). Contains l (get_or tasks k d)) (sym is) (before k lt d e))
-    (λ d e. absurd (other e))
 
 -- # What was searched
 

@@ -126,6 +126,6 @@ all_ended s budget tasks plan nodes collectors crews shares mesh some done t (k,
     let same = mesh.crews_at.count in
     let also : i < length crews = omega (arith, low, same) in
     let n : NodeOf = record { number = 0; plan = plan; seats = 0 } in
-    let c : CrewOf = record { passes = []; taken = None; failed = false } in
+    let c : CrewOf = record { passes = []; senders = 0; taken = None; failed = false } in
     let ended = shares.each i n c low (done i c also) k t lt (sym (mesh.numbered i n low)) in
     (get_or crews i c, (Contains-get_or crews i c also, subst (λ (u : List Decision). HasEnded s budget (get_or crews i c).passes u) is ended))

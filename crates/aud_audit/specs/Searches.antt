@@ -1,5 +1,5 @@
 -- What is known of the ends of tasks that the workers of all nodes search.
-use Rattle.std.specs.Prelude.{◌≡◌, ◌<◌, ◌%◌, ℕ, List, length, slice_index_or, false}
+use Rattle.std.specs.Prelude.{◌≡◌, ◌<◌, ◌%◌, ◌+◌, ℕ, List, [], ◌∷◌, length, slice_index_or, nat_eq, if◌then◌else◌, false}
 use Rattle.std.specs.List.{Contains}
 use Rattle.aud_witness.specs.declared.decision.Decision.{Decision}
 use Rattle.aud_order.specs.Shapes.{ShapeOf, objects_of, history_of}
@@ -13,9 +13,15 @@ use Rattle.aud_findings.specs.declared.searching.Search.{Search}
 
 -- # The tasks
 
--- the share has each task whose number, divided by the number of nodes, leaves this number
+-- of the tasks from a place on those whose place, divided by the number of nodes, leaves this number
+abbrev pub share_from : ℕ → ℕ → ℕ → List (List Decision) → List (List Decision)
+share_from nodes number place [] = []
+share_from nodes number place (t ∷ ts) =
+    if nat_eq (place % nodes) number then t ∷ share_from nodes number (place + 1) ts else share_from nodes number (place + 1) ts
+
+-- the share is exactly these of all tasks, in their order
 abbrev pub IsShare : List (List Decision) → ℕ → ℕ → List (List Decision) → Type 0
-IsShare tasks nodes number share = (k : ℕ) (d : List Decision) → k < length tasks → k % nodes ≡ number → Contains share (slice_index_or tasks k d)
+IsShare tasks nodes number share = share ≡ share_from nodes number 0 tasks
 
 -- # Their ends
 

@@ -1,5 +1,5 @@
 -- Nodes, their collectors and their crews, by place.
-use Rattle.std.specs.Prelude.{◌≡◌, ◌<◌, ◌+◌, ℕ, Bool, List, length, slice_index_or, Option, IfSome}
+use Rattle.std.specs.Prelude.{◌≡◌, ◌<◌, ◌+◌, ℕ, Bool, List, All, length, slice_index_or, Option, IfSome}
 use Rattle.logbook.specs.Pages.{Book}
 use Rattle.aud_event.specs.Meanings.{PlanOf}
 use Rattle.aud_know.specs.Known.{KnowledgeOf}
@@ -15,9 +15,10 @@ pub record CollectorOf : Type 0 where
   pub pass : PassOf
   pub failed : Bool
 
--- of a crew: its passes, the join of what it posted, and whether memory was refused to it
+-- of a crew: its passes, how many senders it has, the join of what it posted, and whether memory was refused to it
 pub record CrewOf : Type 0 where
   pub passes : List PassOf
+  pub senders : ℕ
   pub taken : Option KnowledgeOf
   pub failed : Bool
 
@@ -52,6 +53,22 @@ IsSameSeat p q = (q.number ≡ p.number) × (q.seat ≡ p.seat)
 -- the same passes later, whose views begin with the old ones
 abbrev pub AreLater : List PassOf → List PassOf → Type 0
 AreLater old new = AreMatched GoesFurther old new
+
+-- the same crew with so many senders
+abbrev pub with_senders : ℕ → CrewOf → CrewOf
+with_senders n c = record { passes = c.passes; senders = n; taken = c.taken; failed = c.failed }
+
+-- the same crew, of so many, which has as many senders as there are others
+abbrev pub IsConnected : ℕ → CrewOf → CrewOf → Type 0
+IsConnected count old new = (new.senders + 1 ≡ count) × (new ≡ with_senders new.senders old)
+
+-- the same crews, each with as many senders as there are others
+abbrev pub AreConnected : List CrewOf → List CrewOf → Type 0
+AreConnected old new = AreMatched (IsConnected (length old)) old new
+
+-- no crew has a sender
+abbrev pub AreClosed : List CrewOf → Type 0
+AreClosed crews = All (λ c. c.senders ≡ 0) crews
 
 -- what was taken, if anything was, is of the plan
 abbrev pub IsTakenOf : PlanOf → Option KnowledgeOf → Type 0

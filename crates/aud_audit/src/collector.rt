@@ -70,6 +70,7 @@ impl<J: Fleet> Collector<J> {
         requires plan { facts.now.plan ≡ node.now.plan }
         requires some { 0 < nodes }
         ensures seat { IsSameSeat self.old.pass self.new.pass }
+        ensures failed { self.new.failed ≡ false → self.old.failed ≡ false }
         ensures offered { self.new.failed ≡ false → HasOffered facts.now nodes node.now.number self.old.pass self.new.pass }
     {
         if offer_share(rt, alloc, node, &mut self.pass, facts, nodes).is_err() {
@@ -86,7 +87,8 @@ impl<J: Fleet> Collector<J> {
         inbox: &Receiver<Packet>,
     )
         requires at { IsAt node.now self.old.pass }
-        ensures { IsSameSeat self.old.pass self.new.pass }
+        ensures seat { IsSameSeat self.old.pass self.new.pass }
+        ensures failed { self.new.failed ≡ false → self.old.failed ≡ false }
     {
         if receive_all(rt, alloc, inbox, node, &mut self.pass).is_err() {
             self.failed = true;

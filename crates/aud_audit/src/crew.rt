@@ -8,7 +8,7 @@ ghost use Rattle.aud_gossip.specs.Deltas.{joined};
 ghost use Rattle.aud_gossip.specs.Receiving.{GoesFurther};
 ghost use Rattle.aud_order.specs.Shapes.{plan_of};
 ghost use Rattle.aud_audit.specs.Doings.{HasPosted};
-ghost use Rattle.aud_audit.specs.Seats.{AreLater, IsCrewAt, IsTakenOf};
+ghost use Rattle.aud_audit.specs.Seats.{AreLater, IsCrewAt, IsTakenOf, with_senders};
 ghost use Rattle.aud_audit.specs.Searches.{IsShare, ShareHasEnded};
 
 use aud_event::{Dup, OutOfMemory};
@@ -40,10 +40,10 @@ impl<J: Fleet> Model for Crew<J> {
 
     ghost Value = { CrewOf };
 
-    ghost view = { λ c. record { passes = c.passes.items; taken = c.outbox.taken; failed = c.failed } };
+    ghost view = { λ c. record { passes = c.passes.items; senders = c.outbox.senders; taken = c.outbox.taken; failed = c.failed } };
 }
 
-/// The tasks whose number, divided by the number of nodes, leaves the node's.
+/// The tasks whose place, divided by the number of nodes, leaves the node's number.
 fn share_of(
     alloc: Global,
     tasks: &[Prefix],
@@ -140,7 +140,7 @@ impl<J: Fleet> Crew<J> {
     /// Posts to these from now on.
     pub(crate) fn reopen(&mut self, senders: Vec<Sender<Packet>>)
         requires { vec_len senders ≤ 64 }
-        ensures { self.new ≡ self.old }
+        ensures { self.new ≡ with_senders (vec_len senders) self.old }
     {
         self.outbox.reopen(senders);
     }
@@ -157,6 +157,7 @@ impl<J: Fleet> Crew<J> {
         ensures later { AreLater self.old.passes self.new.passes }
         ensures failed { self.new.failed ≡ false → self.old.failed ≡ false }
         ensures posted { self.new.failed ≡ false → HasPosted node.now.plan self.old self.new }
+        ensures closed { self.new.senders ≡ 0 }
     {
         let posted = post_from(rt, node, &mut self.passes[0], &mut self.outbox);
         self.failed = self.failed || posted.is_err();
@@ -187,6 +188,8 @@ impl<J: Fleet + Send + Sync> Crew<J> {
         requires planned { plan_of search.now.shape.value ≡ node.now.plan }
         ensures crew { IsCrewAt node.now self.new }
         ensures ended { self.new.failed ≡ false → ShareHasEnded search.now nodes node.now.number self.new.passes }
+        ensures failed { self.new.failed ≡ false → self.old.failed ≡ false }
+        ensures closed { self.new.senders ≡ 0 }
     {
         let passes = replace(&mut self.passes, Vec::new(alloc));
         let (passes, ended) = search_share(rt, alloc, node, passes, search, shared, gate, nodes);

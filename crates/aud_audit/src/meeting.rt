@@ -1,10 +1,10 @@
 //! What all nodes do at once: they offer what they were given, tell each other, and search.
 
-ghost use Rattle.std.specs.Prelude.{◌≡◌, ◌≤◌, ◌<◌, false, IfOk, OnOk, IsTrue, length, vec_len};
+ghost use Rattle.std.specs.Prelude.{◌≡◌, ◌≤◌, ◌<◌, ◌+◌, false, IfOk, OnOk, IsTrue, length, vec_len};
 ghost use Rattle.std.specs.List.{HoldsAt};
 ghost use Rattle.aud_order.specs.Shapes.{plan_of};
 ghost use Rattle.aud_audit.specs.Doings.{AreDone};
-ghost use Rattle.aud_audit.specs.Seats.{AreOf, AreCrews, AreCollectors, IsCrewAt, IsCollectorAt};
+ghost use Rattle.aud_audit.specs.Seats.{AreClosed, AreConnected, AreOf, AreCrews, AreCollectors, IsCrewAt, IsCollectorAt};
 ghost use Rattle.aud_audit.specs.Searches.{HaveEnded, SearchHasEnded, CrewsHaveEnded, ShareHasEnded};
 ghost use Rattle.aud_audit.specs.Meshes.{IsMesh, IsMeshFor};
 
@@ -45,20 +45,31 @@ fn channels(
     Ok((senders, inboxes))
 }
 
+/// Puts a sender to the same node as each of these after the others.
+fn push_clones(
+    others: &mut Vec<Sender<Packet>>,
+    senders: &[Sender<Packet>],
+) -> Result<(), OutOfMemory>
+    ensures { OnOk result (length others.new.items ≡ length others.old.items + length senders.now) }
+{
+    for sender in senders {
+        others.push(sender.clone()?)?;
+    }
+    Ok(())
+}
+
 /// Senders to all nodes but the one at the place.
 fn senders_but(
     alloc: Global,
     senders: &[Sender<Packet>],
     but: usize,
 ) -> Result<Vec<Sender<Packet>>, OutOfMemory>
-    ensures { IfOk result (λ others. vec_len others ≤ length senders.now) }
+    requires { but < length senders.now }
+    ensures { IfOk result (λ others. vec_len others + 1 ≡ length senders.now) }
 {
     let mut others = Vec::new(alloc);
-    for place in 0..senders.len() {
-        if place != but {
-            others.push(senders[place].clone()?)?;
-        }
-    }
+    push_clones(&mut others, &senders[..but])?;
+    push_clones(&mut others, &senders[but + 1..])?;
     Ok(others)
 }
 
@@ -68,7 +79,7 @@ fn connect<J: Fleet>(
     crews: &mut [Crew<J>],
 ) -> Result<Vec<Receiver<Packet>>, OutOfMemory>
     requires few { length crews.old ≤ 8 }
-    ensures crews { crews.new ≡ crews.old }
+    ensures connected { OnOk result (AreConnected crews.old crews.new) }
     ensures inboxes { IfOk result (λ inboxes. length inboxes.items ≡ length crews.old) }
 {
     let (senders, inboxes) = channels(alloc, crews.len())?;
@@ -107,11 +118,12 @@ fn post_all<J: Fleet + Send + Sync, S: Wait + Drop + Send, R: Threads + Wait + S
     crews: &mut [Crew<J>],
 )
     requires { AreCrews nodes.now crews.old }
-    ensures { AreCrews nodes.now crews.new }
+    ensures crews { AreCrews nodes.now crews.new }
+    ensures closed { AreClosed crews.new }
 {
     let each = |place: usize, crew: &mut Crew<J>|
         requires { (place < length nodes.now) × HoldsAt (λ n. IsCrewAt n crew.now) nodes.now place }
-        ensures { HoldsAt (λ n. IsCrewAt n crew.exit.now) nodes.entry.now place }
+        ensures { HoldsAt (λ n. IsCrewAt n crew.exit.now) nodes.entry.now place × (crew.exit.now.senders ≡ 0) }
     { crew.post_news(rt, alloc, &nodes[place]) };
     thread::for_each_mut(rt, crews, NODES_MAX, &each);
 }
@@ -157,12 +169,14 @@ fn search_each<
     requires planned { AreOf (plan_of search.now.shape.value) nodes.now }
     ensures crews { AreCrews nodes.now crews.new }
     ensures ended { CrewsHaveEnded search.now nodes.now crews.new }
+    ensures closed { AreClosed crews.new }
 {
     let each = |place: usize, crew: &mut Crew<J>|
         requires { (place < length nodes.now) × (search.now.shape.value ≡ H.shape) × AreOf (plan_of search.now.shape.value) nodes.now
             × HoldsAt (λ n. IsCrewAt n crew.now) nodes.now place }
         ensures { HoldsAt (λ n. IsCrewAt n crew.exit.now × (crew.exit.now.failed ≡ false →
-            ShareHasEnded search.entry.now (length nodes.entry.now) n.number crew.exit.now.passes)) nodes.entry.now place }
+            ShareHasEnded search.entry.now (length nodes.entry.now) n.number crew.exit.now.passes)) nodes.entry.now place
+            × (crew.exit.now.senders ≡ 0) }
     { crew.search(rt, alloc, &nodes[place], search, shared, gate, nodes.len()) };
     thread::for_each_mut(rt, crews, NODES_MAX, &each);
 }
@@ -205,7 +219,7 @@ impl<J: Fleet + Send + Sync, S: Wait + Drop + Send> Mesh<J, S> {
     /// Gives each crew senders to all other nodes, and answers where what they send comes out, by place.
     fn connect(&mut self, alloc: Global) -> Result<Vec<Receiver<Packet>>, OutOfMemory>
         requires { length self.old.crews.items ≤ 8 }
-        ensures crews { self.new.crews.items ≡ self.old.crews.items }
+        ensures connected { OnOk result (AreConnected self.old.crews.items self.new.crews.items) }
         ensures others { (self.new.nodes ≡ self.old.nodes) × (self.new.collectors ≡ self.old.collectors) }
         ensures inboxes { IfOk result (λ inboxes. length inboxes.items ≡ length self.old.crews.items) }
     {
@@ -216,12 +230,13 @@ impl<J: Fleet + Send + Sync, S: Wait + Drop + Send> Mesh<J, S> {
     fn post<R: Threads + Wait + Sync>(&mut self, rt: &R, alloc: Global)
         requires { AreCrews self.old.nodes.items self.old.crews.items }
         ensures crews { AreCrews self.new.nodes.items self.new.crews.items }
+        ensures closed { AreClosed self.new.crews.items }
         ensures others { (self.new.nodes ≡ self.old.nodes) × (self.new.collectors ≡ self.old.collectors) }
     {
         post_all(rt, alloc, &self.nodes, self.crews.as_mut_slice());
     }
 
-    /// Each node's collector takes in what comes to the node.
+    /// Each node's collector takes in what comes to the node, which ends since no crew has a sender any more.
     fn receive<R: Threads + Wait + Sync>(
         &mut self,
         rt: &R,
@@ -230,6 +245,7 @@ impl<J: Fleet + Send + Sync, S: Wait + Drop + Send> Mesh<J, S> {
     )
         requires collectors { AreCollectors self.old.nodes.items self.old.collectors.items }
         requires inboxes { length inboxes.now ≡ length self.old.nodes.items }
+        requires closed { AreClosed self.old.crews.items }
         ensures collectors { AreCollectors self.new.nodes.items self.new.collectors.items }
         ensures others { (self.new.nodes ≡ self.old.nodes) × (self.new.crews ≡ self.old.crews) }
     {
@@ -257,6 +273,7 @@ impl<J: Fleet + Send + Sync, S: Wait + Drop + Send> Mesh<J, S> {
         ensures crews { AreCrews self.new.nodes.items self.new.crews.items }
         ensures others { (self.new.nodes ≡ self.old.nodes) × (self.new.collectors ≡ self.old.collectors) }
         ensures ended { CrewsHaveEnded search.now self.new.nodes.items self.new.crews.items }
+        ensures closed { AreClosed self.new.crews.items }
     {
         search_each(
             rt,

@@ -14,7 +14,7 @@ use crate::closing::known_by_all;
 use crate::fault::AuditFault;
 use crate::mesh::{Mesh, open_all, start_all};
 use crate::room::with_room;
-use aud_cli::{AuditJob, Cause, Ended, Input, InputFault, end_of, take_input};
+use aud_cli::{AuditJob, Cause, Ended, Input, end_of, refuse_input, take_input};
 use aud_event::OutOfMemory;
 use aud_facts::Facts;
 use aud_findings::{Findings, Search, conclude, search_of};
@@ -265,9 +265,7 @@ fn audit_text<G: Gate<Prefix> + Sync, R: Threads + Wait + Sync>(
 {
     match take_input(alloc, text) {
         Ok(input) => audit_input(rt, alloc, job, gate, input),
-        Err(InputFault::Plan(refused)) => Ok(Said::PlanRefused(refused)),
-        Err(InputFault::Record(line, fault)) => Ok(Said::RecordRefused(line, fault)),
-        Err(InputFault::OutOfMemory) => Err(AuditFault::OutOfMemory),
+        Err(fault) => Ok(refuse_input(fault)?),
     }
 }
 

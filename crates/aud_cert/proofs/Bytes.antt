@@ -12,7 +12,7 @@ use Rattle.aud_witness.specs.declared.decision.Fate.TheVariants.{C, A}
 use Rattle.aud_witness.specs.declared.decision.Decision.{Decision}
 use Rattle.aud_text.specs.Orders.{order_text, decision_text, fate_letter}
 use Rattle.aud_text.proofs.OrderText.{join-more}
-use Rattle.aud_event.specs.Limits.{most_transactions}
+use Rattle.aud_cert.specs.Written.{Low}
 
 -- no quotation mark, no backslash, no control and ASCII
 pub record IsPlainByte (b : ℕ) : Type 0 where
@@ -46,14 +46,11 @@ letter-plain : (f : Fate) → IsPlainByte (fate_letter f)
 letter-plain C = plain-byte 99 (omega arith) (omega arith) (λ e. omega (arith, e)) (λ e. omega (arith, e))
 letter-plain A = plain-byte 97 (omega arith) (omega arith) (λ e. omega (arith, e)) (λ e. omega (arith, e))
 
-pub decision-plain : (d : Decision) → d.tx < most_transactions → ArePlain (decision_text d)
+pub decision-plain : (d : Decision) → Low d → ArePlain (decision_text d)
 decision-plain d h = All-push IsPlainByte (decimal d.tx) (fate_letter d.fate) (decimal-plain d.tx (omega arith)) (letter-plain d.fate)
 
 space-plain : IsPlainByte 32
 space-plain = plain-byte 32 (omega arith) (omega arith) (λ e. omega (arith, e)) (λ e. omega (arith, e))
-
-abbrev Low : Decision → Type 0
-Low d = d.tx < most_transactions
 
 more-plain : (ds : List Decision) → All Low ds → ArePlain (flat_map (λ e. 32 ∷ decision_text e) ds)
 more-plain [] h = All-nil IsPlainByte

@@ -20,13 +20,11 @@ use Rattle.aud_text.proofs.OrderText.{join-more}
 use Rattle.aud_accept.specs.declared.cert.CertLine.{CertLine}
 use Rattle.aud_accept.specs.declared.cert.CertLine.TheVariants.{Kids, Silent, Same, Ahead, First}
 use Rattle.aud_accept.specs.Acceptance.{prefix_in, IsAcceptedLine, AreAccepted}
-use Rattle.aud_cert.specs.Written.{prefix_text, IsShort, IsWithin}
+use Rattle.aud_cert.specs.Written.{prefix_text, decided_text, IsShort, IsWithin, Low}
 use Rattle.aud_cert.specs.Laws.{AcceptedReadsBack}
+use Rattle.aud_cert.specs.Limits.{longest_cert_line}
 use Rattle.aud_cert.proofs.Back.{certificates-read-back}
 use Rattle.aud_event.specs.Limits.{most_transactions}
-
-abbrev Low : Decision → Type 0
-Low d = d.tx < most_transactions
 
 -- # How long texts are
 
@@ -77,17 +75,21 @@ HasSmall (Same p q) = IsSmall p × IsSmall q
 HasSmall (Ahead p) = IsSmall p
 HasSmall (First p d) = IsSmall p × Low d
 
+orders-small : (p : List Decision) (d : Decision) → IsSmall p → Low d → IsShort p × IsShort (d ∷ [])
+orders-small p d small low = (short-from_small p small, short-from_small (d ∷ []) (small-one d low))
+
+-- a line of a short word with a decision
+decided-length : (word : List ℕ) (p : List Decision) (d : Decision) → length word ≤ 6 → IsSmall p → Low d → length (decided_text word p d) ≤ longest_cert_line
+decided-length word p d small-word small low =
+    let here = decision-length d low in
+    let end = prefix-length p small in
+    omega (arith, small-word, here, end, length-append word (codes "\",\"d\":\"" ++ (decision_text d ++ prefix_text p)), length-append (decision_text d) (prefix_text p))
+
 within-small : {X : Type 0} (line : CertLine X) → HasSmall line → IsWithin line
 within-small (Kids p) small =
     let end = prefix-length p small in
     record { orders = short-from_small p small; text = omega (arith, end) }
-within-small (Silent p d) (small, low) =
-    let word = decision-length d low in
-    let end = prefix-length p small in
-    record {
-      orders = (short-from_small p small, short-from_small (d ∷ []) (small-one d low));
-      text = omega (arith, word, end, length-append (decision_text d) (prefix_text p));
-    }
+within-small (Silent p d) (small, low) = record { orders = orders-small p d small low; text = decided-length (codes "silent") p d (omega arith) small low }
 within-small (Same p q) (small, other) =
     let long = other.text in
     let end = prefix-length p small in
@@ -98,13 +100,7 @@ within-small (Same p q) (small, other) =
 within-small (Ahead p) small =
     let end = prefix-length p small in
     record { orders = short-from_small p small; text = omega (arith, end) }
-within-small (First p d) (small, low) =
-    let word = decision-length d low in
-    let end = prefix-length p small in
-    record {
-      orders = (short-from_small p small, short-from_small (d ∷ []) (small-one d low));
-      text = omega (arith, word, end, length-append (decision_text d) (prefix_text p));
-    }
+within-small (First p d) (small, low) = record { orders = orders-small p d small low; text = decided-length (codes "first") p d (omega arith) small low }
 
 -- # How many transactions there are
 

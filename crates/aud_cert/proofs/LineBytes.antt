@@ -7,12 +7,12 @@ use Rattle.std.proofs.lemmas.Str.Ascii.{IsAscii-from_all}
 use Rattle.std.proofs.lemmas.List.Elements.{All-head, All-tail, All-cons, All-nil}
 use Rattle.aud_witness.specs.declared.decision.Decision.{Decision}
 use Rattle.aud_text.specs.Lines.{lines_of}
-use Rattle.aud_text.specs.Orders.{order_text}
+use Rattle.aud_text.specs.Orders.{order_text, decision_text}
 use Rattle.aud_accept.specs.declared.cert.CertLine.TheVariants.{Kids, Silent, Same, Ahead, First}
 use Rattle.aud_accept.specs.declared.cert.Rules.{Rules}
 use Rattle.aud_accept.specs.declared.cert.Rules.TheVariants as rules
 use Rattle.aud_cert.specs.LineText.{Line}
-use Rattle.aud_cert.specs.Written.{line_text, rules_text, header_text, IsShort, HasShort}
+use Rattle.aud_cert.specs.Written.{prefix_text, line_text, rules_text, header_text, IsShort, HasShort}
 use Rattle.aud_cert.proofs.Bytes.{IsPlainByte, ArePlain, decimal-plain, order-plain}
 use Rattle.aud_base.proofs.Bools.{and_true}
 
@@ -42,18 +42,18 @@ order-are_text p short = plain-are_text (order_text p) (order-plain p short.ids)
 between : (before after : List ℕ) (p : List Decision) → IsShort p → are_text before ≡ true → are_text after ≡ true → are_text (before ++ (order_text p ++ after)) ≡ true
 between before after p short first last = are-both before (order_text p ++ after) first (are-both (order_text p) after (order-are_text p short) last)
 
+decided-are_text : (before : List ℕ) (p : List Decision) (d : Decision) → are_text before ≡ true → IsShort p × IsShort (d ∷ []) → are_text (before ++ (decision_text d ++ prefix_text p)) ≡ true
+decided-are_text before p d first short =
+    between before (prefix_text p) (d ∷ []) short.1 first (between (codes "\",\"p\":\"") (codes "\"}") p short.0 refl refl)
+
 pub line-are_text : (line : Line) → HasShort line → are_text (line_text line) ≡ true
 line-are_text (Kids p) short = between (codes "{\"by\":\"kids\",\"p\":\"") (codes "\"}") p short refl refl
-line-are_text (Silent p d) short =
-    between (codes "{\"by\":\"silent\",\"d\":\"") (codes "\",\"p\":\"" ++ (order_text p ++ codes "\"}")) (d ∷ []) short.1 refl
-    (between (codes "\",\"p\":\"") (codes "\"}") p short.0 refl refl)
+line-are_text (Silent p d) short = decided-are_text (codes "{\"by\":\"silent\",\"d\":\"") p d refl short
 line-are_text (Same p q) short =
     between (codes "{\"as\":\"") (codes "\",\"by\":\"same\",\"p\":\"" ++ (order_text p ++ codes "\"}")) q short.1 refl
     (between (codes "\",\"by\":\"same\",\"p\":\"") (codes "\"}") p short.0 refl refl)
 line-are_text (Ahead p) short = between (codes "{\"by\":\"ahead\",\"p\":\"") (codes "\"}") p short refl refl
-line-are_text (First p d) short =
-    between (codes "{\"by\":\"first\",\"d\":\"") (codes "\",\"p\":\"" ++ (order_text p ++ codes "\"}")) (d ∷ []) short.1 refl
-    (between (codes "\",\"p\":\"") (codes "\"}") p short.0 refl refl)
+line-are_text (First p d) short = decided-are_text (codes "{\"by\":\"first\",\"d\":\"") p d refl short
 
 end-are_text : (r : Rules) → are_text (rules_text r) ≡ true
 end-are_text rules.One = refl

@@ -1,5 +1,5 @@
 -- Lists of decisions that are read one after the other.
-use Rattle.std.proofs.Common.{◌≡◌, ◌<◌, ◌+◌, ◌*◌, ◌/◌, ◌%◌, ℕ, List, [], ◌∷◌, ◌++◌, length, decimal, flat_map, append_assoc, ap, subst, sym, ◌∙◌, arith}
+use Rattle.std.proofs.Common.{◌≡◌, ◌<◌, ◌+◌, ◌*◌, ◌/◌, ◌%◌, ℕ, List, [], ◌∷◌, ◌++◌, length, Some, decimal, flat_map, append_assoc, ap, subst, sym, ◌∙◌, arith}
 use Rattle.std.specs.List.{All}
 use Rattle.std.proofs.lemmas.Fmt.{decimal_digit, decimal_step}
 use Rattle.std.proofs.lemmas.Grind.{flat_map-append}
@@ -8,6 +8,8 @@ use Rattle.std.proofs.lemmas.List.Elements.{All-push}
 use Rattle.aud_witness.specs.declared.decision.Decision.{Decision}
 use Rattle.aud_text.specs.Orders.{order_text, decision_text}
 use Rattle.aud_text.proofs.OrderText.{join-more}
+use Rattle.aud_cert.specs.LineText.{only_of}
+use Rattle.aud_cert.specs.Written.{Low}
 use Rattle.aud_event.specs.Limits.{most_transactions}
 
 -- a digit by itself
@@ -21,6 +23,12 @@ digit-more text rest more n d some low digit is next =
     let last : (n * 10 + d) % 10 ≡ d = omega arith in
     let step : decimal (n * 10 + d) ≡ decimal n ++ (48 + d) ∷ [] = decimal_step (n * 10 + d) (omega arith) (omega arith) ∙ (λ i. decimal (front i) ++ (48 + last i) ∷ []) in
     is ∙ ap (λ t. decimal n ++ t) next ∙ sym (append_assoc (decimal n) ((48 + d) ∷ []) more) ∙ ap (λ t. t ++ more) (sym step)
+
+-- a list of one
+pub only-is : (ds : List Decision) (d : Decision) → only_of ds ≡ Some d → ds ≡ d ∷ []
+only-is [] d is = absurd (cc)
+only-is (e ∷ []) d is = let same : e ≡ d = cc in ap (λ x. x ∷ []) same
+only-is (e ∷ f ∷ ds) d is = absurd (cc)
 
 -- a decision after others
 order-grows : (ds : List Decision) (d : Decision) → 0 < length ds → order_text (ds ++ d ∷ []) ≡ order_text ds ++ 32 ∷ decision_text d
@@ -37,5 +45,5 @@ order-more text rest more ds new d some grown is next =
     is ∙ ap (λ t. order_text ds ++ t) next ∙ sym (append_assoc (order_text ds) (32 ∷ decision_text d) more)
     ∙ ap (λ t. t ++ more) (sym (order-grows ds d some) ∙ ap order_text (sym grown))
 
-pub low-more : (ds new : List Decision) (d : Decision) → new ≡ ds ++ d ∷ [] → All (λ e. e.tx < most_transactions) ds → d.tx < most_transactions → All (λ e. e.tx < most_transactions) new
-low-more ds new d grown low small = subst (All (λ e. e.tx < most_transactions)) (sym grown) (All-push (λ e. e.tx < most_transactions) ds d low small)
+pub low-more : (ds new : List Decision) (d : Decision) → new ≡ ds ++ d ∷ [] → All Low ds → Low d → All Low new
+low-more ds new d grown low small = subst (All Low) (sym grown) (All-push Low ds d low small)

@@ -69,8 +69,8 @@ abbrev pub OrderText : Type 0
 OrderText = Option (Result (List Decision) TextFault)
 
 -- what an order text at the key says, where a text stands there
-abbrev pub order_at : Key → Data → OrderText
-order_at k d = option_map order_read (word_at k d)
+abbrev pub order_at_key : Key → Data → OrderText
+order_at_key k d = option_map order_read (word_at k d)
 
 abbrev pub is_long : OrderText → Bool
 is_long (Some (Err fault.TooLong)) = true
@@ -134,7 +134,7 @@ line_by e ms reason p d q = line_unless (fault_of e ms reason p d q) (line_of re
 
 abbrev pub line_members : Rules → Data → Option Members → Result Line TextFault
 line_members r e None = Err fault.NotObject
-line_members r e (Some ms) = line_by e ms (reason_at r e) (order_at (codes "p") e) (order_at (codes "d") e) (order_at (codes "as") e)
+line_members r e (Some ms) = line_by e ms (reason_at r e) (order_at_key (codes "p") e) (order_at_key (codes "d") e) (order_at_key (codes "as") e)
 
 abbrev pub line_judged : Rules → Data → Result Line TextFault
 line_judged r e = line_members r e (as_object e)

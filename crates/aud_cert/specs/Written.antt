@@ -1,15 +1,14 @@
 -- The text that is written of a certificate.
-use Rattle.std.specs.Prelude.{ℕ, ◌≡◌, ◌<◌, ◌≤◌, ◌^◌, Ok, List, [], ◌∷◌, ◌++◌, All, flat_map, length, codes, decimal}
+use Rattle.std.specs.Prelude.{ℕ, ◌≡◌, ◌<◌, ◌≤◌, ◌^◌, Ok, List, [], ◌∷◌, ◌++◌, All, flat_map, map, length, codes, decimal}
 use Rattle.aud_witness.specs.declared.decision.Decision.{Decision}
 use Rattle.aud_event.specs.Limits.{most_transactions}
 use Rattle.aud_text.specs.Orders.{order_text, decision_text}
-use Rattle.aud_cert.specs.LineText.{Line}
 use Rattle.aud_cert.specs.CertText.{cert_read, rules_read}
 use Rattle.aud_accept.specs.declared.cert.CertLine.{CertLine}
 use Rattle.aud_accept.specs.declared.cert.CertLine.TheVariants.{Kids, Silent, Same, Ahead, First}
 use Rattle.aud_accept.specs.declared.cert.Rules.{Rules}
 use Rattle.aud_accept.specs.declared.cert.Rules.TheVariants as rules
-use Rattle.aud_accept.specs.Acceptance.{IsOf}
+use Rattle.aud_accept.specs.Acceptance.{elsewhere, IsOf}
 use Rattle.aud_cert.specs.Limits.{longest_cert_line}
 use Rattle.aud_text.specs.Limits.{longest_order}
 
@@ -17,28 +16,22 @@ use Rattle.aud_text.specs.Limits.{longest_order}
 abbrev pub prefix_text : List Decision → List ℕ
 prefix_text p = codes "\",\"p\":\"" ++ (order_text p ++ codes "\"}")
 
--- lines without their line feeds, their keys in the order of their bytes
-abbrev pub kids_text : List Decision → List ℕ
-kids_text p = codes "{\"by\":\"kids" ++ prefix_text p
+-- lines without their line feeds, their keys in the order of their bytes: of a word alone, of a word with a decision, and of another prefix
+abbrev pub alone_text : List ℕ → List Decision → List ℕ
+alone_text word p = codes "{\"by\":\"" ++ (word ++ prefix_text p)
 
-abbrev pub silent_text : List Decision → Decision → List ℕ
-silent_text p d = codes "{\"by\":\"silent\",\"d\":\"" ++ (decision_text d ++ prefix_text p)
+abbrev pub decided_text : List ℕ → List Decision → Decision → List ℕ
+decided_text word p d = codes "{\"by\":\"" ++ (word ++ (codes "\",\"d\":\"" ++ (decision_text d ++ prefix_text p)))
 
 abbrev pub same_text : List Decision → List Decision → List ℕ
 same_text p q = codes "{\"as\":\"" ++ (order_text q ++ (codes "\",\"by\":\"same" ++ prefix_text p))
 
-abbrev pub ahead_text : List Decision → List ℕ
-ahead_text p = codes "{\"by\":\"ahead" ++ prefix_text p
-
-abbrev pub first_text : List Decision → Decision → List ℕ
-first_text p d = codes "{\"by\":\"first\",\"d\":\"" ++ (decision_text d ++ prefix_text p)
-
 abbrev pub line_text : {X : Type 0} → CertLine X → List ℕ
-line_text (Kids p) = kids_text p
-line_text (Silent p d) = silent_text p d
+line_text (Kids p) = alone_text (codes "kids") p
+line_text (Silent p d) = decided_text (codes "silent") p d
 line_text (Same p q) = same_text p q
-line_text (Ahead p) = ahead_text p
-line_text (First p d) = first_text p d
+line_text (Ahead p) = alone_text (codes "ahead") p
+line_text (First p d) = decided_text (codes "first") p d
 
 -- how the header ends: the first rules are not named
 abbrev pub rules_text : Rules → List ℕ
@@ -57,9 +50,13 @@ cert_text r lines = ended (header_text r (length lines)) ++ flat_map (λ l. ende
 
 -- ---- the limits
 
--- each id is below 4,096, and the order text is not too long
+-- the id is in range
+abbrev pub Low : Decision → Type 0
+Low d = d.tx < most_transactions
+
+-- each id is in range, and the order text is not too long
 pub record IsShort (p : List Decision) : Type 0 where
-  pub ids : All (λ d. d.tx < most_transactions) p
+  pub ids : All Low p
   pub text : length (order_text p) ≤ longest_order
 
 abbrev pub HasShort : {X : Type 0} → CertLine X → Type 0
@@ -75,5 +72,5 @@ pub record IsWithin {X : Type 0} (line : CertLine X) : Type 0 where
   pub text : length (line_text line) ≤ longest_cert_line
 
 -- a text reads as the lines by the rules, where each of them is within the limits and of those rules
-abbrev pub ReadsBack : Rules → List Line → List ℕ → Type 0
-ReadsBack r lines text = All IsWithin lines → All (IsOf r) lines → length lines < 2 ^ 63 → (cert_read text ≡ Ok lines) × (rules_read text ≡ r)
+abbrev pub ReadsBack : {X : Type 0} → Rules → List (CertLine X) → List ℕ → Type 0
+ReadsBack r lines text = All IsWithin lines → All (IsOf r) lines → length lines < 2 ^ 63 → (cert_read text ≡ Ok (map elsewhere lines)) × (rules_read text ≡ r)

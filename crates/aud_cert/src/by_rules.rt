@@ -8,20 +8,10 @@ ghost use Rattle.aud_cert.specs.Certified.{IsCertified};
 
 use crate::finding_lines::find_lines;
 use crate::making::make_cert;
-use aud_accept::{Cert, CertLine, Lookout, Rules, check_cert};
+use aud_accept::{Cert, Rules, check_cert};
 use aud_event::OutOfMemory;
-use aud_order::{Cursor, Shape};
+use aud_order::Shape;
 use std::alloc::Allocator;
-
-/// Lines that a short search by the rules finds, if it does.
-fn lines_of<A: Allocator + Copy>(
-    alloc: A,
-    shape: &Shape<A>,
-) -> Result<Option<Vec<CertLine<A>, A>>, OutOfMemory> {
-    let mut cursor = Cursor::root(alloc, shape)?;
-    let mut lookout = Lookout::new(alloc, shape);
-    find_lines(alloc, shape, &mut cursor, &mut lookout)
-}
 
 /// An accepted certificate by the second rules of a history that no order shows.
 ///
@@ -35,7 +25,7 @@ pub fn cert_by_rules<A: Allocator + Copy>(
     requires { Opaque (objects_of shape.now) (history_of shape.now) → ⊥ }
     ensures { IfOk result (λ cert. IsCertified RulesOf.Two shape.now (Some cert)) }
 {
-    if let Some(lines) = lines_of(alloc, shape)? {
+    if let Some(lines) = find_lines(alloc, shape)? {
         let cert = Cert {
             rules: Rules::Two,
             lines,

@@ -1,13 +1,12 @@
 //! Lines that may certify a history by the second rules. Nothing is promised of them: the checker judges what comes of it.
 
-ghost use Rattle.std.specs.Prelude.{◌≡◌, OnOk};
-
 use aud_accept::{CertLine, Lookout};
 use aud_event::OutOfMemory;
 use aud_order::{Cursor, Shape};
 use aud_witness::{Decision, Fate, Prefix};
 use std::alloc::Allocator;
 use std::collections::BTreeMap;
+use std::marker::Model;
 
 /// How many lists are gone to before the search for lines gives up.
 const MOST_STEPS: u32 = 1 << 16;
@@ -130,112 +129,11 @@ fn silent_in<A: Allocator + Copy>(shape: &Shape<A>, kids: &[Decision]) -> Option
     None
 }
 
-/// The first of the decisions that is seen to be enough.
-fn enough_in<A: Allocator + Copy>(
-    shape: &Shape<A>,
-    cursor: &Cursor<A>,
-    lookout: &mut Lookout<A>,
-    kids: &[Decision],
-) -> Result<Option<Decision>, OutOfMemory>
-    requires cursor { cursor.now.shape ≡ shape.now }
-    requires lookout { lookout.old ≡ shape.now }
-    ensures lookout { lookout.new ≡ lookout.old }
-{
-    let table = shape.table();
-    for kid in kids {
-        if kid.fate == Fate::A {
-            continue;
-        }
-        if let Some(place) = table.place(kid.tx) {
-            if place < table.rows().len() && lookout.is_enough(cursor, place)? {
-                return Ok(Some(*kid));
-            }
-        }
-    }
-    Ok(None)
-}
-
-/// What is to be tried after the cursor's list.
-fn open_at<A: Allocator + Copy>(
-    alloc: A,
-    shape: &Shape<A>,
-    cursor: &mut Cursor<A>,
-    lookout: &mut Lookout<A>,
-) -> Result<Open<A>, OutOfMemory>
-    requires cursor { cursor.old.shape ≡ shape.now }
-    requires lookout { lookout.old ≡ shape.now }
-    ensures cursor { OnOk result (cursor.new.shape ≡ shape.now) }
-    ensures lookout { lookout.new ≡ lookout.old }
-{
-    let left = cursor.kids(alloc)?;
-    if let Some(decision) = silent_in(shape, &left) {
-        return only(alloc, decision, Because::Silent(decision));
-    }
-    if let Some(decision) = enough_in(shape, cursor, lookout, &left)? {
-        return only(alloc, decision, Because::First(decision));
-    }
-    Ok(Open {
-        left,
-        because: Because::Kids,
-    })
-}
-
-/// Whether the look ahead refutes the cursor's list, to which one of several choices led. Then it is noted.
-fn is_doomed<A: Allocator + Copy>(
-    shape: &Shape<A>,
-    cursor: &Cursor<A>,
-    lookout: &mut Lookout<A>,
-    because: Because,
-    notes: &mut Notes<A>,
-) -> Result<bool, OutOfMemory>
-    requires cursor { cursor.now.shape ≡ shape.now }
-    requires lookout { lookout.old ≡ shape.now }
-    ensures lookout { lookout.new ≡ lookout.old }
-{
-    match because {
-        Because::Silent(_) | Because::First(_) => return Ok(false),
-        Because::Kids => {}
-    }
-    if !lookout.sees_doom(cursor)? {
-        return Ok(false);
-    }
-    notes.note_ahead(cursor)?;
-    Ok(true)
-}
-
 /// The decision that is tried next after the last of the lists, and what refutes that.
 fn next_of<A: Allocator>(lists: &mut [Open<A>]) -> Option<(Option<Decision>, Because)> {
     let last = lists.last_mut()?;
     let because = last.because;
     Some((last.left.pop(), because))
-}
-
-/// Goes on by the decision. It answers whether the cursor's list is then still to be refuted; else the cursor comes back. None says that
-/// the list is full, and shows the history.
-fn go_on<A: Allocator + Copy>(
-    shape: &Shape<A>,
-    cursor: &mut Cursor<A>,
-    lookout: &mut Lookout<A>,
-    decision: Decision,
-    because: Because,
-    notes: &mut Notes<A>,
-) -> Result<Option<bool>, OutOfMemory>
-    requires cursor { cursor.old.shape ≡ shape.now }
-    requires lookout { lookout.old ≡ shape.now }
-    ensures cursor { OnOk result (cursor.new.shape ≡ shape.now) }
-    ensures lookout { lookout.new ≡ lookout.old }
-{
-    if !cursor.push(decision)?.is_good() {
-        return Ok(Some(false));
-    }
-    if cursor.full() {
-        return Ok(None);
-    }
-    if notes.note_known(cursor)? || is_doomed(shape, cursor, lookout, because, notes)? {
-        let _ = cursor.pop();
-        return Ok(Some(false));
-    }
-    Ok(Some(true))
 }
 
 /// What became of a step.
@@ -249,60 +147,156 @@ enum Step {
     Shown,
 }
 
-/// Tries the next decision after the last of the lists, or notes that this is refuted.
-fn take_step<A: Allocator + Copy>(
+/// A short search for lines, as far as it went: where it stands, what is seen there, the lines so far, and the lists that are to be refuted.
+#[derive(Drop)]
+struct Finder<'s, A: Allocator + Copy> {
     alloc: A,
-    shape: &Shape<A>,
-    cursor: &mut Cursor<A>,
-    lookout: &mut Lookout<A>,
-    lists: &mut Vec<Open<A>, A>,
-    notes: &mut Notes<A>,
-) -> Result<Step, OutOfMemory>
-    requires cursor { cursor.old.shape ≡ shape.now }
-    requires lookout { lookout.old ≡ shape.now }
-    ensures cursor { OnOk result (cursor.new.shape ≡ shape.now) }
-    ensures lookout { lookout.new ≡ lookout.old }
-{
-    let Some((next, because)) = next_of(lists) else {
-        return Ok(Step::Refuted);
-    };
-    let Some(decision) = next else {
-        notes.note(cursor, because)?;
-        let _ = lists.pop();
-        let _ = cursor.pop();
-        return Ok(Step::On);
-    };
-    match go_on(shape, cursor, lookout, decision, because, notes)? {
-        None => Ok(Step::Shown),
-        Some(false) => Ok(Step::On),
-        Some(true) => {
-            lists.push(open_at(alloc, shape, cursor, lookout)?)?;
-            Ok(Step::On)
+    shape: &'s Shape<A>,
+    cursor: Cursor<'s, A>,
+    lookout: Lookout<'s, A>,
+    notes: Notes<A>,
+    lists: Vec<Open<A>, A>,
+}
+
+impl<'s, A: Allocator + Copy> Model for Finder<'s, A> {
+    ghost use Rattle.std.specs.Prelude.{◌≡◌};
+    ghost use Rattle.aud_order.specs.Shapes.{ShapeOf};
+
+    ghost Value = { ShapeOf };
+
+    ghost view = { λ f. f.shape.now };
+
+    ghost invariant = { λ f. (f.cursor.shape ≡ f.shape.now) × (f.lookout ≡ f.shape.now) };
+}
+
+impl<'s, A: Allocator + Copy> Finder<'s, A> {
+    /// A search at the empty list, with no line.
+    fn new(alloc: A, shape: &'s Shape<A>) -> Result<Finder<'s, A>, OutOfMemory> {
+        let cursor = Cursor::root(alloc, shape)?;
+        Ok(Finder {
+            alloc,
+            shape,
+            cursor,
+            lookout: Lookout::new(alloc, shape),
+            notes: Notes::new(alloc),
+            lists: Vec::new(alloc),
+        })
+    }
+
+    /// Whether the decision commits a transaction, and is seen to be enough.
+    fn is_enough(&mut self, decision: Decision) -> Result<bool, OutOfMemory> {
+        if decision.fate == Fate::A {
+            return Ok(false);
+        }
+        let table = self.shape.table();
+        let Some(place) = table.place(decision.tx) else {
+            return Ok(false);
+        };
+        if place >= table.rows().len() {
+            return Ok(false);
+        }
+        self.lookout.is_enough(&self.cursor, place)
+    }
+
+    /// The first of the decisions that is seen to be enough.
+    fn enough_in(&mut self, kids: &[Decision]) -> Result<Option<Decision>, OutOfMemory> {
+        for kid in kids {
+            if self.is_enough(*kid)? {
+                return Ok(Some(*kid));
+            }
+        }
+        Ok(None)
+    }
+
+    /// What is to be tried after the cursor's list.
+    fn open(&mut self) -> Result<Open<A>, OutOfMemory> {
+        let left = self.cursor.kids(self.alloc)?;
+        if let Some(decision) = silent_in(self.shape, &left) {
+            return only(self.alloc, decision, Because::Silent(decision));
+        }
+        if let Some(decision) = self.enough_in(&left)? {
+            return only(self.alloc, decision, Because::First(decision));
+        }
+        Ok(Open {
+            left,
+            because: Because::Kids,
+        })
+    }
+
+    /// Whether the look ahead refutes the cursor's list, to which one of several choices led. Then it is noted.
+    fn is_doomed(&mut self, because: Because) -> Result<bool, OutOfMemory> {
+        match because {
+            Because::Silent(_) | Because::First(_) => return Ok(false),
+            Because::Kids => {}
+        }
+        if !self.lookout.sees_doom(&self.cursor)? {
+            return Ok(false);
+        }
+        self.notes.note_ahead(&self.cursor)?;
+        Ok(true)
+    }
+
+    /// Goes on by the decision. It answers whether the cursor's list is then still to be refuted; else the cursor comes back. None
+    /// says that the list is full, and shows the history.
+    fn go_on(&mut self, decision: Decision, because: Because) -> Result<Option<bool>, OutOfMemory> {
+        if !self.cursor.push(decision)?.is_good() {
+            return Ok(Some(false));
+        }
+        if self.cursor.full() {
+            return Ok(None);
+        }
+        if self.notes.note_known(&self.cursor)? || self.is_doomed(because)? {
+            let _ = self.cursor.pop();
+            return Ok(Some(false));
+        }
+        Ok(Some(true))
+    }
+
+    /// Tries the next decision after the last of the lists, or notes that this is refuted.
+    fn take_step(&mut self) -> Result<Step, OutOfMemory> {
+        let Some((next, because)) = next_of(&mut self.lists) else {
+            return Ok(Step::Refuted);
+        };
+        let Some(decision) = next else {
+            self.notes.note(&self.cursor, because)?;
+            let _ = self.lists.pop();
+            let _ = self.cursor.pop();
+            return Ok(Step::On);
+        };
+        match self.go_on(decision, because)? {
+            None => Ok(Step::Shown),
+            Some(false) => Ok(Step::On),
+            Some(true) => {
+                let open = self.open()?;
+                self.lists.push(open)?;
+                Ok(Step::On)
+            }
         }
     }
 }
 
-/// Lines that may certify the history by the second rules, if a short search finds some: it refutes the empty list, at which the cursor
-/// stands.
+/// The lines that it has.
+fn lines_of<A: Allocator + Copy>(finder: Finder<A>) -> Vec<CertLine<A>, A> {
+    let Finder { notes, .. } = finder;
+    let Notes { lines, .. } = notes;
+    lines
+}
+
+/// Lines that may certify the history by the second rules, if a short search finds some.
 pub(crate) fn find_lines<A: Allocator + Copy>(
     alloc: A,
     shape: &Shape<A>,
-    cursor: &mut Cursor<A>,
-    lookout: &mut Lookout<A>,
-) -> Result<Option<Vec<CertLine<A>, A>>, OutOfMemory>
-    requires cursor { cursor.old.shape ≡ shape.now }
-    requires lookout { lookout.old ≡ shape.now }
-{
-    let mut notes = Notes::new(alloc);
-    if is_doomed(shape, cursor, lookout, Because::Kids, &mut notes)? {
-        return Ok(Some(notes.lines));
+) -> Result<Option<Vec<CertLine<A>, A>>, OutOfMemory> {
+    let mut finder = Finder::new(alloc, shape)?;
+    if finder.is_doomed(Because::Kids)? {
+        return Ok(Some(lines_of(finder)));
     }
-    let mut lists = Vec::new(alloc);
-    lists.push(open_at(alloc, shape, cursor, lookout)?)?;
-    for step in 0..MOST_STEPS {
-        match take_step(alloc, shape, cursor, lookout, &mut lists, &mut notes)? {
+    let first = finder.open()?;
+    finder.lists.push(first)?;
+    for _ in 0..MOST_STEPS {
+        match finder.take_step()? {
             Step::On => {}
-            Step::Refuted => return Ok(Some(notes.lines)),
+            Step::Refuted => return Ok(Some(lines_of(finder))),
             Step::Shown => return Ok(None),
         }
     }

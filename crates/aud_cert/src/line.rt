@@ -3,7 +3,7 @@
 ghost use Rattle.std.specs.Prelude.{◌≡◌, ◌⊎◌, Ok, Err, codes, IfOk, MatchResult};
 ghost use Rattle.serde_json.specs.View.{view, members_view};
 ghost use Rattle.aud_accept.specs.Acceptance.{elsewhere};
-ghost use Rattle.aud_cert.specs.LineText.{order_at, is_long, is_out_of_range, is_one, all_texts, only_of, list_of, fault_with, line_of, line_judged, line_read};
+ghost use Rattle.aud_cert.specs.LineText.{order_at_key, is_long, is_out_of_range, is_one, all_texts, only_of, list_of, fault_with, line_of, line_judged, line_read};
 
 use crate::reason::{Reason, allowed_keys, reason_in, required_keys};
 use crate::spelled::line_spelled;
@@ -31,7 +31,7 @@ struct OrderTexts {
 }
 
 fn order_in(alloc: Global, value: &Value, key: &str) -> Result<OrderText, OutOfMemory>
-    ensures { IfOk result (λ text. text ≡ order_at key.now (view value.now)) }
+    ensures { IfOk result (λ text. text ≡ order_at_key key.now (view value.now)) }
 {
     let Some(word) = word_of(value, key) else {
         return Ok(None);
@@ -43,9 +43,9 @@ fn order_in(alloc: Global, value: &Value, key: &str) -> Result<OrderText, OutOfM
 }
 
 fn orders_in(alloc: Global, value: &Value) -> Result<OrderTexts, OutOfMemory>
-    ensures prefix { IfOk result (λ texts. texts.prefix ≡ order_at (codes "p") (view value.now)) }
-    ensures decision { IfOk result (λ texts. texts.decision ≡ order_at (codes "d") (view value.now)) }
-    ensures other { IfOk result (λ texts. texts.other ≡ order_at (codes "as") (view value.now)) }
+    ensures prefix { IfOk result (λ texts. texts.prefix ≡ order_at_key (codes "p") (view value.now)) }
+    ensures decision { IfOk result (λ texts. texts.decision ≡ order_at_key (codes "d") (view value.now)) }
+    ensures other { IfOk result (λ texts. texts.other ≡ order_at_key (codes "as") (view value.now)) }
 {
     let prefix = order_in(alloc, value, "p")?;
     let decision = order_in(alloc, value, "d")?;

@@ -3,7 +3,7 @@
 ghost use Rattle.std.specs.Prelude.{◌≡◌, ◌<◌, ◌≤◌, ◌++◌, ◌∷◌, ◌+◌, All, IfSome, decimal, length};
 ghost use Rattle.aud_event.specs.Limits.{most_transactions};
 ghost use Rattle.aud_text.specs.Orders.{decision_text, fate_letter, order_text};
-ghost use Rattle.aud_cert.specs.Written.{IsShort};
+ghost use Rattle.aud_cert.specs.Written.{IsShort, Low};
 
 use aud_event::limits::TRANSACTIONS;
 use aud_text::{ORDER_MAX, after};
@@ -53,7 +53,7 @@ fn fate_of(letter: u8) -> Option<Fate>
 
 fn decision_at(text: &[u8]) -> Option<(Decision, &[u8])>
     ensures spelled { IfSome result (λ r. text.now ≡ decision_text r.0 ++ r.1.now) }
-    ensures low { IfSome result (λ r. r.0.tx < most_transactions) }
+    ensures low { IfSome result (λ r. Low r.0) }
 {
     let (tx, ended) = number_at(text)?;
     let (letter, rest) = ended.split_first()?;
@@ -64,7 +64,7 @@ fn decision_at(text: &[u8]) -> Option<(Decision, &[u8])>
 /// A decision after a space.
 fn next_at(text: &[u8]) -> Option<(Decision, &[u8])>
     ensures spelled { IfSome result (λ r. text.now ≡ 32 ∷ decision_text r.0 ++ r.1.now) }
-    ensures low { IfSome result (λ r. r.0.tx < most_transactions) }
+    ensures low { IfSome result (λ r. Low r.0) }
 {
     let (byte, rest) = text.split_first()?;
     if *byte == b' ' {
@@ -77,7 +77,7 @@ fn next_at(text: &[u8]) -> Option<(Decision, &[u8])>
 /// Puts the decisions that a text begins with into the list, in the place of what it had, and answers what stands after them.
 fn list_at<'l>(text: &'l [u8], list: &mut Vec<Decision>) -> Option<&'l [u8]>
     ensures spelled { IfSome result (λ rest. text.now ≡ order_text list.new.items ++ rest.now) }
-    ensures low { IfSome result (λ rest. All (λ d. d.tx < most_transactions) list.new.items) }
+    ensures low { IfSome result (λ rest. All Low list.new.items) }
 {
     list.clear();
     if let Some(rest) = after(text, "none") {

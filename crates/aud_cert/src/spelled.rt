@@ -1,9 +1,9 @@
 //! Reading a line that is spelled as `write_cert` spells it, with no JSON value in between.
 
-ghost use Rattle.std.specs.Prelude.{◌≡◌, Ok, IfSome};
+ghost use Rattle.std.specs.Prelude.{◌≡◌, ◌∷◌, [], Ok, IfSome};
 ghost use Rattle.aud_accept.specs.Acceptance.{elsewhere, IsPlain, IsOf};
 ghost use Rattle.aud_cert.specs.LineText.{line_read};
-ghost use Rattle.aud_cert.specs.Written.{line_text, prefix_text, HasShort, IsShort};
+ghost use Rattle.aud_cert.specs.Written.{alone_text, decided_text, line_text, prefix_text, HasShort, IsShort};
 
 use crate::line::{CERT_LINE_MAX, only};
 use crate::order::order_at;
@@ -30,34 +30,38 @@ fn prefix_at<A: Allocator + Copy>(
     }
 }
 
-fn kids_at<A: Allocator + Copy>(
+/// The prefix of a line that has the word and nothing else.
+fn alone_at<A: Allocator + Copy>(
     alloc: A,
+    word: &str,
     line: &[u8],
     list: &mut Vec<Decision>,
-) -> Option<CertLine<A>>
-    ensures spelled { IfSome result (λ l. line.now ≡ line_text l) }
-    ensures short { IfSome result HasShort }
-    ensures plain { IfSome result IsPlain }
+) -> Option<Prefix<A>>
+    ensures spelled { IfSome result (λ p. line.now ≡ alone_text word.now p) }
+    ensures short { IfSome result IsShort }
 {
-    let rest = after(line, "{\"by\":\"kids")?;
-    let prefix = prefix_at(alloc, rest, list)?;
-    Some(CertLine::Kids(prefix))
+    let named = after(line, "{\"by\":\"")?;
+    let rest = after(named, word)?;
+    prefix_at(alloc, rest, list)
 }
 
-fn silent_at<A: Allocator + Copy>(
+/// The prefix and the decision of a line that has the word and both.
+fn decided_at<A: Allocator + Copy>(
     alloc: A,
+    word: &str,
     line: &[u8],
     list: &mut Vec<Decision>,
-) -> Option<CertLine<A>>
-    ensures spelled { IfSome result (λ l. line.now ≡ line_text l) }
-    ensures short { IfSome result HasShort }
-    ensures plain { IfSome result IsPlain }
+) -> Option<(Prefix<A>, Decision)>
+    ensures spelled { IfSome result (λ r. line.now ≡ decided_text word.now r.0 r.1) }
+    ensures short { IfSome result (λ r. IsShort r.0 × IsShort (r.1 ∷ [])) }
 {
-    let text = after(line, "{\"by\":\"silent\",\"d\":\"")?;
+    let named = after(line, "{\"by\":\"")?;
+    let worded = after(named, word)?;
+    let text = after(worded, "\",\"d\":\"")?;
     let (decisions, rest) = order_at(alloc, text, list)?;
     let decision = only(decisions.decisions())?;
     let prefix = prefix_at(alloc, rest, list)?;
-    Some(CertLine::Silent(prefix, decision))
+    Some((prefix, decision))
 }
 
 fn same_at<A: Allocator + Copy>(
@@ -76,34 +80,6 @@ fn same_at<A: Allocator + Copy>(
     Some(CertLine::Same(prefix, other))
 }
 
-fn ahead_at<A: Allocator + Copy>(
-    alloc: A,
-    line: &[u8],
-    list: &mut Vec<Decision>,
-) -> Option<CertLine<A>>
-    ensures spelled { IfSome result (λ l. line.now ≡ line_text l) }
-    ensures short { IfSome result HasShort }
-{
-    let rest = after(line, "{\"by\":\"ahead")?;
-    let prefix = prefix_at(alloc, rest, list)?;
-    Some(CertLine::Ahead(prefix))
-}
-
-fn first_at<A: Allocator + Copy>(
-    alloc: A,
-    line: &[u8],
-    list: &mut Vec<Decision>,
-) -> Option<CertLine<A>>
-    ensures spelled { IfSome result (λ l. line.now ≡ line_text l) }
-    ensures short { IfSome result HasShort }
-{
-    let text = after(line, "{\"by\":\"first\",\"d\":\"")?;
-    let (decisions, rest) = order_at(alloc, text, list)?;
-    let decision = only(decisions.decisions())?;
-    let prefix = prefix_at(alloc, rest, list)?;
-    Some(CertLine::First(prefix, decision))
-}
-
 /// A line of the first rules.
 fn plain_at<A: Allocator + Copy>(
     alloc: A,
@@ -117,10 +93,11 @@ fn plain_at<A: Allocator + Copy>(
     if let Some(same) = same_at(alloc, line, list) {
         return Some(same);
     }
-    if let Some(kids) = kids_at(alloc, line, list) {
-        return Some(kids);
+    if let Some(prefix) = alone_at(alloc, "kids", line, list) {
+        return Some(CertLine::Kids(prefix));
     }
-    silent_at(alloc, line, list)
+    let (prefix, decision) = decided_at(alloc, "silent", line, list)?;
+    Some(CertLine::Silent(prefix, decision))
 }
 
 /// A line that came with the second rules.
@@ -132,10 +109,11 @@ fn later_at<A: Allocator + Copy>(
     ensures spelled { IfSome result (λ l. line.now ≡ line_text l) }
     ensures short { IfSome result HasShort }
 {
-    if let Some(ahead) = ahead_at(alloc, line, list) {
-        return Some(ahead);
+    if let Some(prefix) = alone_at(alloc, "ahead", line, list) {
+        return Some(CertLine::Ahead(prefix));
     }
-    first_at(alloc, line, list)
+    let (prefix, decision) = decided_at(alloc, "first", line, list)?;
+    Some(CertLine::First(prefix, decision))
 }
 
 fn line_at<A: Allocator + Copy>(

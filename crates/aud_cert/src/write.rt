@@ -2,7 +2,7 @@
 
 ghost use Rattle.std.specs.Prelude.{◌≡◌, ◌++◌, ◌∷◌, [], IfOk, OnOk};
 ghost use Rattle.aud_text.specs.Orders.{decision_text, fate_letter};
-ghost use Rattle.aud_cert.specs.Written.{kids_text, silent_text, same_text, ahead_text, first_text, line_text, rules_text, header_text, ended, cert_text, ReadsBack};
+ghost use Rattle.aud_cert.specs.Written.{prefix_text, alone_text, decided_text, same_text, line_text, rules_text, header_text, ended, cert_text, ReadsBack};
 
 use aud_accept::{Cert, CertLine, Rules};
 use aud_event::OutOfMemory;
@@ -36,30 +36,47 @@ fn push_decision<A: Allocator>(text: &mut Vec<u8, A>, decision: Decision) -> Res
     Ok(())
 }
 
-fn push_kids<A: Allocator, B: Allocator>(
+/// Adds the prefix, which ends each line.
+fn push_prefix<A: Allocator, B: Allocator>(
     text: &mut Vec<u8, A>,
     prefix: &Prefix<B>,
 ) -> Result<(), OutOfMemory>
-    ensures { OnOk result (text.new.items ≡ text.old.items ++ kids_text prefix.now) }
+    ensures { OnOk result (text.new.items ≡ text.old.items ++ prefix_text prefix.now) }
 {
-    push_text(text, "{\"by\":\"kids\",\"p\":\"")?;
+    push_text(text, "\",\"p\":\"")?;
     push_order(text, prefix)?;
     push_text(text, "\"}")?;
     Ok(())
 }
 
-fn push_silent<A: Allocator, B: Allocator>(
+/// Adds a line that has the word and nothing else.
+fn push_alone<A: Allocator, B: Allocator>(
     text: &mut Vec<u8, A>,
+    word: &str,
+    prefix: &Prefix<B>,
+) -> Result<(), OutOfMemory>
+    ensures { OnOk result (text.new.items ≡ text.old.items ++ alone_text word.now prefix.now) }
+{
+    push_text(text, "{\"by\":\"")?;
+    push_text(text, word)?;
+    push_prefix(text, prefix)?;
+    Ok(())
+}
+
+/// Adds a line that has the word and a decision.
+fn push_decided<A: Allocator, B: Allocator>(
+    text: &mut Vec<u8, A>,
+    word: &str,
     prefix: &Prefix<B>,
     decision: Decision,
 ) -> Result<(), OutOfMemory>
-    ensures { OnOk result (text.new.items ≡ text.old.items ++ silent_text prefix.now decision) }
+    ensures { OnOk result (text.new.items ≡ text.old.items ++ decided_text word.now prefix.now decision) }
 {
-    push_text(text, "{\"by\":\"silent\",\"d\":\"")?;
+    push_text(text, "{\"by\":\"")?;
+    push_text(text, word)?;
+    push_text(text, "\",\"d\":\"")?;
     push_decision(text, decision)?;
-    push_text(text, "\",\"p\":\"")?;
-    push_order(text, prefix)?;
-    push_text(text, "\"}")?;
+    push_prefix(text, prefix)?;
     Ok(())
 }
 
@@ -72,36 +89,8 @@ fn push_same<A: Allocator, B: Allocator>(
 {
     push_text(text, "{\"as\":\"")?;
     push_order(text, other)?;
-    push_text(text, "\",\"by\":\"same\",\"p\":\"")?;
-    push_order(text, prefix)?;
-    push_text(text, "\"}")?;
-    Ok(())
-}
-
-fn push_ahead<A: Allocator, B: Allocator>(
-    text: &mut Vec<u8, A>,
-    prefix: &Prefix<B>,
-) -> Result<(), OutOfMemory>
-    ensures { OnOk result (text.new.items ≡ text.old.items ++ ahead_text prefix.now) }
-{
-    push_text(text, "{\"by\":\"ahead\",\"p\":\"")?;
-    push_order(text, prefix)?;
-    push_text(text, "\"}")?;
-    Ok(())
-}
-
-fn push_first<A: Allocator, B: Allocator>(
-    text: &mut Vec<u8, A>,
-    prefix: &Prefix<B>,
-    decision: Decision,
-) -> Result<(), OutOfMemory>
-    ensures { OnOk result (text.new.items ≡ text.old.items ++ first_text prefix.now decision) }
-{
-    push_text(text, "{\"by\":\"first\",\"d\":\"")?;
-    push_decision(text, decision)?;
-    push_text(text, "\",\"p\":\"")?;
-    push_order(text, prefix)?;
-    push_text(text, "\"}")?;
+    push_text(text, "\",\"by\":\"same")?;
+    push_prefix(text, prefix)?;
     Ok(())
 }
 
@@ -112,11 +101,11 @@ fn push_keys<A: Allocator, B: Allocator>(
     ensures { OnOk result (text.new.items ≡ text.old.items ++ line_text line.now) }
 {
     match line {
-        CertLine::Kids(prefix) => push_kids(text, prefix),
-        CertLine::Silent(prefix, decision) => push_silent(text, prefix, *decision),
+        CertLine::Kids(prefix) => push_alone(text, "kids", prefix),
+        CertLine::Silent(prefix, decision) => push_decided(text, "silent", prefix, *decision),
         CertLine::Same(prefix, other) => push_same(text, prefix, other),
-        CertLine::Ahead(prefix) => push_ahead(text, prefix),
-        CertLine::First(prefix, decision) => push_first(text, prefix, *decision),
+        CertLine::Ahead(prefix) => push_alone(text, "ahead", prefix),
+        CertLine::First(prefix, decision) => push_decided(text, "first", prefix, *decision),
     }
 }
 
@@ -173,7 +162,10 @@ fn text_of<A: Allocator + Copy, B: Allocator>(
 /// It reads as the certificate where each line is of its rules and within the limits: ids below 4,096, order texts of at most 32,768 bytes, and at
 /// most 65,536 bytes a line. Each line of an accepted certificate is (`laws::accepted_reads_back`). The header counts fewer than 2^63
 /// lines.
-pub fn write_cert<A: Allocator + Copy>(alloc: A, cert: &Cert) -> Result<Vec<u8, A>, OutOfMemory>
+pub fn write_cert<A: Allocator + Copy, B: Allocator>(
+    alloc: A,
+    cert: &Cert<B>,
+) -> Result<Vec<u8, A>, OutOfMemory>
     ensures spelled { IfOk result (λ text. text.items ≡ cert_text cert.now.rules cert.now.lines.items) }
     ensures reads_back { IfOk result (λ text. ReadsBack cert.now.rules cert.now.lines.items text.items) }
 {

@@ -84,11 +84,15 @@ SetSays A plan facts s = FactsReport said.Verdict plan.logs facts (A plan (hist 
 abbrev pub FactsSay : Answers → InputOf → Said → Type 0
 FactsSay A i s = SetSays A i.plan (inserted fact_ord.ghosts.cmp i.facts []) s
 
--- the plan's or the first refused line's refusal, else what is said of the facts
+-- the plan's or the first refused line's refusal; running out of memory is no refusal
+abbrev pub RefusesInput : InputFault → Said → Type 0
+RefusesInput (fault.Plan e) s = s ≡ said.PlanRefused e
+RefusesInput (fault.Record line e) s = s ≡ said.RecordRefused line e
+RefusesInput fault.OutOfMemory s = ⊥
+
+-- the input's refusal, else what is said of the facts
 abbrev pub InputSays : Answers → Result InputOf InputFault → Said → Type 0
-InputSays A (Err (fault.Plan e)) s = s ≡ said.PlanRefused e
-InputSays A (Err (fault.Record line e)) s = s ≡ said.RecordRefused line e
-InputSays A (Err fault.OutOfMemory) s = ⊥
+InputSays A (Err e) s = RefusesInput e s
 InputSays A (Ok i) s = FactsSay A i s
 
 -- the order text's refusal, else what is said of the input
@@ -105,12 +109,12 @@ RefusesLine before e s = (s ≡ said.CertificateLineRefused (before + e.line) e.
 abbrev pub CertifiedSays : ℕ → Result InputOf InputFault → Result (List CertLineOf) CertTextFault → Said → Type 0
 CertifiedSays before (Ok i) (Err e) s = s ≡ said.CertificateLineRefused (before + e.line) e.fault
 CertifiedSays before (Ok i) (Ok lines) s = FactsSay (VerifySays lines) i s
-CertifiedSays before (Err e) cert s = InputSays (VerifySays []) (Err e) s
+CertifiedSays before (Err e) cert s = RefusesInput e s
 
 -- the same where no line begins a certificate: it is missing at the line after the last
 abbrev pub UncertifiedSays : ℕ → Result InputOf InputFault → Said → Type 0
 UncertifiedSays after (Ok i) s = s ≡ said.CertificateLineRefused after text_fault.KeyMissing
-UncertifiedSays after (Err e) s = InputSays (VerifySays []) (Err e) s
+UncertifiedSays after (Err e) s = RefusesInput e s
 
 -- verify: by the place of the first line that begins a certificate
 abbrev pub PlaceSays : List ℕ → Option ℕ → Said → Type 0

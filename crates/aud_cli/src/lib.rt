@@ -15,4 +15,4 @@ pub use input::{Input, InputFault, read_input, take_input};
 pub use job::{AuditJob, Command, Job};
 pub use question::Question;
 pub use reading::read_whole;
-pub use run::{judge_facts, run_lines};
+pub use run::{judge_facts, refuse_input, run_lines};

@@ -2,7 +2,7 @@
 
 ghost use Rattle.std.specs.Prelude.{◌≡◌, ◌⊎◌, ◌+◌, ◌<◌, ◌^◌, Ok, IfOk, length};
 ghost use Rattle.aud_cert.specs.CertText.{cert_read};
-ghost use Rattle.aud_cli.specs.Line.{CertifiedSays, FactsSay, InputSays, Line, QuestionSays, RefusesLine, SetSays};
+ghost use Rattle.aud_cli.specs.Line.{CertifiedSays, FactsSay, InputSays, Line, QuestionSays, RefusesInput, RefusesLine, SetSays};
 ghost use Rattle.aud_cli.specs.Inputs.{input_read};
 ghost use Rattle.aud_cli.specs.Outcomes.{IsLine, RunOutcome};
 
@@ -45,14 +45,23 @@ fn judge_input(alloc: Global, question: Question<'_, '_>, input: Input) -> Resul
     judge_facts(alloc, question, &facts)
 }
 
+/// What is said of an input that is refused.
+pub fn refuse_input(fault: InputFault) -> Result<Said, OutOfMemory>
+    ensures { IfOk result (RefusesInput fault) }
+{
+    match fault {
+        InputFault::Plan(refused) => Ok(Said::PlanRefused(refused)),
+        InputFault::Record(line, fault) => Ok(Said::RecordRefused(line, fault)),
+        InputFault::OutOfMemory => Err(OutOfMemory),
+    }
+}
+
 fn judge(alloc: Global, question: Question<'_, '_>, text: Vec<u8>) -> Result<Said, OutOfMemory>
     ensures { IfOk result (InputSays (QuestionSays question.entry) (input_read text.items)) }
 {
     match take_input(alloc, text) {
         Ok(input) => judge_input(alloc, question, input),
-        Err(InputFault::Plan(refused)) => Ok(Said::PlanRefused(refused)),
-        Err(InputFault::Record(line, fault)) => Ok(Said::RecordRefused(line, fault)),
-        Err(InputFault::OutOfMemory) => Err(OutOfMemory),
+        Err(fault) => refuse_input(fault),
     }
 }
 
@@ -96,9 +105,7 @@ fn verify(alloc: Global, text: &[u8]) -> Result<Said, OutOfMemory>
     };
     let input = match read_input(alloc, before) {
         Ok(input) => input,
-        Err(InputFault::Plan(refused)) => return Ok(Said::PlanRefused(refused)),
-        Err(InputFault::Record(line, fault)) => return Ok(Said::RecordRefused(line, fault)),
-        Err(InputFault::OutOfMemory) => return Err(OutOfMemory),
+        Err(fault) => return refuse_input(fault),
     };
     match parts {
         Some(parts) => verify_by(alloc, input, parts.lines, parts.certificate),

@@ -1,4 +1,4 @@
-use Rattle.std.proofs.Common.{◌<◌, length, get_or, sym, subst, arith}
+use Rattle.std.proofs.Common.{◌≡◌, ◌<◌, length, get_or, sym, subst, arith}
 use denote.Param.Send.{sendable}
 use Rattle.std.proofs.alloc.Global.TheSendSync as global
 use Rattle.aud_node.proofs.Captures.{captures}
@@ -19,12 +19,18 @@ for_each_mut-requires-clause-accepts g c κs outlive = λ i p lt is.
     let inside : i < length c.args.nodes.now = omega (arith, lt, count) in
     (inside, λ n. subst (λ (d : CrewOf). IsCrewAt (get_or c.args.nodes.now i n) d) (sym is) (c.requires.each i n p.now inside))
 
-pub returns : goal.returns
-returns g c =
+pub returns-clause-crews : goal.returns-clause-crews
+returns-clause-crews g c =
     let count = c.requires.count in
     let same = c.for_each_mut.auto.s in record {
       count = omega (arith, count, same);
       each = λ k n d lt.
           let f = (c.for_each_mut.ensures k d (omega (arith, lt, count))).1 in
-          subst (λ (v : CrewOf). IsCrewAt (get_or c.args.nodes.now k n) v) f.left (f.call n);
+          subst (λ (v : CrewOf). IsCrewAt (get_or c.args.nodes.now k n) v) f.left (f.call.0 n);
     }
+
+pub returns-clause-closed : goal.returns-clause-closed
+returns-clause-closed g c = λ k d lt.
+    let same = c.for_each_mut.auto.s in
+    let f = (c.for_each_mut.ensures k d (omega (arith, lt, same))).1 in
+    subst (λ (v : CrewOf). v.senders ≡ 0) f.left f.call.1

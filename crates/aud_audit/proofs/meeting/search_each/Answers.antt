@@ -31,7 +31,7 @@ returns-clause-crews g c =
       count = omega (arith, count, same);
       each = λ k n d lt.
           let f = (c.for_each_mut.ensures k d (omega (arith, lt, count))).1 in
-          subst (λ (v : CrewOf). IsCrewAt (get_or c.args.nodes.now k n) v) f.left (f.call n).0;
+          subst (λ (v : CrewOf). IsCrewAt (get_or c.args.nodes.now k n) v) f.left (f.call.0 n).0;
     }
 
 pub returns-clause-ended : goal.returns-clause-ended
@@ -39,5 +39,11 @@ returns-clause-ended g c = record {
   each = λ k n d lt.
       let count = c.requires.crews.count in
       let f = (c.for_each_mut.ensures k d (omega (arith, lt, count))).1 in
-      subst (λ (v : CrewOf). v.failed ≡ false → HaveEndedShare c.args.search.now.shape.value c.args.search.now.budget c.args.search.now.tasks.items (length c.args.nodes.now) (get_or c.args.nodes.now k n).number v.passes) f.left (f.call n).1;
+      subst (λ (v : CrewOf). v.failed ≡ false → HaveEndedShare c.args.search.now.shape.value c.args.search.now.budget c.args.search.now.tasks.items (length c.args.nodes.now) (get_or c.args.nodes.now k n).number v.passes) f.left (f.call.0 n).1;
 }
+
+pub returns-clause-closed : goal.returns-clause-closed
+returns-clause-closed g c = λ k d lt.
+    let same = c.for_each_mut.auto.s in
+    let f = (c.for_each_mut.ensures k d (omega (arith, lt, same))).1 in
+    subst (λ (v : CrewOf). v.senders ≡ 0) f.left f.call.1

@@ -1,14 +1,14 @@
 use Rattle.std.proofs.Common.{◌≡◌, ◌<◌, ◌++◌, length}
 use Rattle.std.specs.List.{All}
-use Rattle.aud_event.specs.Limits.{most_transactions}
 use Rattle.aud_text.specs.Orders.{order_text}
+use Rattle.aud_cert.specs.Written.{Low}
 use Rattle.aud_cert.proofs.order.list_at.Given as goal
 
 abbrev pub invariant-decisions : goal.invariant-decisions
 invariant-decisions l = record {
   spelled : l.text ≡ order_text l.list.items ++ l.rest;
   some : 0 < length l.list.items;
-  low : All (λ d. d.tx < most_transactions) l.list.items;
+  low : All Low l.list.items;
 }
 
 abbrev pub decreases-decisions : goal.decreases-decisions

@@ -1,11 +1,17 @@
 use Rattle.std.proofs.Common.{◌≡◌, ◌<◌, false, List, All, length, subst, rules}
 use Rattle.aud_order.specs.Shapes.{plan_of}
-use Rattle.aud_audit.specs.Seats.{CrewOf}
+use Rattle.aud_audit.specs.Seats.{AreCrews, CrewOf}
 use Rattle.aud_audit.specs.Meshes.{IsMesh}
 use Rattle.aud_audit.specs.Searches.{SharesHaveEnded}
+use Rattle.aud_audit.proofs.Connecting.{crews_connected}
 use Rattle.aud_audit.proofs.Meshing.{all_ended}
 use Rattle.aud_audit.proofs.mesh.Mesh.search.Goals as goal
 use Rattle.aud_base.proofs.Results.{on_ok}
+
+pub work-requires-clause-crews : goal.work-requires-clause-crews
+work-requires-clause-crews g c κs within =
+    let all : AreCrews c.connect.new.self.nodes.items c.args.self.now.crews.items = search rules in
+    crews_connected c.connect.new.self.nodes.items c.args.self.now.crews.items c.connect.new.self.crews.items c.in_ok-inboxes.ensures.connected all
 
 pub returns-clause-ended : goal.returns-clause-ended
 returns-clause-ended g c =
