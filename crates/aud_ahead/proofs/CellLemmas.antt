@@ -364,6 +364,10 @@ module _ (may : MayHold) where
       StayWithin (Hold may) xs
   stay-within_all xs n whole each = stay-within xs (tell-within xs (λ k x c v at tells e. each k x c v (omega (arith, slice_get_within xs k x at, whole)) at tells e))
 
+-- what runs nowhere leads nowhere else
+pub nowhere-stays_within : (may_be : List ObjState → Type 0) (xs : List Execution) → RunNowhere may_be xs → StayWithin may_be xs
+nowhere-stays_within may_be xs nowhere states after may ran = absurd (let none : executed states xs ≡ None = nowhere states may in cc)
+
 -- # From any states
 
 abbrev anything : MayHold

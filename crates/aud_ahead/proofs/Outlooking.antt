@@ -91,9 +91,6 @@ nowhere_counters outlook xs nowhere states may = nowhere states may.counters
 pub nowhere_queues : (outlook : OutlookOf) (xs : List Execution) → RunNowhere (AreLeft outlook.now outlook.queues) xs → RunNowhere (MayBe outlook) xs
 nowhere_queues outlook xs nowhere states may = nowhere states may.lines
 
-pub nowhere-stays : (outlook : OutlookOf) (xs : List Execution) → RunNowhere (MayBe outlook) xs → StayWithin (MayBe outlook) xs
-nowhere-stays outlook xs nowhere states after may ran = absurd (let none : executed states xs ≡ None = nowhere states may in cc)
-
 pub all-stay : (outlook : OutlookOf) (xs : List Execution) → StayWithin (Hold (may_hold outlook.now outlook.loose)) xs → StayWithin (AreWithin outlook.spans) xs → StayWithin (AreLeft outlook.now outlook.queues) xs →
     StayWithin (MayBe outlook) xs
 all-stay outlook xs cells counters queues states after may ran = record {

@@ -182,6 +182,13 @@ pub(crate) fn stays<M: MayHold>(cells: &M, executions: &[Execution]) -> bool
     true
 }
 
+/// Whether the executions lead from what cells may have to what they may have, or run nowhere.
+pub(crate) fn keeps<M: MayHold>(cells: &M, executions: &[Execution]) -> bool
+    ensures { IsTrue result → StayWithin (Hold (M.may cells.now)) executions.now }
+{
+    !may_run(cells, executions) || stays(cells, executions)
+}
+
 /// For each object the cells that it may have, beside those that it has now.
 #[derive(Drop)]
 pub(crate) struct Loose<A: Allocator + Copy = Global> {

@@ -8,7 +8,7 @@ ghost use Rattle.aud_ahead.specs.Ranges.{StayWithin};
 ghost use Rattle.aud_ahead.specs.Outlooks.{may_come, may_come_between, AreClosedBetween, HasToPrecede, IsClosed, IsDoomed, MayBe};
 ghost use Rattle.aud_ahead.specs.Cells.{lacks, Hold};
 
-use crate::cells::{Lack, Loose, may_run, stays};
+use crate::cells::{Lack, Loose, keeps, may_run};
 use crate::outlook::Outlook;
 use crate::queues::Queues;
 use crate::span::Spans;
@@ -120,7 +120,7 @@ fn stays_lacking<A: Allocator>(
     ensures { IsTrue result → is_placed ≡ false → may_come_between start.now row.now other.now ≡ true →
         StayWithin (Hold (lacks lack.object lack.cell)) other.now.block.executions }
 {
-    is_placed || !may_come_between(start, row, other) || stays(&lack, other.block().executions())
+    is_placed || !may_come_between(start, row, other) || keeps(&lack, other.block().executions())
 }
 
 /// Whether all rows do.

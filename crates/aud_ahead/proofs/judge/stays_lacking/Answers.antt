@@ -7,4 +7,4 @@ use Rattle.aud_ahead.proofs.judge.stays_lacking.Goals as goal
 
 pub returns-else-not-may_come_between : goal.returns-else-not-may_come_between
 returns-else-not-may_come_between g c = λ stays open_row comes.
-    subst (λ (xs : List Execution). StayWithin (Hold (lacks c.args.lack.object c.args.lack.cell)) xs) (c.executions.ensures ∙ ap (λ b. b.executions) c.block.ensures) (c.stays.ensures stays)
+    subst (λ (xs : List Execution). StayWithin (Hold (lacks c.args.lack.object c.args.lack.cell)) xs) (c.executions.ensures ∙ ap (λ b. b.executions) c.block.ensures) (c.keeps.ensures stays)
