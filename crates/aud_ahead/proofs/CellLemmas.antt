@@ -19,7 +19,7 @@ use Rattle.aud_ahead.specs.declared.cell.Key.{Key}
 use Rattle.aud_ahead.specs.declared.cell.Key.TheVariants.{Own, Element, Entry}
 use Rattle.aud_ahead.specs.declared.cell.Cell.{Cell}
 use Rattle.aud_ahead.specs.Ranges.{RunNowhere, StayWithin}
-use Rattle.aud_ahead.specs.Cells.{one_if, cell_of, same_key, same_value, element, entry, seen_by, told_by, told_of, newer, told, may_hold, may_hold_by, HoldAfter, Hold, may_see, may_answer, TellWithin}
+use Rattle.aud_ahead.specs.Cells.{one_if, cell_of, same_key, same_value, element, entry, seen_by, told_by, told_of, newer, told, is_cell, MayHold, lacks, may_hold_by, AreProper, HoldAfter, Hold, may_see, may_answer, TellWithin, LeadWithin}
 use Rattle.aud_object.specs.Proper.{IsProper}
 use Rattle.aud_object.proofs.Proper.{has-with, has-without, value-with, value-without, proper-after}
 
@@ -247,9 +247,9 @@ told-by_one known (x ∷ xs) ob key v e =
           | inr other ↦ inl (sym (ap (λ b. cond b (Some c.value) known) other) ∙ e)
         ]
 
-module _ (now : List ObjState) (loose : List (List Cell)) where
+module _ (may : MayHold) where
   abbrev May : ℕ → Key → Option (Option ℤ) → Option ℤ → Type 0
-  May ob key known v = may_hold_by now loose ob key known v ≡ true
+  May ob key known v = may_hold_by may ob key known v ≡ true
 
   after-told : (ob : ℕ) (s : ObjState) (key : Key) (known : Option (Option ℤ)) (v : Option ℤ) (told : Option Cell) → Leaves s key v told → (cell_of s key ≡ Some v → May ob key known v) → May ob key (told_of key known told) v
   after-told ob s key known v None left held = held left
@@ -260,20 +260,20 @@ module _ (now : List ObjState) (loose : List (List Cell)) where
       ]
 
   sees : (before : List Execution) (ob : ℕ) (s : ObjState) (seen : Option Cell) → ((c : Cell) → seen ≡ Some c → cell_of s c.key ≡ Some c.value) →
-      ((key : Key) (v : Option ℤ) → cell_of s key ≡ Some v → May ob key (told None before ob key) v) → may_see now loose before ob seen ≡ true
+      ((key : Key) (v : Option ℤ) → cell_of s key ≡ Some v → May ob key (told None before ob key) v) → may_see may before ob seen ≡ true
   sees before ob s None is held = refl
   sees before ob s (Some c) is held = held c.key c.value (is c refl)
 
   -- # One execution
 
-  pub step-may_answer : (before : List Execution) (x : Execution) (states : List ObjState) → HoldAfter now loose before states →
-      answers (answer_at states x.object x.op) x.answer ≡ true → may_answer now loose before x ≡ true
+  pub step-may_answer : (before : List Execution) (x : Execution) (states : List ObjState) → HoldAfter may before states →
+      answers (answer_at states x.object x.op) x.answer ≡ true → may_answer may before x ≡ true
   step-may_answer before x states hold right =
       let (s, (at, is)) = answered-by states x right in
       sees before x.object s (seen_by x.op x.answer) (λ c seen. seen-is s x.op x.answer c is seen) (λ key v cell. hold.held x.object s key v at cell)
 
-  pub step-holds : (before : List Execution) (x : Execution) (states : List ObjState) → HoldAfter now loose before states →
-      answers (answer_at states x.object x.op) x.answer ≡ true → HoldAfter now loose (before ++ x ∷ []) (after_at states x.object x.op)
+  pub step-holds : (before : List Execution) (x : Execution) (states : List ObjState) → HoldAfter may before states →
+      answers (answer_at states x.object x.op) x.answer ≡ true → HoldAfter may (before ++ x ∷ []) (after_at states x.object x.op)
   step-holds before x states hold right =
       let (s, (here, is)) = answered-by states x right in
       let same_object : slice_get (after_at states x.object x.op) x.object ≡ Some (after_op s x.op) = after_at-same states x.object x.op s here in
@@ -303,66 +303,102 @@ module _ (now : List ObjState) (loose : List (List Cell)) where
 
   -- # Executions in turn
 
-  ran-holds : (before xs : List Execution) (states after : List ObjState) → HoldAfter now loose before states → executed states xs ≡ Some after → HoldAfter now loose (before ++ xs) after
+  ran-holds : (before xs : List Execution) (states after : List ObjState) → HoldAfter may before states → executed states xs ≡ Some after → HoldAfter may (before ++ xs) after
   ran-holds before [] states after hold ran =
       let same : states ≡ after = cc in
-      subst (λ l. HoldAfter now loose l after) (sym (append-nil before)) (subst (λ z. HoldAfter now loose before z) same hold)
+      subst (λ l. HoldAfter may l after) (sym (append-nil before)) (subst (λ z. HoldAfter may before z) same hold)
   ran-holds before (x ∷ xs) states after hold ran =
       let (right, rest) = ran-first states after x xs ran in
-      subst (λ l. HoldAfter now loose l after) (append_assoc before (x ∷ []) xs)
+      subst (λ l. HoldAfter may l after) (append_assoc before (x ∷ []) xs)
       (ran-holds (before ++ x ∷ []) xs (after_at states x.object x.op) after (step-holds before x states hold right) rest)
 
-  ran-may_answer : (before xs : List Execution) (states after : List ObjState) → HoldAfter now loose before states → executed states xs ≡ Some after →
-      (k : ℕ) (x : Execution) → slice_get xs k ≡ Some x → may_answer now loose (before ++ take k xs) x ≡ true
+  ran-may_answer : (before xs : List Execution) (states after : List ObjState) → HoldAfter may before states → executed states xs ≡ Some after →
+      (k : ℕ) (x : Execution) → slice_get xs k ≡ Some x → may_answer may (before ++ take k xs) x ≡ true
   ran-may_answer before [] states after hold ran k x at = absurd (cc)
   ran-may_answer before (y ∷ xs) states after hold ran zero x at =
       let same : y ≡ x = cc in
       let (right, rest) = ran-first states after y xs ran in
-      subst (λ l. may_answer now loose l x ≡ true) (sym (append-nil before)) (subst (λ z. may_answer now loose before z ≡ true) same (step-may_answer before y states hold right))
+      subst (λ l. may_answer may l x ≡ true) (sym (append-nil before)) (subst (λ z. may_answer may before z ≡ true) same (step-may_answer before y states hold right))
   ran-may_answer before (y ∷ xs) states after hold ran (suc k) x at =
       let (right, rest) = ran-first states after y xs ran in
-      subst (λ l. may_answer now loose l x ≡ true) (append_assoc before (y ∷ []) (take k xs))
+      subst (λ l. may_answer may l x ≡ true) (append_assoc before (y ∷ []) (take k xs))
       (ran-may_answer (before ++ y ∷ []) xs (after_at states y.object y.op) after (step-holds before y states hold right) rest k x at)
 
   -- an execution that cannot answer after those before it
-  run-nowhere : (xs : List Execution) (k : ℕ) (x : Execution) → slice_get xs k ≡ Some x → may_answer now loose (take k xs) x ≡ false → RunNowhere (Hold now loose) xs
+  run-nowhere : (xs : List Execution) (k : ℕ) (x : Execution) → slice_get xs k ≡ Some x → may_answer may (take k xs) x ≡ false → RunNowhere (Hold may) xs
   run-nowhere xs k x at cannot states hold = go (executed states xs) refl
     where
       go : (o : Option (List ObjState)) → executed states xs ≡ o → executed states xs ≡ None
       go None e = e
-      go (Some after) e = absurd (let may : may_answer now loose (take k xs) x ≡ true = ran-may_answer [] xs states after hold e k x at in cc)
+      go (Some after) e = absurd (let answers_so : may_answer may (take k xs) x ≡ true = ran-may_answer [] xs states after hold e k x at in cc)
 
-  pub run-nowhere_at : (xs : List Execution) (k : ℕ) (d : Execution) → k < length xs → may_answer now loose (take k xs) (get_or xs k d) ≡ false → RunNowhere (Hold now loose) xs
+  pub run-nowhere_at : (xs : List Execution) (k : ℕ) (d : Execution) → k < length xs → may_answer may (take k xs) (get_or xs k d) ≡ false → RunNowhere (Hold may) xs
   run-nowhere_at xs k d inside cannot = run-nowhere xs k (get_or xs k d) (slice_get-get_or xs k d inside) cannot
 
   -- executions that tell nothing further
-  pub stay-within : (xs : List Execution) → TellWithin now loose xs → StayWithin (Hold now loose) xs
+  pub stay-within : (xs : List Execution) → TellWithin may xs → StayWithin (Hold may) xs
   stay-within xs tell states after hold ran =
       let ran_hold = ran-holds [] xs states after hold ran in
       record { proper = ran_hold.proper; held = λ ob s key v at cell. by ob key v (told None xs ob key) refl (ran_hold.held ob s key v at cell) }
     where
-      by : (ob : ℕ) (key : Key) (v : Option ℤ) (o : Option (Option ℤ)) → told None xs ob key ≡ o → May ob key o v → may_hold now loose ob key v ≡ true
+      by : (ob : ℕ) (key : Key) (v : Option ℤ) (o : Option (Option ℤ)) → told None xs ob key ≡ o → May ob key o v → may ob key v ≡ true
       by ob key v None is held = held
-      by ob key v (Some w) is held = subst (λ z. may_hold now loose ob key z ≡ true) (sym (same_value-is v w held)) (tell ob key w is)
+      by ob key v (Some w) is held = subst (λ z. may ob key z ≡ true) (sym (same_value-is v w held)) (tell ob key w is)
 
   -- # What executions tell
 
   pub tell-within : (xs : List Execution) →
-      ((k : ℕ) (x : Execution) (c : Cell) (v : Option ℤ) → slice_get xs k ≡ Some x → told_by x.op x.answer ≡ Some c → told None xs x.object c.key ≡ Some v → may_hold now loose x.object c.key v ≡ true) →
-      TellWithin now loose xs
+      ((k : ℕ) (x : Execution) (c : Cell) (v : Option ℤ) → slice_get xs k ≡ Some x → told_by x.op x.answer ≡ Some c → told None xs x.object c.key ≡ Some v → may x.object c.key v ≡ true) →
+      TellWithin may xs
   tell-within xs each ob key v e =
       elim (told-by_one None xs ob key v e) [
         | inl none ↦ absurd (cc)
         | inr (k, (x, (c, (at, on, tells, same)))) ↦
-            subst (λ n. may_hold now loose n key v ≡ true) on
-            (subst (λ (q : Key). may_hold now loose x.object q v ≡ true) (same_key-is c.key key same)
+            subst (λ n. may n key v ≡ true) on
+            (subst (λ (q : Key). may x.object q v ≡ true) (same_key-is c.key key same)
             (each k x c v at tells (subst (λ (q : Key). told None xs x.object q ≡ Some v) (sym (same_key-is c.key key same)) (subst (λ n. told None xs n key ≡ Some v) (sym on) e))))
       ]
 
   pub stay-within_all : (xs : List Execution) (n : ℕ) → length xs ≤ n →
-      ((k : ℕ) (x : Execution) (c : Cell) (v : Option ℤ) → k < n → slice_get xs k ≡ Some x → told_by x.op x.answer ≡ Some c → told None xs x.object c.key ≡ Some v → may_hold now loose x.object c.key v ≡ true) →
-      StayWithin (Hold now loose) xs
+      ((k : ℕ) (x : Execution) (c : Cell) (v : Option ℤ) → k < n → slice_get xs k ≡ Some x → told_by x.op x.answer ≡ Some c → told None xs x.object c.key ≡ Some v → may x.object c.key v ≡ true) →
+      StayWithin (Hold may) xs
   stay-within_all xs n whole each = stay-within xs (tell-within xs (λ k x c v at tells e. each k x c v (omega (arith, slice_get_within xs k x at, whole)) at tells e))
+
+-- what runs nowhere leads nowhere else
+pub nowhere-stays_within : (may_be : List ObjState → Type 0) (xs : List Execution) → RunNowhere may_be xs → StayWithin may_be xs
+nowhere-stays_within may_be xs nowhere states after may ran = absurd (let none : executed states xs ≡ None = nowhere states may in cc)
+
+-- # From any states
+
+abbrev anything : MayHold
+anything ob key v = true
+
+proper-hold : (states : List ObjState) → AreProper states → Hold anything states
+proper-hold states proper = record { proper = proper; held = λ ob s key v at cell. refl }
+
+-- executions that tell last of the cell that it has another value leave it with another value
+pub leads-lacking : (object : ℕ) (c : Cell) (xs : List Execution) (u : Option ℤ) → told None xs object c.key ≡ Some u → same_value u c.value ≡ false → LeadWithin (lacks object c) xs
+leads-lacking object c xs u tells differs states after proper ran =
+    let hold : HoldAfter anything xs after = ran-holds anything [] xs states after (proper-hold states proper) ran in
+    record { proper = hold.proper; held = λ ob s key v at cell. each ob key v (hold.held ob s key v at cell) }
+  where
+    here : (ob : ℕ) (key : Key) (v : Option ℤ) → ob ≡ object → c.key ≡ key → may_hold_by anything ob key (told None xs ob key) v ≡ true → same_value v c.value ≡ false
+    here ob key v is same held =
+        let known : told None xs ob key ≡ Some u = ap (λ n. told None xs n key) is ∙ ap (λ k. told None xs object k) (sym same) ∙ tells in
+        let own : v ≡ u = same_value-is v u (subst (λ (o : Option (Option ℤ)). may_hold_by anything ob key o v ≡ true) known held) in
+        ap (λ w. same_value w c.value) own ∙ differs
+
+    each : (ob : ℕ) (key : Key) (v : Option ℤ) → may_hold_by anything ob key (told None xs ob key) v ≡ true → lacks object c ob key v ≡ true
+    each ob key v held =
+        elim (split (nat_eq ob object)) [
+          | inr other ↦ ap (λ b. not (b && is_cell key v c)) other
+          | inl on ↦
+              ap (λ b. not (b && is_cell key v c)) on ∙ (elim (split (same_key c.key key)) as (λ _. not (is_cell key v c) ≡ true) [
+                | inr off ↦ ap (λ b. not (b && same_value v c.value)) off
+                | inl same ↦
+                    ap (λ b. not (b && same_value v c.value)) same ∙ ap not (here ob key v (nat_eq-is ob object on) (same_key-is c.key key same) held)
+              ])
+        ]
 
 -- # Loops over executions
 

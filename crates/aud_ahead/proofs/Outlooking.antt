@@ -17,7 +17,7 @@ use Rattle.aud_ahead.specs.declared.cell.Key.{Key}
 use Rattle.aud_ahead.specs.declared.cell.Cell.{Cell}
 use Rattle.aud_ahead.specs.Hulls.{reached}
 use Rattle.aud_ahead.specs.Ranges.{RunNowhere, StayWithin}
-use Rattle.aud_ahead.specs.Cells.{cell_of, same_value, is_now, is_cell, Hold}
+use Rattle.aud_ahead.specs.Cells.{cell_of, same_value, is_now, is_cell, may_hold, AreProper, Hold}
 use Rattle.aud_ahead.specs.Spans.{AreWithin}
 use Rattle.aud_ahead.specs.Queues.{QueuesOf, gone_of, come_of, is_among, IsLeft, AreLeft}
 use Rattle.aud_ahead.specs.Outlooks.{OutlookOf, MayBe}
@@ -42,9 +42,6 @@ proper-events s (TryA ∷ es) h = h
 proper-events s (Commit ∷ es) h = h
 proper-events s (Abort ∷ es) h = h
 
-abbrev AreProper : List ObjState → Type 0
-AreProper states = (ob : ℕ) (s : ObjState) → slice_get states ob ≡ Some s → IsProper s
-
 proper-from : (n : ℕ) (states : List ObjState) (es : List Event) → AreProper states → AreProper (states_after_from n states es)
 proper-from n [] es h ob s at = absurd (cc)
 proper-from n (z ∷ states) es h zero s at = subst IsProper (unsome at) (proper-events z (on_object n es) (h 0 z refl))
@@ -55,7 +52,7 @@ proper-openings [] ob s at = absurd (cc)
 proper-openings (d ∷ objects) zero s at = subst IsProper (unsome at) (proper-opening d)
 proper-openings (d ∷ objects) (suc ob) s at = proper-openings objects ob s at
 
-proper-reached : (objects : List Declared) (h : History) (p : List Decision) → AreProper (reached objects h p)
+pub proper-reached : (objects : List Declared) (h : History) (p : List Decision) → AreProper (reached objects h p)
 proper-reached objects h p = proper-from 0 (map opening_of objects) (kept h p) (proper-openings objects)
 
 -- # What is now may be
@@ -63,7 +60,7 @@ proper-reached objects h p = proper-from 0 (map opening_of objects) (kept h p) (
 has-now : (s : ObjState) (key : Key) (v : Option ℤ) → cell_of s key ≡ Some v → is_now (Some s) key v ≡ true
 has-now s key v cell = ap (λ (o : Option (Option ℤ)). elim o as (λ _. Bool) [ Some w ↦ same_value v w | None ↦ false ]) cell ∙ same_value-itself v
 
-now-holds : (states : List ObjState) (loose : List (List Cell)) → AreProper states → Hold states loose states
+now-holds : (states : List ObjState) (loose : List (List Cell)) → AreProper states → Hold (may_hold states loose) states
 now-holds states loose proper = record {
   proper = proper;
   held = λ ob s key v at cell.
@@ -78,14 +75,14 @@ now-left states queues ob n s own at =
 pub may-be-now : (outlook : OutlookOf) (objects : List Declared) (h : History) (p : List Decision) → outlook.now ≡ reached objects h p → AreWithin outlook.spans outlook.now →
     MayBe outlook (reached objects h p)
 may-be-now outlook objects h p is within = record {
-  cells = subst (λ z. Hold outlook.now outlook.loose z) is (now-holds outlook.now outlook.loose (subst AreProper (sym is) (proper-reached objects h p)));
+  cells = subst (λ z. Hold (may_hold outlook.now outlook.loose) z) is (now-holds outlook.now outlook.loose (subst AreProper (sym is) (proper-reached objects h p)));
   counters = subst (λ z. AreWithin outlook.spans z) is within;
   lines = subst (λ z. AreLeft outlook.now outlook.queues z) is (now-left outlook.now outlook.queues);
 }
 
 -- # All parts
 
-pub nowhere_cells : (outlook : OutlookOf) (xs : List Execution) → RunNowhere (Hold outlook.now outlook.loose) xs → RunNowhere (MayBe outlook) xs
+pub nowhere_cells : (outlook : OutlookOf) (xs : List Execution) → RunNowhere (Hold (may_hold outlook.now outlook.loose)) xs → RunNowhere (MayBe outlook) xs
 nowhere_cells outlook xs nowhere states may = nowhere states may.cells
 
 pub nowhere_counters : (outlook : OutlookOf) (xs : List Execution) → RunNowhere (AreWithin outlook.spans) xs → RunNowhere (MayBe outlook) xs
@@ -94,10 +91,7 @@ nowhere_counters outlook xs nowhere states may = nowhere states may.counters
 pub nowhere_queues : (outlook : OutlookOf) (xs : List Execution) → RunNowhere (AreLeft outlook.now outlook.queues) xs → RunNowhere (MayBe outlook) xs
 nowhere_queues outlook xs nowhere states may = nowhere states may.lines
 
-pub nowhere-stays : (outlook : OutlookOf) (xs : List Execution) → RunNowhere (MayBe outlook) xs → StayWithin (MayBe outlook) xs
-nowhere-stays outlook xs nowhere states after may ran = absurd (let none : executed states xs ≡ None = nowhere states may in cc)
-
-pub all-stay : (outlook : OutlookOf) (xs : List Execution) → StayWithin (Hold outlook.now outlook.loose) xs → StayWithin (AreWithin outlook.spans) xs → StayWithin (AreLeft outlook.now outlook.queues) xs →
+pub all-stay : (outlook : OutlookOf) (xs : List Execution) → StayWithin (Hold (may_hold outlook.now outlook.loose)) xs → StayWithin (AreWithin outlook.spans) xs → StayWithin (AreLeft outlook.now outlook.queues) xs →
     StayWithin (MayBe outlook) xs
 all-stay outlook xs cells counters queues states after may ran = record {
   cells = cells states after may.cells ran;

@@ -10,6 +10,7 @@ use Rattle.aud_event.specs.declared.object.Answer.TheVariants.{Int, Flag, Empty}
 use Rattle.aud_object.specs.Objects.{ObjState, register, set_of, map_of, has_member}
 use Rattle.aud_object.specs.Entries.{value_at}
 use Rattle.aud_object.specs.Proper.{IsProper}
+use Rattle.aud_object.specs.Replayed.{executed}
 use Rattle.aud_object.specs.declared.execution.Execution.{Execution}
 use Rattle.aud_ahead.specs.declared.cell.Key.{Key}
 use Rattle.aud_ahead.specs.declared.cell.Key.TheVariants.{Own, Element, Entry}
@@ -102,33 +103,48 @@ is_now (Some s) key v = elim (cell_of s key) [ Some w ↦ same_value v w | None 
 abbrev pub is_cell : Key → Option ℤ → Cell → Bool
 is_cell key v c = same_key c.key key && same_value v c.value
 
+-- which values cells may have: of an object's cell
+abbrev pub MayHold : Type 0
+MayHold = ℕ → Key → Option ℤ → Bool
+
 -- the cell has the value now, or it is among those that it may have, too
-abbrev pub may_hold : List ObjState → List (List Cell) → ℕ → Key → Option ℤ → Bool
+abbrev pub may_hold : List ObjState → List (List Cell) → MayHold
 may_hold now loose ob key v = is_now (slice_get now ob) key v || list_any (is_cell key v) (slice_index_or loose ob [])
 
--- the same where it is known what was told of the cell
-abbrev pub may_hold_by : List ObjState → List (List Cell) → ℕ → Key → Option (Option ℤ) → Option ℤ → Bool
-may_hold_by now loose ob key None v = may_hold now loose ob key v
-may_hold_by now loose ob key (Some w) v = same_value v w
+-- the cells may have all but the one value of the one cell
+abbrev pub lacks : ℕ → Cell → MayHold
+lacks object c ob key v = not (nat_eq ob object && is_cell key v c)
+
+-- whether the cell may have the value where it is known what was told of it
+abbrev pub may_hold_by : MayHold → ℕ → Key → Option (Option ℤ) → Option ℤ → Bool
+may_hold_by may ob key None v = may ob key v
+may_hold_by may ob key (Some w) v = same_value v w
+
+abbrev pub AreProper : List ObjState → Type 0
+AreProper states = (ob : ℕ) (s : ObjState) → slice_get states ob ≡ Some s → IsProper s
 
 -- the states are proper, and each cell has after executions what it may have
-pub record HoldAfter (now : List ObjState) (loose : List (List Cell)) (xs : List Execution) (states : List ObjState) : Type 0 where
-  pub proper : (ob : ℕ) (s : ObjState) → slice_get states ob ≡ Some s → IsProper s
+pub record HoldAfter (may : MayHold) (xs : List Execution) (states : List ObjState) : Type 0 where
+  pub proper : AreProper states
   pub held : (ob : ℕ) (s : ObjState) (key : Key) (v : Option ℤ) → slice_get states ob ≡ Some s → cell_of s key ≡ Some v →
-      may_hold_by now loose ob key (told None xs ob key) v ≡ true
+      may_hold_by may ob key (told None xs ob key) v ≡ true
 
 -- each cell has what it may have
-abbrev pub Hold : List ObjState → List (List Cell) → List ObjState → Type 0
-Hold now loose states = HoldAfter now loose [] states
+abbrev pub Hold : MayHold → List ObjState → Type 0
+Hold may states = HoldAfter may [] states
 
 -- what the operation and its answer tell of the object before it may be, after executions
-abbrev pub may_see : List ObjState → List (List Cell) → List Execution → ℕ → Option Cell → Bool
-may_see now loose before ob None = true
-may_see now loose before ob (Some c) = may_hold_by now loose ob c.key (told None before ob c.key) c.value
+abbrev pub may_see : MayHold → List Execution → ℕ → Option Cell → Bool
+may_see may before ob None = true
+may_see may before ob (Some c) = may_hold_by may ob c.key (told None before ob c.key) c.value
 
-abbrev pub may_answer : List ObjState → List (List Cell) → List Execution → Execution → Bool
-may_answer now loose before x = may_see now loose before x.object (seen_by x.op x.answer)
+abbrev pub may_answer : MayHold → List Execution → Execution → Bool
+may_answer may before x = may_see may before x.object (seen_by x.op x.answer)
 
 -- what the executions tell last of each cell is among what it may have
-abbrev pub TellWithin : List ObjState → List (List Cell) → List Execution → Type 0
-TellWithin now loose xs = (ob : ℕ) (key : Key) (v : Option ℤ) → told None xs ob key ≡ Some v → may_hold now loose ob key v ≡ true
+abbrev pub TellWithin : MayHold → List Execution → Type 0
+TellWithin may xs = (ob : ℕ) (key : Key) (v : Option ℤ) → told None xs ob key ≡ Some v → may ob key v ≡ true
+
+-- wherever the executions run, they leave cells with what these may have
+abbrev pub LeadWithin : MayHold → List Execution → Type 0
+LeadWithin may xs = (states after : List ObjState) → AreProper states → executed states xs ≡ Some after → Hold may after

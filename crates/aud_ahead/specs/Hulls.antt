@@ -8,8 +8,9 @@ use Rattle.aud_history.specs.Histories.{History, is_in, is_before}
 use Rattle.aud_history.specs.WellFormed.{IsWellFormed}
 use Rattle.aud_history.specs.FirstFault.{IsWithinLimits}
 use Rattle.aud_history.specs.Table.{row_of}
-use Rattle.aud_witness.specs.declared.decision.Fate.TheVariants.{C}
+use Rattle.aud_witness.specs.declared.decision.Fate.TheVariants.{C, A}
 use Rattle.aud_witness.specs.declared.decision.Decision.{Decision}
+use Rattle.aud_ahead.specs.Cells.{AreProper}
 use Rattle.aud_witness.specs.Orders.{is_allowed, is_named, kept, Refuted}
 
 -- the states of all objects after what is kept of a list
@@ -29,6 +30,25 @@ pub record IsHull (objects : List Declared) (h : History) (p : List Decision) (t
   pub now : may_be (reached objects h p)
   pub closed : (d : Decision) (before after : List ObjState) → MayComeBefore h p t d → d.fate ≡ C → may_be before →
       replayed before (row_of h d.tx).block ≡ Some after → may_be after
+
+-- in a list that begins with p, the decision may stand between V and T
+pub record MayComeBetween (h : History) (p : List Decision) (v t : ℕ) (d : Decision) : Type 0 where
+  pub early : MayComeBefore h p t d
+  pub late : is_before h d.tx v ≡ false
+
+-- a hull of the states between V and T: it has the states after V wherever that runs, and with some states those after each block that
+-- may come to be kept there
+pub record IsHullFrom (objects : List Declared) (h : History) (p : List Decision) (v t : ℕ) (may_be : List ObjState → Type 0) : Type 0 where
+  pub begun : (before after : List ObjState) → AreProper before → replayed before (row_of h v).block ≡ Some after → may_be after
+  pub closed : (d : Decision) (before after : List ObjState) → MayComeBetween h p v t d → d.fate ≡ C → may_be before →
+      replayed before (row_of h d.tx).block ≡ Some after → may_be after
+
+-- V is not placed and commits, and T comes after it
+pub record StandsBefore (h : History) (p : List Decision) (v t : ℕ) : Type 0 where
+  pub in_history : is_in h v ≡ true
+  pub new : is_named p v ≡ false
+  pub commits : is_allowed h v A ≡ false
+  pub before : is_before h v t ≡ true
 
 -- the block of T runs in none of the states
 abbrev pub RunsNowhere : History → ℕ → (List ObjState → Type 0) → Type 0

@@ -2,14 +2,14 @@
 use Rattle.std.specs.Prelude.{◌≡◌, ℕ, Bool, true, false, not, ◌&&◌, ◌<◌, nat_lt, List, Some, slice_get, slice_index_or, length}
 use Rattle.aud_object.specs.Objects.{ObjState}
 use Rattle.aud_history.specs.Table.{RowOf}
-use Rattle.aud_witness.specs.declared.decision.Fate.TheVariants.{C}
+use Rattle.aud_witness.specs.declared.decision.Fate.TheVariants.{C, A}
 use Rattle.aud_witness.specs.Orders.{Refuted}
 use Rattle.aud_witness.specs.Spots.{is_ended, status_allows}
 use Rattle.aud_order.specs.Shapes.{objects_of, history_of}
 use Rattle.aud_order.specs.Cursors.{CursorOf}
 use Rattle.aud_ahead.specs.declared.cell.Cell.{Cell}
 use Rattle.aud_ahead.specs.declared.span.Span.{Span}
-use Rattle.aud_ahead.specs.Cells.{Hold}
+use Rattle.aud_ahead.specs.Cells.{may_hold, Hold}
 use Rattle.aud_ahead.specs.Ranges.{StayWithin}
 use Rattle.aud_ahead.specs.Spans.{AreWithin}
 use Rattle.aud_ahead.specs.Queues.{QueuesOf, AreLeft}
@@ -23,7 +23,7 @@ pub record OutlookOf : Type 0 where
 
 -- the states may be
 pub record MayBe (outlook : OutlookOf) (states : List ObjState) : Type 0 where
-  pub cells : Hold outlook.now outlook.loose states
+  pub cells : Hold (may_hold outlook.now outlook.loose) states
   pub counters : AreWithin outlook.spans states
   pub lines : AreLeft outlook.now outlook.queues states
 
@@ -39,6 +39,21 @@ AreClosed outlook rows placed t n =
 -- the same of all rows
 abbrev pub IsClosed : OutlookOf → List RowOf → List Bool → RowOf → Type 0
 IsClosed outlook rows placed t = AreClosed outlook rows placed t (length rows)
+
+-- the first row's transaction commits, and ends before the second one's begins
+pub record HasToPrecede (v t : RowOf) : Type 0 where
+  pub commits : status_allows v.status A ≡ false
+  pub ended : is_ended v.status ≡ true
+  pub before : nat_lt v.last t.first ≡ true
+
+-- the third row's transaction may commit, and has not to come after the second one's or before the first one's
+abbrev pub may_come_between : RowOf → RowOf → RowOf → Bool
+may_come_between v t r = may_come t r && not (is_ended r.status && nat_lt r.last v.first)
+
+-- of the first rows, each that is not placed and may come between the two leads from such states to such
+abbrev pub AreClosedBetween : (List ObjState → Type 0) → List RowOf → List Bool → RowOf → RowOf → ℕ → Type 0
+AreClosedBetween may_be rows placed v t n =
+    (k : ℕ) (r : RowOf) → k < n → slice_get rows k ≡ Some r → slice_index_or placed k false ≡ false → may_come_between v t r ≡ true → StayWithin may_be r.block.executions
 
 -- no list that begins with the cursor's shows the history
 abbrev pub IsDoomed : CursorOf → Type 0

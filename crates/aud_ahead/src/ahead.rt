@@ -4,9 +4,11 @@ ghost use Rattle.std.specs.Prelude.{◌≡◌, IfOk, IsTrue, MatchOption, ◌<�
 ghost use Rattle.aud_ahead.specs.Outlooks.{IsDoomed};
 
 use crate::brief::{Brief, Slots, briefs_of};
-use crate::judge::is_stuck;
+use crate::cell::Cell;
+use crate::cells::Lack;
+use crate::judge::{is_cut_off, is_stuck};
 use crate::sight::{Sight, admit_until};
-use crate::wants::Wants;
+use crate::wants::{Starving, Wants};
 use aud_event::OutOfMemory;
 use aud_order::{Cursor, Shape};
 use std::alloc::{Allocator, Global};
@@ -126,19 +128,30 @@ impl<'a, A: Allocator + Copy> Ahead<'a, A> {
         Ok(is_stuck(self.shape, cursor, &loose, &spans, &queues, place))
     }
 
-    /// A row that needs what no row that is not placed may bring any more, once the row at the place was placed.
-    fn find_starving(&self, cursor: &Cursor<A>, placed_last: usize) -> Option<usize> {
-        let (store, placed) = (cursor.store(), cursor.placed());
-        let slots = &self.slots.list;
+    /// A row that needs what no row that is not placed may bring any more, once the row at the place was placed, with the cell's place.
+    fn find_starving(&self, cursor: &Cursor<A>, placed_last: usize) -> Option<(usize, Starving)> {
         let brief = self.briefs.get(placed_last)?;
         for touch in &brief.touches {
             if touch.leaves.is_some() {
-                let found = self
-                    .wants
-                    .starving(store, placed, slots, touch.slot, NEAREST);
-                if found.is_some() {
-                    return found;
+                if let Some(found) = self.starving_at(cursor, touch.slot, NEAREST) {
+                    return Some((touch.slot, found));
                 }
+            }
+        }
+        None
+    }
+
+    fn starving_at(&self, cursor: &Cursor<A>, slot: usize, looks: usize) -> Option<Starving> {
+        let (store, placed) = (cursor.store(), cursor.placed());
+        self.wants
+            .starving(store, placed, &self.slots.list, slot, looks)
+    }
+
+    /// The same of any cell, before a row was placed.
+    fn find_starving_first(&self, cursor: &Cursor<A>) -> Option<(usize, Starving)> {
+        for slot in 0..self.slots.list.len() {
+            if let Some(found) = self.starving_at(cursor, slot, usize::MAX) {
+                return Some((slot, found));
             }
         }
         None
@@ -158,18 +171,73 @@ impl<'a, A: Allocator + Copy> Ahead<'a, A> {
         Ok(!self.sight.is_active(place))
     }
 
+    /// Whether it is so that the row needs what it cannot have of the cell at the place once the start was placed.
+    fn is_cut_off(
+        &self,
+        cursor: &Cursor<A>,
+        slot: usize,
+        value: Option<i64>,
+        start: usize,
+        place: usize,
+    ) -> bool
+        requires { cursor.now.shape ≡ self.now }
+        ensures { IsTrue result → IsDoomed cursor.now }
+    {
+        let Some(slot) = self.slots.list.get(slot) else {
+            return false;
+        };
+        let lack = Lack {
+            object: slot.object,
+            cell: Cell {
+                key: slot.key,
+                value,
+            },
+        };
+        let count = self.shape.table().rows().len();
+        start < count && place < count && is_cut_off(self.shape, cursor, lack, start, place)
+    }
+
+    /// Whether what was found shows that no list that begins with the cursor's shows the history.
+    fn is_starved(
+        &mut self,
+        cursor: &Cursor<A>,
+        slot: usize,
+        found: Starving,
+    ) -> Result<bool, OutOfMemory>
+        requires { cursor.now.shape ≡ self.old }
+        ensures doomed { IfOk result (λ doomed. IsTrue doomed → IsDoomed cursor.now) }
+        ensures same { self.new ≡ self.old }
+    {
+        if let Some(start) = found.start {
+            return Ok(self.is_cut_off(cursor, slot, found.value, start, found.place));
+        }
+        if self.is_stuck_alone(cursor, found.place)? {
+            return self.is_shown(cursor, found.place);
+        }
+        Ok(false)
+    }
+
     fn look_after(&mut self, cursor: &Cursor<A>, placed_last: usize) -> Result<bool, OutOfMemory>
         requires { cursor.now.shape ≡ self.old }
         ensures doomed { IfOk result (λ doomed. IsTrue doomed → IsDoomed cursor.now) }
         ensures same { self.new ≡ self.old }
     {
-        let Some(place) = self.find_starving(cursor, placed_last) else {
-            return Ok(false);
-        };
-        if self.is_stuck_alone(cursor, place)? {
-            return self.is_shown(cursor, place);
+        match self.find_starving(cursor, placed_last) {
+            Some((slot, found)) => self.is_starved(cursor, slot, found),
+            None => Ok(false),
         }
-        Ok(false)
+    }
+
+    /// Whether a row needs what it cannot have, whatever comes first.
+    fn look_first(&mut self, cursor: &Cursor<A>) -> Result<bool, OutOfMemory>
+        requires { cursor.now.shape ≡ self.old }
+        ensures doomed { IfOk result (λ doomed. IsTrue doomed → IsDoomed cursor.now) }
+        ensures same { self.new ≡ self.old }
+    {
+        match self.find_starving_first(cursor) {
+            Some((slot, found)) => self.is_starved(cursor, slot, found),
+            None => Ok(false),
+        }
     }
 
     fn look(&mut self, cursor: &Cursor<A>, looks: usize) -> Result<bool, OutOfMemory>
@@ -203,12 +271,13 @@ impl<'a, A: Allocator + Copy> Ahead<'a, A> {
         ensures doomed { IfOk result (λ doomed. IsTrue doomed → IsDoomed cursor.now) }
         ensures same { self.new ≡ self.old }
     {
-        let looks = if cursor.prefix().is_empty() {
-            usize::MAX
-        } else {
-            LOOKS
-        };
-        self.look(cursor, looks)
+        if !cursor.prefix().is_empty() {
+            return self.look(cursor, LOOKS);
+        }
+        if self.look_first(cursor)? {
+            return Ok(true);
+        }
+        self.look(cursor, usize::MAX)
     }
 
     /// The same, but where memory is refused it says no.

@@ -42,6 +42,7 @@ pub(crate) struct Brief<A: Allocator + Copy> {
     /// The last event, or the greatest number if the transaction has not ended.
     pub last: u32,
     pub commits: bool,
+    pub has_to_commit: bool,
     /// Whether its answers agree with one another.
     pub runs: bool,
     pub touches: Vec<Touch, A>,
@@ -115,6 +116,7 @@ impl<A: Allocator + Copy> Brief<A> {
                 u32::MAX
             },
             commits: allows(row.status(), Fate::C),
+            has_to_commit: !allows(row.status(), Fate::A),
             runs: true,
             touches: Vec::new(alloc),
             moves: Vec::new(alloc),

@@ -1,9 +1,10 @@
 //! What the cells of registers, sets and maps may have.
 
-ghost use Rattle.std.specs.Prelude.{◌≡◌, ℤ, Option, IsTrue, true, false, None, Some, slice_get, slice_index_or, []};
+ghost use Rattle.std.specs.Prelude.{◌≡◌, ℕ, ℤ, Bool, Option, IsTrue, true, false, None, Some, slice_get, slice_index_or, []};
 ghost use Rattle.std.specs.List.{list_any};
-ghost use Rattle.aud_ahead.specs.Cells.{is_cell, is_now, may_answer, may_hold, may_hold_by, may_see, newer, told, told_by, told_of, Hold, TellWithin};
+ghost use Rattle.aud_ahead.specs.Cells.{is_cell, is_now, lacks, may_answer, may_hold, may_hold_by, may_see, newer, told, told_by, told_of, Hold, LeadWithin};
 ghost use Rattle.aud_ahead.specs.declared.cell.Cell.{Cell};
+ghost use Rattle.aud_ahead.specs.declared.cell.Key.{Key};
 ghost use Rattle.aud_ahead.specs.Ranges.{RunNowhere, StayWithin};
 
 use crate::cell::{Cell, Key, one_if, same_key, same_value, seen_by, told_by};
@@ -90,6 +91,104 @@ fn has_cell(cells: &[Cell], key: Key, value: Option<i64>) -> bool
     cells.iter().any(|cell| is_cell(key, value, cell))
 }
 
+/// What tells which values cells may have.
+pub(crate) trait MayHold {
+    // Which values they are.
+    ghost may: { Self → ℕ → Key → Option ℤ → Bool };
+
+    /// Whether the object's cell may have the value.
+    fn has(&self, object: usize, key: Key, value: Option<i64>) -> bool
+        ensures { result ≡ may self.now object key value };
+}
+
+/// The same where it is known what was told of the cell.
+fn has_by<M: MayHold>(
+    cells: &M,
+    object: usize,
+    key: Key,
+    known: Option<Option<i64>>,
+    value: Option<i64>,
+) -> bool
+    ensures { result ≡ may_hold_by (M.may cells.now) object key known value }
+{
+    match known {
+        None => cells.has(object, key, value),
+        Some(only) => same_value(value, only),
+    }
+}
+
+/// Whether the object may have the cell before an operation, after executions.
+fn may_see<M: MayHold>(cells: &M, before: &[Execution], object: u16, seen: Option<Cell>) -> bool
+    ensures { result ≡ may_see (M.may cells.now) before.now object seen }
+{
+    match seen {
+        None => true,
+        Some(cell) => {
+            let known = told(before, object, cell.key);
+            has_by(cells, object as usize, cell.key, known, cell.value)
+        }
+    }
+}
+
+/// Whether the execution may have its answer after the others.
+fn may_answer<M: MayHold>(cells: &M, before: &[Execution], x: &Execution) -> bool
+    ensures { result ≡ may_answer (M.may cells.now) before.now x.now }
+{
+    may_see(cells, before, x.object, seen_by(x.op, x.answer))
+}
+
+/// Whether the executions may run.
+pub(crate) fn may_run<M: MayHold>(cells: &M, executions: &[Execution]) -> bool
+    ensures { result ≡ false → RunNowhere (Hold (M.may cells.now)) executions.now }
+{
+    for (place, x) in executions.iter().enumerate() {
+        if !may_answer(cells, &executions[..place], x) {
+            return false;
+        }
+    }
+    true
+}
+
+/// Whether what the executions tell last of the cell is among what it may have.
+fn has_told<M: MayHold>(cells: &M, executions: &[Execution], object: u16, key: Key) -> bool
+    ensures { IsTrue result → (v : Option ℤ) → told None executions.now object key ≡ Some v → M.may cells.now object key v ≡ true }
+{
+    match told(executions, object, key) {
+        Some(value) => cells.has(object as usize, key, value),
+        None => true,
+    }
+}
+
+/// The same of the cell of which the execution tells, if it does of one.
+fn has_told_by<M: MayHold>(cells: &M, executions: &[Execution], x: &Execution) -> bool
+    ensures { IsTrue result → (c : Cell) (v : Option ℤ) → told_by x.now.op x.now.answer ≡ Some c → told None executions.now x.now.object c.key ≡ Some v →
+        M.may cells.now x.now.object c.key v ≡ true }
+{
+    match told_by(x.op, x.answer) {
+        Some(cell) => has_told(cells, executions, x.object, cell.key),
+        None => true,
+    }
+}
+
+/// Whether the executions lead from what cells may have to what they may have, where they run.
+pub(crate) fn stays<M: MayHold>(cells: &M, executions: &[Execution]) -> bool
+    ensures { IsTrue result → StayWithin (Hold (M.may cells.now)) executions.now }
+{
+    for x in executions {
+        if !has_told_by(cells, executions, x) {
+            return false;
+        }
+    }
+    true
+}
+
+/// Whether the executions lead from what cells may have to what they may have, or run nowhere.
+pub(crate) fn keeps<M: MayHold>(cells: &M, executions: &[Execution]) -> bool
+    ensures { IsTrue result → StayWithin (Hold (M.may cells.now)) executions.now }
+{
+    !may_run(cells, executions) || stays(cells, executions)
+}
+
 /// For each object the cells that it may have, beside those that it has now.
 #[derive(Drop)]
 pub(crate) struct Loose<A: Allocator + Copy = Global> {
@@ -128,102 +227,65 @@ impl<A: Allocator + Copy> Loose<A> {
         }
     }
 
-    /// Whether the object's cell may have the value.
-    fn has(&self, store: &Store<A>, object: usize, key: Key, value: Option<i64>) -> bool
-        ensures { result ≡ may_hold store.now.now self.now object key value }
+    /// Whether the cell with the value is among them.
+    fn has(&self, object: usize, key: Key, value: Option<i64>) -> bool
+        ensures { result ≡ list_any (is_cell key value) (slice_index_or self.now object []) }
     {
-        is_now(store, object, key, value)
-            || match self.cells.get(object) {
-                Some(cells) => has_cell(cells, key, value),
-                None => false,
-            }
-    }
-
-    /// The same where it is known what was told of the cell.
-    fn has_by(
-        &self,
-        store: &Store<A>,
-        object: usize,
-        key: Key,
-        known: Option<Option<i64>>,
-        value: Option<i64>,
-    ) -> bool
-        ensures { result ≡ may_hold_by store.now.now self.now object key known value }
-    {
-        match known {
-            None => self.has(store, object, key, value),
-            Some(only) => same_value(value, only),
+        match self.cells.get(object) {
+            Some(cells) => has_cell(cells, key, value),
+            None => false,
         }
     }
+}
 
-    /// Whether the object may have the cell before an operation, after executions.
-    fn may_see(
-        &self,
-        store: &Store<A>,
-        before: &[Execution],
-        object: u16,
-        seen: Option<Cell>,
-    ) -> bool
-        ensures { result ≡ may_see store.now.now self.now before.now object seen }
-    {
-        match seen {
-            None => true,
-            Some(cell) => {
-                let known = told(before, object, cell.key);
-                self.has_by(store, object as usize, cell.key, known, cell.value)
-            }
-        }
+/// What cells have now, and what they may have beside that.
+#[derive(Drop)]
+pub(crate) struct Listed<'a, A: Allocator + Copy = Global> {
+    pub store: &'a Store<A>,
+    pub loose: &'a Loose<A>,
+}
+
+impl<'a, A: Allocator + Copy> Model for Listed<'a, A> {
+    ghost use Rattle.std.specs.Prelude.{List};
+    ghost use Rattle.aud_object.specs.Objects.{ObjState};
+    ghost use Rattle.aud_ahead.specs.declared.cell.Cell.{Cell};
+
+    ghost Value = { List ObjState × List (List Cell) };
+
+    ghost view = { λ l. (l.store.now.now, l.loose.now) };
+}
+
+impl<'a, A: Allocator + Copy> MayHold for Listed<'a, A> {
+    ghost may = { λ l. may_hold l.0 l.1 };
+
+    fn has(&self, object: usize, key: Key, value: Option<i64>) -> bool {
+        is_now(self.store, object, key, value) || self.loose.has(object, key, value)
     }
+}
 
-    /// Whether the execution may have its answer after the others.
-    fn may_answer(&self, store: &Store<A>, before: &[Execution], x: &Execution) -> bool
-        ensures { result ≡ may_answer store.now.now self.now before.now x.now }
-    {
-        self.may_see(store, before, x.object, seen_by(x.op, x.answer))
+/// A cell that may have all but one value, where all others may have any.
+#[derive(Clone, Copy)]
+pub(crate) struct Lack {
+    pub object: u16,
+    pub cell: Cell,
+}
+
+impl MayHold for Lack {
+    ghost may = { λ l. lacks l.object l.cell };
+
+    fn has(&self, object: usize, key: Key, value: Option<i64>) -> bool {
+        !(object == self.object as usize && is_cell(key, value, &self.cell))
     }
+}
 
-    /// Whether the executions may run.
-    pub(crate) fn may_run(&self, store: &Store<A>, executions: &[Execution]) -> bool
-        ensures { result ≡ false → RunNowhere (Hold store.now.now self.now) executions.now }
+impl Lack {
+    /// Whether the executions leave the cell with another value, wherever they run.
+    pub(crate) fn is_left(&self, executions: &[Execution]) -> bool
+        ensures { IsTrue result → LeadWithin (lacks self.now.object self.now.cell) executions.now }
     {
-        for (place, x) in executions.iter().enumerate() {
-            if !self.may_answer(store, &executions[..place], x) {
-                return false;
-            }
+        match told(executions, self.object, self.cell.key) {
+            Some(value) => !same_value(value, self.cell.value),
+            None => false,
         }
-        true
-    }
-
-    /// Whether what the executions tell last of the cell is among what it may have.
-    fn has_told(&self, store: &Store<A>, executions: &[Execution], object: u16, key: Key) -> bool
-        ensures { IsTrue result → (v : Option ℤ) → told None executions.now object key ≡ Some v → may_hold store.now.now self.now object key v ≡ true }
-    {
-        match told(executions, object, key) {
-            Some(value) => self.has(store, object as usize, key, value),
-            None => true,
-        }
-    }
-
-    /// The same of the cell of which the execution tells, if it does of one.
-    fn has_told_by(&self, store: &Store<A>, executions: &[Execution], x: &Execution) -> bool
-        ensures { IsTrue result → (c : Cell) (v : Option ℤ) → told_by x.now.op x.now.answer ≡ Some c → told None executions.now x.now.object c.key ≡ Some v →
-            may_hold store.now.now self.now x.now.object c.key v ≡ true }
-    {
-        match told_by(x.op, x.answer) {
-            Some(cell) => self.has_told(store, executions, x.object, cell.key),
-            None => true,
-        }
-    }
-
-    /// Whether the executions lead from what cells may have to what they may have, where they run.
-    pub(crate) fn stays(&self, store: &Store<A>, executions: &[Execution]) -> bool
-        ensures { IsTrue result → StayWithin (Hold store.now.now self.now) executions.now }
-    {
-        for x in executions {
-            if !self.has_told_by(store, executions, x) {
-                return false;
-            }
-        }
-        true
     }
 }

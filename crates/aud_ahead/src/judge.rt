@@ -5,9 +5,10 @@ ghost use Rattle.aud_history.specs.Table.{table_of};
 ghost use Rattle.aud_witness.specs.Spots.{is_ended};
 ghost use Rattle.aud_order.specs.Shapes.{history_of};
 ghost use Rattle.aud_ahead.specs.Ranges.{StayWithin};
-ghost use Rattle.aud_ahead.specs.Outlooks.{may_come, IsClosed, IsDoomed, MayBe};
+ghost use Rattle.aud_ahead.specs.Outlooks.{may_come, may_come_between, AreClosedBetween, HasToPrecede, IsClosed, IsDoomed, MayBe};
+ghost use Rattle.aud_ahead.specs.Cells.{lacks, Hold};
 
-use crate::cells::Loose;
+use crate::cells::{Lack, Loose, keeps, may_run};
 use crate::outlook::Outlook;
 use crate::queues::Queues;
 use crate::span::Spans;
@@ -92,4 +93,78 @@ pub(crate) fn is_stuck<A: Allocator + Copy>(
         return false;
     }
     outlook.holds() && is_closed(&outlook, rows, placed, row)
+}
+
+/// Whether the first row's transaction commits, and ends before the other one's begins.
+fn has_to_precede<A: Allocator>(row: &TxRow<A>, other: &TxRow<A>) -> bool
+    ensures { IsTrue result → HasToPrecede row.now other.now }
+{
+    !allows(row.status(), Fate::A) && has_ended(row.status()) && row.last() < other.first()
+}
+
+/// Whether the third row's transaction may commit between those of the first and the second one.
+fn may_come_between<A: Allocator>(start: &TxRow<A>, row: &TxRow<A>, other: &TxRow<A>) -> bool
+    ensures { result ≡ may_come_between start.now row.now other.now }
+{
+    may_come(row, other) && !(has_ended(other.status()) && other.last() < start.first())
+}
+
+/// Whether the third row leaves the cell lacking, where it is not placed and may come between the first and the second one.
+fn stays_lacking<A: Allocator>(
+    lack: Lack,
+    start: &TxRow<A>,
+    row: &TxRow<A>,
+    other: &TxRow<A>,
+    is_placed: bool,
+) -> bool
+    ensures { IsTrue result → is_placed ≡ false → may_come_between start.now row.now other.now ≡ true →
+        StayWithin (Hold (lacks lack.object lack.cell)) other.now.block.executions }
+{
+    is_placed || !may_come_between(start, row, other) || keeps(&lack, other.block().executions())
+}
+
+/// Whether all rows do.
+fn all_stay_lacking<A: Allocator + Copy>(
+    lack: Lack,
+    rows: &[TxRow<A>],
+    placed: &Marks<A>,
+    start: &TxRow<A>,
+    row: &TxRow<A>,
+) -> bool
+    ensures { IsTrue result → AreClosedBetween (Hold (lacks lack.object lack.cell)) rows.now placed.now start.now row.now (length rows.now) }
+{
+    for (place, other) in rows.iter().enumerate() {
+        if !stays_lacking(lack, start, row, other, placed.has(place)) {
+            return false;
+        }
+    }
+    true
+}
+
+/// Whether the row at the place needs what the cell lacks once the transaction of the row at another place, which has to come before it,
+/// committed, and what no transaction that may come between them brings back: then no list that begins with the cursor's shows the history.
+pub(crate) fn is_cut_off<A: Allocator + Copy>(
+    shape: &Shape<A>,
+    cursor: &Cursor<A>,
+    lack: Lack,
+    start: usize,
+    place: usize,
+) -> bool
+    requires shape { cursor.now.shape ≡ shape.now }
+    requires started { start < length (table_of (history_of shape.now)) }
+    requires inside { place < length (table_of (history_of shape.now)) }
+    ensures { IsTrue result → IsDoomed cursor.now }
+{
+    let _sound = shape.history();
+    let _within = shape.plan();
+    let rows = shape.table().rows();
+    let (first, row) = (&rows[start], &rows[place]);
+    let placed = cursor.placed();
+    if placed.has(start) || !has_to_precede(first, row) {
+        return false;
+    }
+    if may_run(&lack, row.block().executions()) || !lack.is_left(first.block().executions()) {
+        return false;
+    }
+    all_stay_lacking(lack, rows, placed, first, row)
 }

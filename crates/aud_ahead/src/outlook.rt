@@ -5,7 +5,7 @@ ghost use Rattle.aud_ahead.specs.Outlooks.{MayBe};
 ghost use Rattle.aud_ahead.specs.Ranges.{RunNowhere, StayWithin};
 ghost use Rattle.aud_ahead.specs.Spans.{AreWithin};
 
-use crate::cells::Loose;
+use crate::cells::{Listed, Loose, may_run, stays};
 use crate::queues::Queues;
 use crate::span::Spans;
 use aud_object::{Execution, Store};
@@ -37,11 +37,21 @@ impl<'a, A: Allocator + Copy> Outlook<'a, A> {
         self.spans.hold(self.store)
     }
 
+    /// What cells may have.
+    fn cells(&self) -> Listed<'a, A>
+        ensures { result ≡ (self.now.now, self.now.loose) }
+    {
+        Listed {
+            store: self.store,
+            loose: self.loose,
+        }
+    }
+
     /// Whether the executions may run.
     pub(crate) fn may_run(&self, executions: &[Execution]) -> bool
         ensures { result ≡ false → RunNowhere (MayBe self.now) executions.now }
     {
-        if !self.loose.may_run(self.store, executions) {
+        if !may_run(&self.cells(), executions) {
             return false;
         }
         if !self.spans.may_run(executions) {
@@ -60,7 +70,7 @@ impl<'a, A: Allocator + Copy> Outlook<'a, A> {
         if !self.may_run(executions) {
             return true;
         }
-        self.loose.stays(self.store, executions)
+        stays(&self.cells(), executions)
             && self.spans.stays(executions)
             && self.queues.stays(self.store, executions)
     }

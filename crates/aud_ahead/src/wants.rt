@@ -12,6 +12,7 @@ use std::collections::BTreeMap;
 #[derive(Clone, Copy, PartialEq, Eq, PartialOrd, Ord)]
 struct Wanter {
     last: u32,
+    first: u32,
     place: usize,
     value: Option<i64>,
     bringers: usize,
@@ -21,7 +22,26 @@ struct Wanter {
 #[derive(Clone, Copy)]
 struct Bringer {
     first: u32,
+    last: u32,
     place: usize,
+}
+
+/// A row whose transaction commits and leaves a value in a cell, by when it ended.
+#[derive(Clone, Copy, PartialEq, Eq, PartialOrd, Ord)]
+struct Setter {
+    last: u32,
+    first: u32,
+    place: usize,
+    value: Option<i64>,
+}
+
+/// A row that needs a value of a cell that no other may bring any more: not after the start, if there is one, which is a row that has to
+/// come before it and leaves another value.
+#[derive(Clone, Copy)]
+pub(crate) struct Starving {
+    pub place: usize,
+    pub value: Option<i64>,
+    pub start: Option<usize>,
 }
 
 /// A value of a cell.
@@ -31,12 +51,13 @@ struct Content {
     value: Option<i64>,
 }
 
-/// The rows that need a value of a cell, those first that end first, and for each value the rows that may bring it, those first that
-/// begin first.
+/// The rows that need a value of a cell, those first that end first, for each value the rows that may bring it, those first that begin
+/// first, and the rows that leave a value in the cell for certain, those first that end first.
 #[derive(Drop)]
 pub(crate) struct Wants<A: Allocator + Copy> {
     wanters: Vec<Vec<Wanter, A>, A>,
     bringers: Vec<Vec<Bringer, A>, A>,
+    setters: Vec<Vec<Setter, A>, A>,
 }
 
 /// The places of the values among those that are brought or wanted.
@@ -63,6 +84,55 @@ impl<A: Allocator + Copy> Contents<A> {
 }
 
 impl<A: Allocator + Copy> Wants<A> {
+    fn want(
+        &mut self,
+        alloc: A,
+        contents: &mut Contents<A>,
+        place: usize,
+        brief: &Brief<A>,
+        content: Content,
+    ) -> Result<(), OutOfMemory> {
+        let bringers = contents.place(alloc, &mut self.bringers, content)?;
+        if let Some(wanters) = self.wanters.get_mut(content.slot) {
+            wanters.push(Wanter {
+                last: brief.last,
+                first: brief.first,
+                place,
+                value: content.value,
+                bringers,
+            })?;
+        }
+        Ok(())
+    }
+
+    fn bring(
+        &mut self,
+        alloc: A,
+        contents: &mut Contents<A>,
+        place: usize,
+        brief: &Brief<A>,
+        content: Content,
+    ) -> Result<(), OutOfMemory> {
+        let bringers = contents.place(alloc, &mut self.bringers, content)?;
+        let (first, last, value) = (brief.first, brief.last, content.value);
+        if let Some(bringers) = self.bringers.get_mut(bringers) {
+            if brief.commits {
+                bringers.push(Bringer { first, last, place })?;
+            }
+        }
+        if let Some(setters) = self.setters.get_mut(content.slot) {
+            if brief.has_to_commit {
+                setters.push(Setter {
+                    last,
+                    first,
+                    place,
+                    value,
+                })?;
+            }
+        }
+        Ok(())
+    }
+
     fn add(
         &mut self,
         alloc: A,
@@ -73,25 +143,10 @@ impl<A: Allocator + Copy> Wants<A> {
     ) -> Result<(), OutOfMemory> {
         let slot = touch.slot;
         if let Some(value) = touch.needs {
-            let bringers = contents.place(alloc, &mut self.bringers, Content { slot, value })?;
-            if let Some(wanters) = self.wanters.get_mut(slot) {
-                wanters.push(Wanter {
-                    last: brief.last,
-                    place,
-                    value,
-                    bringers,
-                })?;
-            }
+            self.want(alloc, contents, place, brief, Content { slot, value })?;
         }
         if let Some(value) = touch.leaves {
-            let content = Content { slot, value };
-            let bringers = contents.place(alloc, &mut self.bringers, content)?;
-            if let Some(bringers) = self.bringers.get_mut(bringers) {
-                if brief.commits {
-                    let first = brief.first;
-                    bringers.push(Bringer { first, place })?;
-                }
-            }
+            self.bring(alloc, contents, place, brief, Content { slot, value })?;
         }
         Ok(())
     }
@@ -100,8 +155,10 @@ impl<A: Allocator + Copy> Wants<A> {
         let mut wants = Wants {
             wanters: Vec::new(alloc),
             bringers: Vec::new(alloc),
+            setters: Vec::new(alloc),
         };
         for _ in 0..slots {
+            wants.setters.push(Vec::new(alloc))?;
             wants.wanters.push(Vec::new(alloc))?;
         }
         let mut contents = Contents {
@@ -115,11 +172,34 @@ impl<A: Allocator + Copy> Wants<A> {
         for wanters in wants.wanters.iter_mut() {
             wanters.sort()?;
         }
+        for setters in wants.setters.iter_mut() {
+            setters.sort()?;
+        }
         Ok(wants)
     }
 
-    /// Whether a row that is not placed may bring what is wanted in time.
-    fn may_come(&self, placed: &Marks<A>, wanter: Wanter) -> bool {
+    /// Of the rows that are not placed, have to come before the wanter and leave another value, the one that begins last.
+    fn start(&self, placed: &Marks<A>, slot: usize, wanter: Wanter) -> Option<Setter> {
+        let setters = self.setters.get(slot)?;
+        let mut start: Option<Setter> = None;
+        for setter in setters {
+            if setter.last >= wanter.first {
+                return start;
+            }
+            let is_later = match start {
+                Some(other) => other.first < setter.first,
+                None => true,
+            };
+            let is_open = setter.place < placed.len() && !placed.has(setter.place);
+            if is_open && is_later && setter.value != wanter.value {
+                start = Some(*setter);
+            }
+        }
+        start
+    }
+
+    /// Whether a row that is not placed may bring what is wanted, in time and not before an event.
+    fn may_come(&self, placed: &Marks<A>, wanter: Wanter, from: u32) -> bool {
         let Some(bringers) = self.bringers.get(wanter.bringers) else {
             return true;
         };
@@ -128,15 +208,44 @@ impl<A: Allocator + Copy> Wants<A> {
                 return false;
             }
             let is_open = bringer.place < placed.len() && !placed.has(bringer.place);
-            if is_open && bringer.place != wanter.place {
+            if is_open && bringer.last >= from && bringer.place != wanter.place {
                 return true;
             }
         }
         false
     }
 
-    /// A row that is not placed and needs a value of the cell that it does not have now and that none may bring, among so many of those
-    /// that end first.
+    /// The same of a wanter, if none may bring it what it wants.
+    fn starved(
+        &self,
+        placed: &Marks<A>,
+        slot: usize,
+        now: Option<Option<i64>>,
+        wanter: Wanter,
+    ) -> Option<Starving> {
+        let (place, value) = (wanter.place, wanter.value);
+        let start = self.start(placed, slot, wanter);
+        let from = match start {
+            Some(start) => start.first,
+            None => {
+                if now == Some(value) {
+                    return None;
+                }
+                0
+            }
+        };
+        if self.may_come(placed, wanter, from) {
+            return None;
+        }
+        let start = start.map(|start| start.place);
+        Some(Starving {
+            place,
+            value,
+            start,
+        })
+    }
+
+    /// A row that is not placed and needs a value of the cell that it will not have, among so many of those that end first.
     pub(crate) fn starving(
         &self,
         store: &Store<A>,
@@ -144,7 +253,7 @@ impl<A: Allocator + Copy> Wants<A> {
         slots: &[Slot],
         slot: usize,
         looks: usize,
-    ) -> Option<usize> {
+    ) -> Option<Starving> {
         let now = match slots.get(slot) {
             Some(slot) => cell_now(store, *slot),
             None => None,
@@ -159,8 +268,9 @@ impl<A: Allocator + Copy> Wants<A> {
                 return None;
             }
             looked += 1;
-            if now != Some(wanter.value) && !self.may_come(placed, *wanter) {
-                return Some(wanter.place);
+            let found = self.starved(placed, slot, now, *wanter);
+            if found.is_some() {
+                return found;
             }
         }
         None
