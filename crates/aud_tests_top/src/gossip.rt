@@ -79,6 +79,14 @@ impl<J: Fleet, S: Wait + Drop> Site<J, S> {
         verdict_at(&self.node, &mut self.pass)
     }
 
+    /// Whether the node knows what the packet knows, and no more.
+    fn knows_just(&mut self, packet: &Packet) -> bool {
+        match self.node.snapshot(&mut self.pass) {
+            Ok(own) => own.known.same(&packet.known),
+            Err(_) => false,
+        }
+    }
+
     /// An inbox with what the node knows, twice.
     fn post_twice<R: Wait>(&mut self, rt: &R, alloc: Global) -> Option<Receiver<Packet>> {
         let packet = self.node.snapshot(&mut self.pass).ok()?;
@@ -96,10 +104,15 @@ impl<J: Fleet, S: Wait + Drop> Site<J, S> {
     }
 }
 
-type Verdicts = [Result<Judgement, ReadFault>; 2];
+/// The verdicts of two nodes, and whether both know the same.
+type Verdicts = ([Result<Judgement, ReadFault>; 2], bool);
 
 fn verdicts<J: Fleet, S: Wait + Drop>(first: &mut Site<J, S>, second: &mut Site<J, S>) -> Verdicts {
-    [first.verdict(), second.verdict()]
+    let are_same = match first.node.snapshot(&mut first.pass) {
+        Ok(packet) => second.knows_just(&packet),
+        Err(_) => false,
+    };
+    ([first.verdict(), second.verdict()], are_same)
 }
 
 /// Packets in both directions, each twice, and what each node received.
@@ -194,10 +207,13 @@ fn two_running_nodes_come_to_one_verdict(rt: HostRuntime) -> Result<(), Fail> {
     let opened = (Opened::new(0), Opened::new(1));
     let told = told::<Brand, _>(&rt, alloc, opened, plans, &facts, finding);
     let verdicts = [
-        [Ok(Judgement::Waiting(1)), Ok(Judgement::Waiting(0))],
-        [Ok(Judgement::Unfinished); 2],
-        [Ok(Judgement::NotOpaque); 2],
-        [Ok(Judgement::NotOpaque); 2],
+        (
+            [Ok(Judgement::Waiting(1)), Ok(Judgement::Waiting(0))],
+            false,
+        ),
+        ([Ok(Judgement::Unfinished); 2], true),
+        ([Ok(Judgement::NotOpaque); 2], true),
+        ([Ok(Judgement::NotOpaque); 2], true),
     ];
     assert!(rt; told == Some((verdicts, [TWO_TAKEN; 2], [TWO_TAKEN; 2])));
     Ok(())

@@ -3,11 +3,12 @@
 ghost use Rattle.std.specs.Prelude.{◌≡◌, ◌<◌};
 
 use crate::fixtures::{
-    SEEN_REQUEST, SharedShape, TORN_READ, UNSEEN_REQUEST, list, plan_of, shape_of,
+    SEEN_REQUEST, SharedShape, TORN_READ, UNSEEN_REQUEST, list, plan_of, refuted, shape_of,
 };
 use crate::knowing::{Judgement, judged};
 use aud_event::Plan;
 use aud_facts::Facts;
+use aud_know::{Finding, Item};
 use aud_node::{Fleet, Opened, Pass, Running};
 use aud_split::{Gate, PoolEnd, PoolFault, run_pool, split};
 use aud_witness::Prefix;
@@ -49,6 +50,63 @@ impl Gate<Prefix> for Meeting {
     }
 
     fn after(&self, _worker: u32, _task: &Prefix) {}
+}
+
+/// Counts how often it is called.
+#[derive(Drop)]
+struct Counted {
+    calls: AtomicU64,
+}
+
+impl Gate<Prefix> for Counted {
+    fn before(&self, _worker: u32, _task: &Prefix) {
+        self.calls.fetch_add(1, Ordering::SeqCst);
+    }
+
+    fn after(&self, _worker: u32, _task: &Prefix) {
+        self.calls.fetch_add(1, Ordering::SeqCst);
+    }
+}
+
+/// The transaction of the first decision of a task.
+fn first_of(task: &Prefix) -> u64 {
+    match task.decisions().first() {
+        Some(decision) => u64::from(decision.tx),
+        None => 0,
+    }
+}
+
+/// Lets two workers begin together. To what it heard of each it adds the transaction of the first decision of a task, when the
+/// task begins and when it ends.
+#[derive(Drop)]
+struct Hearing {
+    meeting: Meeting,
+    first: AtomicU64,
+    second: AtomicU64,
+}
+
+impl Hearing {
+    /// What it heard of the worker.
+    fn heard(&self, worker: u32) -> &AtomicU64 {
+        if worker == 0 {
+            &self.first
+        } else {
+            &self.second
+        }
+    }
+}
+
+impl Gate<Prefix> for Hearing {
+    fn before(&self, worker: u32, task: &Prefix) {
+        self.heard(worker)
+            .fetch_add(first_of(task), Ordering::SeqCst);
+        self.meeting.before(worker, task);
+    }
+
+    fn after(&self, worker: u32, task: &Prefix) {
+        self.heard(worker)
+            .fetch_add(first_of(task), Ordering::SeqCst);
+    }
 }
 
 /// What a pool is to work on: the shape of a run, and tasks of it.
@@ -163,6 +221,96 @@ fn two_workers_search_at_once(rt: HostRuntime) -> Result<(), Fail> {
     Ok(())
 }
 
+/// Which worker of two drew each task, by the task's first transaction.
+fn drawn_by<J: Fleet + Send + Sync, G: Gate<Prefix> + Sync, R: Threads + Wait + Sync>(
+    rt: &R,
+    alloc: Global,
+    opened: Opened,
+    plan: Plan,
+    search: Search,
+    gate: &G,
+) -> Option<Vec<(u32, u64)>>
+    requires named { opened.book ≡ J.book opened.number }
+    requires planned { plan ≡ J.plan opened.number }
+{
+    let (node, passes) = Running::<J, &R>::start(rt, alloc, opened, plan, 2).ok()?;
+    let Search {
+        shape,
+        tasks,
+        budget,
+    } = search;
+    let end = run_pool(rt, alloc, &node, passes, shape, tasks, budget, gate).ok()?;
+    let mut drawn = Vec::new(alloc);
+    for (worker, task) in &end.drawn {
+        drawn.push((*worker, first_of(task))).ok()?;
+    }
+    Some(drawn)
+}
+
+#[test]
+fn a_gate_hears_the_number_of_the_worker(rt: HostRuntime) -> Result<(), Fail> {
+    let alloc = rt.alloc();
+    let run = facts_of(alloc, UNSEEN_REQUEST)?;
+    let gate = Hearing {
+        meeting: Meeting {
+            here: AtomicU64::new(0),
+            alone: AtomicU64::new(0),
+        },
+        first: AtomicU64::new(0),
+        second: AtomicU64::new(0),
+    };
+    let plan = plan_of(alloc, &run)?;
+    let search = search_of(alloc, &run, &["1a", "2c"], 100)?;
+    let search = search.ok_or("well-formed")?;
+    let drawn = drawn_by::<Brand, _, _>(&rt, alloc, Opened::new(0), plan, search, &gate);
+    let drawn = drawn.ok_or("a pool")?;
+    assert_eq!(rt; drawn.len(), 2);
+    for (worker, task) in &drawn {
+        assert!(rt; *worker < 2);
+        assert_eq!(rt; gate.heard(*worker).load(Ordering::SeqCst), task + task);
+    }
+    Ok(())
+}
+
+/// What a node says whose only worker searches once this is known.
+fn searched_knowing<J: Fleet + Send + Sync, R: Threads + Wait + Sync>(
+    rt: &R,
+    alloc: Global,
+    opened: Opened,
+    plan: Plan,
+    known: Finding,
+    search: Search,
+) -> Option<Summary>
+    requires named { opened.book ≡ J.book opened.number }
+    requires planned { plan ≡ J.plan opened.number }
+{
+    let (node, mut passes) = Running::<J, &R>::start(rt, alloc, opened, plan, 2).ok()?;
+    let mut keeper = passes.pop()?;
+    let offered = node.offer(rt, alloc, &mut keeper, Item::Finding(known));
+    offered.ok()?;
+    let Search {
+        shape,
+        tasks,
+        budget,
+    } = search;
+    let end = run_pool(rt, alloc, &node, passes, shape, tasks, budget, &Open);
+    summary_of(rt, node, keeper, end.ok()?)
+}
+
+#[test]
+fn a_task_that_the_node_knows_is_not_searched(rt: HostRuntime) -> Result<(), Fail> {
+    let alloc = rt.alloc();
+    let run = facts_of(alloc, TORN_READ)?;
+    let known = refuted(alloc, &run, "1c")?;
+    let known = known.ok_or("refuted")?;
+    let plan = plan_of(alloc, &run)?;
+    let search = search_of(alloc, &run, &["1c"], 100)?;
+    let search = search.ok_or("well-formed")?;
+    let said = searched_knowing::<Brand, _>(&rt, alloc, Opened::new(0), plan, known, search);
+    assert!(rt; said == Some((1, 0, 0, Judgement::NotOpaque, 1)));
+    Ok(())
+}
+
 /// A run, the budget of a task, and what is known after its tasks at a depth of two.
 type Row = (&'static str, u64, Summary);
 
@@ -198,8 +346,8 @@ fn what_a_pool_found_is_known(rt: HostRuntime) -> Result<(), Fail> {
     Ok(())
 }
 
-/// What a pool is refused for, and how many passes come back.
-type Refused = Option<(PoolFault, usize)>;
+/// What a pool is refused for, how many passes come back, and how often its gate was called.
+type Refused = Option<(PoolFault, usize, u64)>;
 
 /// What the node refuses a pool of these passes for.
 fn refused_by<J: Fleet + Send + Sync, R: Threads + Wait + Sync>(
@@ -214,9 +362,12 @@ fn refused_by<J: Fleet + Send + Sync, R: Threads + Wait + Sync>(
         tasks,
         budget,
     } = search;
-    match run_pool(rt, alloc, node, passes, shape, tasks, budget, &Open) {
+    let gate = Counted {
+        calls: AtomicU64::new(0),
+    };
+    match run_pool(rt, alloc, node, passes, shape, tasks, budget, &gate) {
         Ok(_) => None,
-        Err((passes, fault)) => Some((fault, passes.len())),
+        Err((passes, fault)) => Some((fault, passes.len(), gate.calls.load(Ordering::SeqCst))),
     }
 }
 
@@ -254,7 +405,7 @@ fn a_pool_has_1_to_16_passes_and_one_plan(rt: HostRuntime) -> Result<(), Fail> {
         let search = split_of(alloc, &facts_of(alloc, input)?, 100)?;
         let search = search.ok_or("well-formed")?;
         let said = refused::<Brand, _>(&rt, alloc, Opened::new(0), plan, workers, search);
-        assert!(rt; said == Some((fault, workers as usize)));
+        assert!(rt; said == Some((fault, workers as usize, 0)));
     }
     Ok(())
 }
@@ -289,6 +440,6 @@ fn a_pool_has_passes_of_its_node_alone(rt: HostRuntime) -> Result<(), Fail> {
     let search = split_of(alloc, &run, 100)?;
     let search = search.ok_or("well-formed")?;
     let said = refused_between::<Brand, _>(&rt, alloc, opened, plans, search);
-    assert!(rt; said == Some((PoolFault::WrongNode, 2)));
+    assert!(rt; said == Some((PoolFault::WrongNode, 2, 0)));
     Ok(())
 }
