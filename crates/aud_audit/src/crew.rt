@@ -95,6 +95,7 @@ fn search_share<
     match run_pool_with(
         rt,
         alloc,
+        alloc,
         node,
         passes,
         shape,

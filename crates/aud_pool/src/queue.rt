@@ -7,10 +7,11 @@ ghost use Rattle.aud_pool.specs.Rule.{tally, all_parts};
 ghost use Rattle.aud_pool.specs.Workers.{HasParts};
 
 use crate::rule::{Drains, Puts, Queue};
+use std::alloc::Allocator;
 use std::sync::Wait;
 
 /// Puts each task into a fresh queue.
-pub(crate) fn fill<T: Drop>(queue: &mut Queue<T>, tasks: Vec<T>)
+pub(crate) fn fill<T: Drop, A: Allocator + Copy>(queue: &mut Queue<T, A>, tasks: Vec<T, A>)
     requires fresh { worker_view queue.old ≡ tally all_parts true [] [] false }
     requires room { worker_index queue.old + vec_len tasks ≤ worker_capacity queue.old }
     ensures same { SameWorker queue.old queue.new }
@@ -25,7 +26,7 @@ pub(crate) fn fill<T: Drop>(queue: &mut Queue<T>, tasks: Vec<T>)
 }
 
 /// Puts so many marks after the tasks.
-pub(crate) fn add_marks<T: Drop>(queue: &mut Queue<T>, count: usize)
+pub(crate) fn add_marks<T: Drop, A: Allocator + Copy>(queue: &mut Queue<T, A>, count: usize)
     requires full { (worker_view queue.old).parts ≡ all_parts }
     requires room { worker_index queue.old + count ≤ worker_capacity queue.old }
     ensures same { SameWorker queue.old queue.new }
@@ -39,7 +40,11 @@ pub(crate) fn add_marks<T: Drop>(queue: &mut Queue<T>, count: usize)
 }
 
 /// Takes out of the queue the tasks that are left in it.
-pub(crate) fn drain<T: Drop, R: Wait>(rt: &R, queue: &mut Queue<T>, left: &mut Vec<T>)
+pub(crate) fn drain<T: Drop, A: Allocator + Copy, R: Wait>(
+    rt: &R,
+    queue: &mut Queue<T, A>,
+    left: &mut Vec<T, A>,
+)
     requires first_in_first_out { worker_flavor queue.old ≡ 0 }
     requires full { (worker_view queue.old).parts ≡ all_parts }
     requires none { left.old.items ≡ [] }

@@ -68,10 +68,10 @@ impl<T> Outcome<Option<T>, Tally<T>> for Drains {
 }
 
 /// A queue of tasks, first in, first out. `None` is a mark: the worker that takes it ends.
-pub type Queue<T> = Worker<Option<T>, Global, Tally<T>, Fair>;
+pub type Queue<T, A = Global> = Worker<Option<T>, A, Tally<T>, Fair>;
 
 /// The end of the queue at which workers take.
-pub type Taker<T> = Stealer<Option<T>, Global, Tally<T>, Fair>;
+pub type Taker<T, A = Global> = Stealer<Option<T>, A, Tally<T>, Fair>;
 
 /// What a worker needs beside a `Taker`: its own tally.
-pub type Token<T> = Pass<Option<T>, Tally<T>, Global>;
+pub type Token<T, A = Global> = Pass<Option<T>, Tally<T>, A>;

@@ -11,7 +11,7 @@ use crate::rule::{OnePart, Queue, Taker};
 use crate::work::{Gate, Work};
 use crate::worker::{Member, WorkerEnd, work_crew};
 use aud_base::OutOfMemory;
-use std::alloc::Global;
+use std::alloc::{Allocator, Global};
 use std::sync::Wait;
 use std::thread::Threads;
 use thiserror::Error;
@@ -29,25 +29,25 @@ pub enum Refusal {
 
 /// What a pool leaves: what each worker does, in the order of the seats, and the tasks that nobody drew.
 #[derive(Drop)]
-pub struct PoolEnd<T, S> {
-    pub workers: Vec<WorkerEnd<T, S>>,
-    pub left: Vec<T>,
+pub struct PoolEnd<T, S, A: Allocator = Global> {
+    pub workers: Vec<WorkerEnd<T, S, A>, A>,
+    pub left: Vec<T, A>,
 }
 
 // All memory that a pool takes outside its workers.
-struct Room<T, S> {
-    queue: Queue<T>,
-    taker: Taker<T>,
-    members: Vec<Member<T, S>>,
-    workers: Vec<WorkerEnd<T, S>>,
-    left: Vec<T>,
+struct Room<T, S, A: Allocator> {
+    queue: Queue<T, A>,
+    taker: Taker<T, A>,
+    members: Vec<Member<T, S, A>, A>,
+    workers: Vec<WorkerEnd<T, S, A>, A>,
+    left: Vec<T, A>,
 }
 
-fn make_room<T: Drop, S: Drop>(
-    alloc: Global,
+fn make_room<T: Drop, S: Drop, A: Allocator + Copy>(
+    alloc: A,
     count: usize,
     tasks: usize,
-) -> Result<Room<T, S>, OutOfMemory>
+) -> Result<Room<T, S, A>, OutOfMemory>
     ensures fresh { IfOk result (λ r. worker_view r.queue ≡ tally all_parts true [] [] false) }
     ensures queue { IfOk result (λ r. (worker_flavor r.queue ≡ 0) × (worker_index r.queue ≡ 0)
         × (tasks + count ≤ worker_capacity r.queue)) }
@@ -74,11 +74,11 @@ fn make_room<T: Drop, S: Drop>(
 }
 
 // A worker for each seat.
-fn seat_all<T: Drop, S: Drop>(
-    queue: &mut Queue<T>,
-    seats: Vec<S>,
-    members: &mut Vec<Member<T, S>>,
-    alloc: Global,
+fn seat_all<T: Drop, S: Drop, A: Allocator + Copy>(
+    queue: &mut Queue<T, A>,
+    seats: Vec<S, A>,
+    members: &mut Vec<Member<T, S, A>, A>,
+    alloc: A,
 )
     requires full { (worker_view queue.old).parts ≡ all_parts }
     requires few { vec_len seats < all_parts }
@@ -105,10 +105,10 @@ fn seat_all<T: Drop, S: Drop>(
 }
 
 // Takes all tokens back.
-fn gather<T: Drop, S: Drop>(
-    queue: &mut Queue<T>,
-    members: Vec<Member<T, S>>,
-    workers: &mut Vec<WorkerEnd<T, S>>,
+fn gather<T: Drop, S: Drop, A: Allocator + Copy>(
+    queue: &mut Queue<T, A>,
+    members: Vec<Member<T, S, A>, A>,
+    workers: &mut Vec<WorkerEnd<T, S, A>, A>,
 )
     requires parts { ((worker_view queue.old).parts + vec_len members ≡ all_parts) × (0 < (worker_view queue.old).parts) }
     requires start { ((worker_view queue.old).fresh ≡ false) × ((worker_view queue.old).taken ≡ []) }
@@ -148,15 +148,16 @@ pub fn run<
     Own: Drop + Send,
     W: Work<T, S, Own> + Sync,
     G: Gate<T> + Sync,
+    A: Allocator + Copy + Send + Sync,
     R: Threads + Wait + Sync,
 >(
     rt: &R,
-    alloc: Global,
-    seats: Vec<S>,
-    tasks: Vec<T>,
+    alloc: A,
+    seats: Vec<S, A>,
+    tasks: Vec<T, A>,
     work: &W,
     gate: &G,
-) -> Result<PoolEnd<T, S>, (Vec<S>, Refusal)>
+) -> Result<PoolEnd<T, S, A>, (Vec<S, A>, Refusal)>
     requires may_work { All (W.may_work work.now) seats.items }
     ensures all { IfOk result (λ e. IsPermutation tasks.items (all_drawn e.workers.items ++ e.left.items)) }
     ensures left { IfOk result (λ e. (e.left.items ≡ []) ⊎ All (λ w. w.failed ≡ true) e.workers.items) }

@@ -8,30 +8,35 @@ ghost use Rattle.aud_pool.specs.Workers.{IsReady, IsDone, IsStarting, SeatsHaveG
 use crate::rule::{Taker, Takes, Token};
 use crate::work::{Gate, Work};
 use crossbeam_deque::Steal;
+use std::alloc::{Allocator, Global};
 use std::sync::Wait;
 use std::thread;
 use std::thread::Threads;
 
 /// A worker of the pool: its seat, its token of the queue, the tasks that it drew, and whether it failed.
 #[derive(Drop)]
-pub(crate) struct Member<T, S> {
+pub(crate) struct Member<T, S, A: Allocator = Global> {
     pub seat: S,
-    pub token: Token<T>,
-    pub drawn: Vec<T>,
+    pub token: Token<T, A>,
+    pub drawn: Vec<T, A>,
     pub failed: bool,
 }
 
 /// What a worker leaves: its seat, the tasks that it drew, in their order, and whether memory was refused to it. Then it ended
 /// before the tasks did, and the last task that it drew may be undone.
 #[derive(Drop)]
-pub struct WorkerEnd<T, S> {
+pub struct WorkerEnd<T, S, A: Allocator = Global> {
     pub seat: S,
-    pub drawn: Vec<T>,
+    pub drawn: Vec<T, A>,
     pub failed: bool,
 }
 
 // The next task, or none where the worker took a mark.
-fn draw<T, R: Wait>(rt: &R, taker: &Taker<T>, token: &mut Token<T>) -> Option<T>
+fn draw<T, A: Allocator + Copy, R: Wait>(
+    rt: &R,
+    taker: &Taker<T, A>,
+    token: &mut Token<T, A>,
+) -> Option<T>
     requires pass { IsPassOf (stealer_deque taker.now) token.old }
     requires part { 0 < (view token.old).parts }
     ensures pass { IsPassOf (stealer_deque taker.now) token.new }
@@ -49,14 +54,15 @@ fn draw<T, R: Wait>(rt: &R, taker: &Taker<T>, token: &mut Token<T>) -> Option<T>
 
 // Draws tasks and works them, until the worker takes a mark or memory is refused to it. Room for the task that it draws is
 // there before it draws it, so no drawn task is lost.
-fn work_through<T: Drop, S, Own: Drop, W: Work<T, S, Own>, G: Gate<T>, R: Wait>(
-    rt: &R,
-    taker: &Taker<T>,
-    work: &W,
-    gate: &G,
-    worker: u32,
-    member: &mut Member<T, S>,
-)
+fn work_through<
+    T: Drop,
+    S,
+    Own: Drop,
+    W: Work<T, S, Own>,
+    G: Gate<T>,
+    A: Allocator + Copy,
+    R: Wait,
+>(rt: &R, taker: &Taker<T, A>, work: &W, gate: &G, worker: u32, member: &mut Member<T, S, A>)
     requires ready { IsReady (stealer_deque taker.now) member.old }
     requires may_work { W.may_work work.now member.old.seat }
     ensures done { IsDone (stealer_deque taker.now) (W.done work.now) member.new }
@@ -92,8 +98,9 @@ fn work_all<
     Own: Drop + Send,
     W: Work<T, S, Own> + Sync,
     G: Gate<T> + Sync,
+    A: Allocator + Copy + Send + Sync,
     R: Threads + Wait + Sync,
->(rt: &R, taker: &Taker<T>, work: &W, gate: &G, members: &mut [Member<T, S>])
+>(rt: &R, taker: &Taker<T, A>, work: &W, gate: &G, members: &mut [Member<T, S, A>])
     requires few { length members.old < all_parts }
     requires some { 0 < length members.old }
     requires starting { All (IsStarting (stealer_deque taker.now) (W.may_work work.now)) members.old }
@@ -101,7 +108,7 @@ fn work_all<
     ensures grows { SeatsHaveGrown (W.grows work.now) members.old members.new }
 {
     let count = members.len();
-    let each = |i: usize, member: &mut Member<T, S>|
+    let each = |i: usize, member: &mut Member<T, S, A>|
         requires { (i < all_parts) × IsStarting (stealer_deque taker.now) (W.may_work work.now) member.now }
         ensures { IsDone (stealer_deque taker.entry.now) (W.done work.entry.now) member.exit.now
             × W.grows work.entry.now member.entry.now.seat member.exit.now.seat }
@@ -116,8 +123,9 @@ pub(crate) fn work_crew<
     Own: Drop + Send,
     W: Work<T, S, Own> + Sync,
     G: Gate<T> + Sync,
+    A: Allocator + Copy + Send + Sync,
     R: Threads + Wait + Sync,
->(rt: &R, taker: &Taker<T>, work: &W, gate: &G, members: &mut Vec<Member<T, S>>)
+>(rt: &R, taker: &Taker<T, A>, work: &W, gate: &G, members: &mut Vec<Member<T, S, A>, A>)
     requires few { vec_len members.old < all_parts }
     requires some { 0 < vec_len members.old }
     requires starting { All (IsStarting (stealer_deque taker.now) (W.may_work work.now)) members.old.items }

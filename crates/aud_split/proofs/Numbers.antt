@@ -39,15 +39,15 @@ pub fewer : (n count : ℕ) (faults : List (ℕ × PoolFault)) → AreFaults (n 
 fewer n count [] h = omega arith
 fewer n count (f ∷ fs) h = (omega (arith, h.0), h.1, h.2)
 
-module _ {T S : Type 0} where
-  pub numbered-push : (n : ℕ) (es : List (WorkerEnd T S)) (e : WorkerEnd T S) → numbered n (es ++ e ∷ []) ≡ numbered n es ++ map (λ (t : T). (n + length es, t)) e.drawn.items
+module _ {T S A : Type 0} where
+  pub numbered-push : (n : ℕ) (es : List (WorkerEnd T S A)) (e : WorkerEnd T S A) → numbered n (es ++ e ∷ []) ≡ numbered n es ++ map (λ (t : T). (n + length es, t)) e.drawn.items
   numbered-push n [] e = append-nil (map (λ (t : T). (n, t)) e.drawn.items) ∙ ap (λ k. map (λ (t : T). (k, t)) e.drawn.items) (omega arith)
   numbered-push n (x ∷ es) e =
       ap (λ l. map (λ (t : T). (n, t)) x.drawn.items ++ l) (numbered-push (n + 1) es e)
       ∙ sym (append_assoc (map (λ (t : T). (n, t)) x.drawn.items) (numbered (n + 1) es) (map (λ (t : T). (n + 1 + length es, t)) e.drawn.items))
       ∙ ap (λ k. (map (λ (t : T). (n, t)) x.drawn.items ++ numbered (n + 1) es) ++ map (λ (t : T). (k, t)) e.drawn.items) (omega arith)
 
-  pub failures-push : (n : ℕ) (es : List (WorkerEnd T S)) (e : WorkerEnd T S) → failures n (es ++ e ∷ []) ≡ failures n es ++ cond e.failed ((n + length es, OutOfMemory) ∷ []) []
+  pub failures-push : (n : ℕ) (es : List (WorkerEnd T S A)) (e : WorkerEnd T S A) → failures n (es ++ e ∷ []) ≡ failures n es ++ cond e.failed ((n + length es, OutOfMemory) ∷ []) []
   failures-push n [] e = ap (λ k. cond e.failed ((k, OutOfMemory) ∷ []) []) (omega arith)
   failures-push n (x ∷ es) e = both_ways x.failed (failures-push (n + 1) es e ∙ ap (λ k. failures (n + 1) es ++ cond e.failed ((k, OutOfMemory) ∷ []) []) (omega arith)) where
     both_ways : (b : Bool) → failures (n + 1) (es ++ e ∷ []) ≡ failures (n + 1) es ++ cond e.failed ((n + length (x ∷ es), OutOfMemory) ∷ []) []
@@ -55,18 +55,18 @@ module _ {T S : Type 0} where
     both_ways true i = ap (λ l. (n, OutOfMemory) ∷ l) i
     both_ways false i = i
 
-  pub all_tasks : (n : ℕ) (es : List (WorkerEnd T S)) → map (λ (p : ℕ × T). p.1) (numbered n es) ≡ all_drawn es
+  pub all_tasks : (n : ℕ) (es : List (WorkerEnd T S A)) → map (λ (p : ℕ × T). p.1) (numbered n es) ≡ all_drawn es
   all_tasks n [] = refl
   all_tasks n (e ∷ es) = map-append (λ (p : ℕ × T). p.1) (map (λ (t : T). (n, t)) e.drawn.items) (numbered (n + 1) es) ∙ ap (λ l. l ++ map (λ (p : ℕ × T). p.1) (numbered (n + 1) es)) (back e.drawn.items) ∙ ap (λ l. e.drawn.items ++ l) (all_tasks (n + 1) es) where
     back : (ts : List T) → map (λ (p : ℕ × T). p.1) (map (λ (t : T). (n, t)) ts) ≡ ts
     back [] = refl
     back (t ∷ ts) = ap (λ l. t ∷ l) (back ts)
 
-  none_before : (w n : ℕ) → w < n → (es : List (WorkerEnd T S)) → drawn_by w (numbered n es) ≡ []
+  none_before : (w n : ℕ) → w < n → (es : List (WorkerEnd T S A)) → drawn_by w (numbered n es) ≡ []
   none_before w n low [] = refl
   none_before w n low (e ∷ es) = filter-append w (map (λ (t : T). (n, t)) e.drawn.items) (numbered (n + 1) es) ∙ ap (λ l. l ++ drawn_by w (numbered (n + 1) es)) (of_another w n (λ h. omega arith) e.drawn.items) ∙ none_before w (n + 1) (omega arith) es
 
-  pub drawn_at : (n i : ℕ) (es : List (WorkerEnd T S)) (d : WorkerEnd T S) → i < length es → drawn_by (n + i) (numbered n es) ≡ (get_or es i d).drawn.items
+  pub drawn_at : (n i : ℕ) (es : List (WorkerEnd T S A)) (d : WorkerEnd T S A) → i < length es → drawn_by (n + i) (numbered n es) ≡ (get_or es i d).drawn.items
   drawn_at n i [] d lt = absurd (omega arith)
   drawn_at n zero (e ∷ es) d lt =
       ap (λ w. drawn_by w (numbered n (e ∷ es))) (omega arith) ∙ filter-append n (map (λ (t : T). (n, t)) e.drawn.items) (numbered (n + 1) es)
@@ -76,14 +76,14 @@ module _ {T S : Type 0} where
       ∙ ap (λ l. l ++ drawn_by (n + suc i) (numbered (n + 1) es)) (of_another (n + suc i) n (λ h. omega arith) e.drawn.items)
       ∙ ap (λ w. drawn_by w (numbered (n + 1) es)) (omega arith) ∙ drawn_at (n + 1) i es d (omega arith)
 
-  no_failure_before : (w n : ℕ) → w < n → (es : List (WorkerEnd T S)) → faulted w (failures n es) ≡ false
+  no_failure_before : (w n : ℕ) → w < n → (es : List (WorkerEnd T S A)) → faulted w (failures n es) ≡ false
   no_failure_before w n low [] = refl
   no_failure_before w n low (e ∷ es) = by_failed e.failed (no_failure_before w (n + 1) (omega arith) es) where
     by_failed : (b : Bool) → faulted w (failures (n + 1) es) ≡ false → faulted w (cond b ((n, OutOfMemory) ∷ failures (n + 1) es) (failures (n + 1) es)) ≡ false
     by_failed true i = ap (λ t. t || faulted w (failures (n + 1) es)) (ne_eqb n w (λ h. omega arith)) ∙ i
     by_failed false i = i
 
-  pub faulted_at : (n i : ℕ) (es : List (WorkerEnd T S)) (d : WorkerEnd T S) → i < length es → faulted (n + i) (failures n es) ≡ (get_or es i d).failed
+  pub faulted_at : (n i : ℕ) (es : List (WorkerEnd T S A)) (d : WorkerEnd T S A) → i < length es → faulted (n + i) (failures n es) ≡ (get_or es i d).failed
   faulted_at n i [] d lt = absurd (omega arith)
   faulted_at n zero (e ∷ es) d lt = ap (λ w. faulted w (failures n (e ∷ es))) (omega arith) ∙ by_failed e.failed (no_failure_before n (n + 1) (omega arith) es) where
     by_failed : (b : Bool) → faulted n (failures (n + 1) es) ≡ false → faulted n (cond b ((n, OutOfMemory) ∷ failures (n + 1) es) (failures (n + 1) es)) ≡ b
@@ -95,28 +95,28 @@ module _ {T S : Type 0} where
     by_failed false k = k
 
   -- the tasks of the first workers and of one more are no more than all
-  pub room_at : (all : List (WorkerEnd T S)) (k : ℕ) (e : WorkerEnd T S) → k < length all → e ≡ get_or all k e → length (all_drawn (take k all)) + length e.drawn.items ≤ length (all_drawn all)
+  pub room_at : (all : List (WorkerEnd T S A)) (k : ℕ) (e : WorkerEnd T S A) → k < length all → e ≡ get_or all k e → length (all_drawn (take k all)) + length e.drawn.items ≤ length (all_drawn all)
   room_at [] k e lt is = absurd (omega arith)
-  room_at (x ∷ xs) zero e lt is = let s : e.drawn.items ≡ x.drawn.items = ap (λ (y : WorkerEnd T S). y.drawn.items) is in let n = ap length s in omega (arith, length-append x.drawn.items (all_drawn xs))
+  room_at (x ∷ xs) zero e lt is = let s : e.drawn.items ≡ x.drawn.items = ap (λ (y : WorkerEnd T S A). y.drawn.items) is in let n = ap length s in omega (arith, length-append x.drawn.items (all_drawn xs))
   room_at (x ∷ xs) (suc k) e lt is = let r = room_at xs k e (omega arith) is in omega (arith, length-append x.drawn.items (all_drawn (take k xs)), length-append x.drawn.items (all_drawn xs))
 
-  pub length_numbered : (n : ℕ) (es : List (WorkerEnd T S)) → length (numbered n es) ≡ length (all_drawn es)
+  pub length_numbered : (n : ℕ) (es : List (WorkerEnd T S A)) → length (numbered n es) ≡ length (all_drawn es)
   length_numbered n es = sym (length-map (numbered n es) (λ (p : ℕ × T). p.1)) ∙ ap length (all_tasks n es)
 
-  pub failures_few : (n : ℕ) (es : List (WorkerEnd T S)) → length (failures n es) ≤ length es
+  pub failures_few : (n : ℕ) (es : List (WorkerEnd T S A)) → length (failures n es) ≤ length es
   failures_few n [] = omega arith
   failures_few n (e ∷ es) = by_failed e.failed (failures_few (n + 1) es) where
     by_failed : (b : Bool) → length (failures (n + 1) es) ≤ length es → length (cond b ((n, OutOfMemory) ∷ failures (n + 1) es) (failures (n + 1) es)) ≤ length (e ∷ es)
     by_failed true h = omega arith
     by_failed false h = omega arith
 
-  pub faulted_is : (es : List (WorkerEnd T S)) (w : ℕ) (d : WorkerEnd T S) → w < length es → faulted w (failures 0 es) ≡ (get_or es w d).failed
+  pub faulted_is : (es : List (WorkerEnd T S A)) (w : ℕ) (d : WorkerEnd T S A) → w < length es → faulted w (failures 0 es) ≡ (get_or es w d).failed
   faulted_is es w d lt = ap (λ k. faulted k (failures 0 es)) (omega arith) ∙ faulted_at 0 w es d lt
 
-  pub all_faulted : (es : List (WorkerEnd T S)) → All (λ e. e.failed ≡ true) es → (w : ℕ) → w < length es → faulted w (failures 0 es) ≡ true
+  pub all_faulted : (es : List (WorkerEnd T S A)) → All (λ e. e.failed ≡ true) es → (w : ℕ) → w < length es → faulted w (failures 0 es) ≡ true
   all_faulted es all w lt = let d = pick es w lt in faulted_is es w d lt ∙ all w d lt
 
-  pub answered_of : (done : S → T → Type 0) (es : List (WorkerEnd T S)) → All (λ e. AreWorked (done e.seat) e.failed e.drawn.items) es
+  pub answered_of : (done : S → T → Type 0) (es : List (WorkerEnd T S A)) → All (λ e. AreWorked (done e.seat) e.failed e.drawn.items) es
       → (w : ℕ) (s : S) → w < length es → AreWorked (done (get_or (map (λ e. e.seat) es) w s)) (faulted w (failures 0 es)) (drawn_by w (numbered 0 es))
   answered_of done es all w s lt =
       let d = pick es w lt in
@@ -128,25 +128,25 @@ module _ {T S : Type 0} where
 
   -- what each worker's seat has grown from, without the workers
   pub grown_of : (grows : S → S → Type 0) (P : List S → List S → Type 0) → P [] [] → ((s t : S) (ss ts : List S) → grows s t → P ss ts → P (s ∷ ss) (t ∷ ts))
-      → (seats : List S) (es : List (WorkerEnd T S)) → HaveGrown grows seats es → P seats (map (λ e. e.seat) es)
+      → (seats : List S) (es : List (WorkerEnd T S A)) → HaveGrown grows seats es → P seats (map (λ e. e.seat) es)
   grown_of grows P none more [] [] h = none
   grown_of grows P none more [] (e ∷ es) h = absurd h
   grown_of grows P none more (s ∷ ss) [] h = absurd h
   grown_of grows P none more (s ∷ ss) (e ∷ es) h = more s e.seat ss (map (λ e. e.seat) es) h.0 (grown_of grows P none more ss es h.1)
 
-  pub grown_length : (grows : S → S → Type 0) (seats : List S) (es : List (WorkerEnd T S)) → HaveGrown grows seats es → length es ≡ length seats
+  pub grown_length : (grows : S → S → Type 0) (seats : List S) (es : List (WorkerEnd T S A)) → HaveGrown grows seats es → length es ≡ length seats
   grown_length grows [] [] h = refl
   grown_length grows [] (e ∷ es) h = absurd h
   grown_length grows (s ∷ ss) [] h = absurd h
   grown_length grows (s ∷ ss) (e ∷ es) h = let r = grown_length grows ss es h.1 in omega arith
 
-  pub numbers_below : (n m : ℕ) (es : List (WorkerEnd T S)) → n + length es ≤ m → All (λ (p : ℕ × T). p.0 < m) (numbered n es)
+  pub numbers_below : (n m : ℕ) (es : List (WorkerEnd T S A)) → n + length es ≤ m → All (λ (p : ℕ × T). p.0 < m) (numbered n es)
   numbers_below n m [] h = All-nil (λ (p : ℕ × T). p.0 < m)
   numbers_below n m (e ∷ es) h = All-append (λ (p : ℕ × T). p.0 < m) (map (λ (t : T). (n, t)) e.drawn.items) (numbered (n + 1) es)
       (All-map (λ (p : ℕ × T). p.0 < m) (λ (t : T). (n, t)) e.drawn.items (λ k d lt. omega arith)) (numbers_below (n + 1) m es (omega arith))
 
   -- the faults of all workers, each at most once and in their order
-  pub faults_of : (n : ℕ) (es : List (WorkerEnd T S)) → AreFaults n (n + length es) (failures n es)
+  pub faults_of : (n : ℕ) (es : List (WorkerEnd T S A)) → AreFaults n (n + length es) (failures n es)
   faults_of n [] = omega arith
   faults_of n (e ∷ es) = by_failed e.failed (subst (λ k. AreFaults (n + 1) k (failures (n + 1) es)) (omega arith) (faults_of (n + 1) es)) where
     by_failed : (b : Bool) → AreFaults (n + 1) (n + length (e ∷ es)) (failures (n + 1) es) → AreFaults n (n + length (e ∷ es)) (cond b ((n, OutOfMemory) ∷ failures (n + 1) es) (failures (n + 1) es))

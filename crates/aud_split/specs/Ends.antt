@@ -19,17 +19,17 @@ abbrev pub AreFaults : ℕ → ℕ → List (ℕ × PoolFault) → Type 0
 AreFaults n count [] = n ≤ count
 AreFaults n count (f ∷ fs) = (n ≤ f.0) × (f.1 ≡ OutOfMemory) × AreFaults (f.0 + 1) count fs
 
-module _ {T S : Type 0} where
+module _ {T S A : Type 0} where
   -- each task with its worker's number, where the first worker has the number n
-  abbrev pub numbered : ℕ → List (WorkerEnd T S) → List (ℕ × T)
+  abbrev pub numbered : ℕ → List (WorkerEnd T S A) → List (ℕ × T)
   numbered n [] = []
   numbered n (e ∷ es) = map (λ (t : T). (n, t)) e.drawn.items ++ numbered (n + 1) es
 
   -- out of memory for each worker that failed, where the first worker has the number n
-  abbrev pub failures : ℕ → List (WorkerEnd T S) → List (ℕ × PoolFault)
+  abbrev pub failures : ℕ → List (WorkerEnd T S A) → List (ℕ × PoolFault)
   failures n [] = []
   failures n (e ∷ es) = cond e.failed ((n, OutOfMemory) ∷ failures (n + 1) es) (failures (n + 1) es)
 
 -- the lists have room for so many workers and tasks
-abbrev pub HaveRoom : {T S : Type 0} → ℕ → ℕ → Lists T S → Type 0
+abbrev pub HaveRoom : {T S A : Type 0} → ℕ → ℕ → Lists T S A → Type 0
 HaveRoom workers tasks lists = (workers ≤ vec_capacity lists.seats) × (workers ≤ vec_capacity lists.faults) × (tasks ≤ vec_capacity lists.drawn)

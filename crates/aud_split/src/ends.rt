@@ -9,22 +9,22 @@ ghost use Rattle.aud_pool.specs.Rule.{all_parts};
 use crate::fault::PoolFault;
 use aud_event::OutOfMemory;
 use aud_pool::WorkerEnd;
-use std::alloc::Global;
+use std::alloc::{Allocator, Global};
 
 /// Lists for what the workers leave: their seats, the tasks that they drew and their faults, with the workers' numbers.
 #[derive(Drop)]
-pub(crate) struct Lists<T, S> {
-    pub seats: Vec<S>,
-    pub drawn: Vec<(u32, T)>,
-    pub faults: Vec<(u32, PoolFault)>,
+pub(crate) struct Lists<T, S, A: Allocator = Global> {
+    pub seats: Vec<S, A>,
+    pub drawn: Vec<(u32, T), A>,
+    pub faults: Vec<(u32, PoolFault), A>,
 }
 
 /// Empty lists with room for so many workers and tasks.
-pub(crate) fn make_lists<T: Drop, S: Drop>(
-    alloc: Global,
+pub(crate) fn make_lists<T: Drop, S: Drop, A: Allocator + Copy>(
+    alloc: A,
     workers: usize,
     tasks: usize,
-) -> Result<Lists<T, S>, OutOfMemory>
+) -> Result<Lists<T, S, A>, OutOfMemory>
     ensures empty { IfOk result (λ r. (r.seats.items ≡ []) × (r.drawn.items ≡ []) × (r.faults.items ≡ [])) }
     ensures room { IfOk result (HaveRoom workers tasks) }
 {
@@ -36,7 +36,11 @@ pub(crate) fn make_lists<T: Drop, S: Drop>(
 }
 
 // Notes each task beside its worker's number.
-fn note_all<T: Drop>(worker: u32, tasks: Vec<T>, drawn: &mut Vec<(u32, T)>)
+fn note_all<T: Drop, A: Allocator + Copy>(
+    worker: u32,
+    tasks: Vec<T, A>,
+    drawn: &mut Vec<(u32, T), A>,
+)
     requires { vec_len drawn.old + vec_len tasks ≤ vec_capacity drawn.old }
     ensures noted { drawn.new.items ≡ drawn.old.items ++ map (λ t. (worker, t)) tasks.items }
     ensures room { vec_capacity drawn.old ≤ vec_capacity drawn.new }
@@ -49,7 +53,7 @@ fn note_all<T: Drop>(worker: u32, tasks: Vec<T>, drawn: &mut Vec<(u32, T)>)
 }
 
 // Notes a worker that failed.
-fn note_fault(worker: u32, failed: bool, faults: &mut Vec<(u32, PoolFault)>)
+fn note_fault<A: Allocator + Copy>(worker: u32, failed: bool, faults: &mut Vec<(u32, PoolFault), A>)
     requires { vec_len faults.old < vec_capacity faults.old }
     ensures noted { faults.new.items ≡ faults.old.items ++ (if failed then (worker, Exhausted) ∷ [] else []) }
     ensures room { vec_capacity faults.old ≤ vec_capacity faults.new }
@@ -62,7 +66,10 @@ fn note_fault(worker: u32, failed: bool, faults: &mut Vec<(u32, PoolFault)>)
 }
 
 /// Takes apart what all workers leave. It does not allocate.
-pub(crate) fn take_apart<T: Drop, S: Drop>(workers: Vec<WorkerEnd<T, S>>, lists: &mut Lists<T, S>)
+pub(crate) fn take_apart<T: Drop, S: Drop, A: Allocator + Copy>(
+    workers: Vec<WorkerEnd<T, S, A>, A>,
+    lists: &mut Lists<T, S, A>,
+)
     requires few { vec_len workers < all_parts }
     requires empty { (lists.old.seats.items ≡ []) × (lists.old.drawn.items ≡ []) × (lists.old.faults.items ≡ []) }
     requires room { HaveRoom (vec_len workers) (length (all_drawn workers.items)) lists.old }

@@ -15,7 +15,7 @@ use aud_order::Shape;
 use aud_pool::{Gate, Refusal, run};
 use aud_search::{Scene, Shared};
 use aud_witness::Prefix;
-use std::alloc::Global;
+use std::alloc::{Allocator, Global};
 use std::marker::Brand;
 use std::sync::{Arc, Wait};
 use std::thread::Threads;
@@ -23,11 +23,11 @@ use std::thread::Threads;
 /// What a pool leaves: the passes in their order, each drawn task with the number of the worker that drew it, the tasks that
 /// nobody drew, and the workers that met a fault. Worker `w` had pass `w`.
 #[derive(Drop)]
-pub struct PoolEnd<J: Fleet> {
-    pub passes: Vec<Pass<J>>,
-    pub drawn: Vec<(u32, Prefix)>,
-    pub left: Vec<Prefix>,
-    pub faults: Vec<(u32, PoolFault)>,
+pub struct PoolEnd<J: Fleet, A: Allocator = Global> {
+    pub passes: Vec<Pass<J>, A>,
+    pub drawn: Vec<(u32, Prefix), A>,
+    pub left: Vec<Prefix, A>,
+    pub faults: Vec<(u32, PoolFault), A>,
 }
 
 // Whether each pass is of the node of the number.
@@ -68,24 +68,29 @@ fn fault_of<J: Fleet, S: Wait + Drop>(
 ///
 /// The workers take part in what searches of the history that the scene names share, and in nothing where that is not there.
 ///
+/// What the pool holds itself is of `alloc`. What its workers search with, and what they offer, is of the global allocator, as the
+/// node is.
+///
 /// Where a thread cannot be had for each worker, some are worked in turn: `NoThread` is never answered.
 pub fn run_pool_with<
     H: Scene + Send + Sync,
     J: Fleet + Send + Sync,
     S: Wait + Drop + Send,
     G: Gate<Prefix> + Sync,
+    A: Allocator + Copy + Send + Sync,
     R: Threads + Wait + Sync,
 >(
     rt: &R,
-    alloc: Global,
+    alloc: A,
+    global: Global,
     node: &Running<J, S>,
-    passes: Vec<Pass<J>>,
+    passes: Vec<Pass<J>, A>,
     shape: Arc<Shape>,
-    tasks: Vec<Prefix>,
+    tasks: Vec<Prefix, A>,
     budget: u64,
     shared: Option<&Shared<H>>,
     gate: &G,
-) -> Result<PoolEnd<J>, (Vec<Pass<J>>, PoolFault)>
+) -> Result<PoolEnd<J, A>, (Vec<Pass<J>, A>, PoolFault)>
     requires named { shape.value ≡ H.shape }
     ensures ran { IfOk result (λ e. HasRun shape.value budget tasks.items passes.items e.passes.items (vec_len e.passes) e.drawn.items
         e.left.items e.faults.items) }
@@ -100,7 +105,7 @@ pub fn run_pool_with<
         return Err((passes, PoolFault::OutOfMemory));
     };
     let explorer = Explorer {
-        alloc,
+        alloc: global,
         node,
         shape: &shape,
         shared,
@@ -132,17 +137,19 @@ fn run_own<
     J: Fleet + Send + Sync,
     S: Wait + Drop + Send,
     G: Gate<Prefix> + Sync,
+    A: Allocator + Copy + Send + Sync,
     R: Threads + Wait + Sync,
 >(
     rt: &R,
-    alloc: Global,
+    alloc: A,
+    global: Global,
     node: &Running<J, S>,
-    passes: Vec<Pass<J>>,
+    passes: Vec<Pass<J>, A>,
     shape: Arc<Shape>,
-    tasks: Vec<Prefix>,
+    tasks: Vec<Prefix, A>,
     budget: u64,
     gate: &G,
-) -> Result<PoolEnd<J>, (Vec<Pass<J>>, PoolFault)>
+) -> Result<PoolEnd<J, A>, (Vec<Pass<J>, A>, PoolFault)>
     requires named { shape.value ≡ H.shape }
     ensures ran { IfOk result (λ e. HasRun shape.value budget tasks.items passes.items e.passes.items (vec_len e.passes) e.drawn.items
         e.left.items e.faults.items) }
@@ -150,10 +157,11 @@ fn run_own<
     ensures fault { IfErr result (λ e. IsPoolFault node.now passes.items shape.value e.1) }
     ensures back { IfErr result (λ e. e.0 ≡ passes) }
 {
-    let shared = Shared::<H>::among(alloc, passes.len());
+    let shared = Shared::<H>::among(global, passes.len());
     run_pool_with(
         rt,
         alloc,
+        global,
         node,
         passes,
         shape,
@@ -169,22 +177,24 @@ pub fn run_pool<
     J: Fleet + Send + Sync,
     S: Wait + Drop + Send,
     G: Gate<Prefix> + Sync,
+    A: Allocator + Copy + Send + Sync,
     R: Threads + Wait + Sync,
 >(
     rt: &R,
-    alloc: Global,
+    alloc: A,
+    global: Global,
     node: &Running<J, S>,
-    passes: Vec<Pass<J>>,
+    passes: Vec<Pass<J>, A>,
     shape: Arc<Shape>,
-    tasks: Vec<Prefix>,
+    tasks: Vec<Prefix, A>,
     budget: u64,
     gate: &G,
-) -> Result<PoolEnd<J>, (Vec<Pass<J>>, PoolFault)>
+) -> Result<PoolEnd<J, A>, (Vec<Pass<J>, A>, PoolFault)>
     ensures ran { IfOk result (λ e. HasRun shape.value budget tasks.items passes.items e.passes.items (vec_len e.passes) e.drawn.items
         e.left.items e.faults.items) }
     ensures begun { OnOk result (MayRun node.now passes.items shape.value) }
     ensures fault { IfErr result (λ e. IsPoolFault node.now passes.items shape.value e.1) }
     ensures back { IfErr result (λ e. e.0 ≡ passes) }
 {
-    run_own::<Brand, _, _, _, _>(rt, alloc, node, passes, shape, tasks, budget, gate)
+    run_own::<Brand, _, _, _, _, _>(rt, alloc, global, node, passes, shape, tasks, budget, gate)
 }

@@ -18,3 +18,5 @@ mod objects;
 mod orders;
 #[cfg(test)]
 mod refusals;
+#[cfg(test)]
+mod refused_pool;

@@ -20,6 +20,8 @@ mod open;
 #[cfg(test)]
 mod pool;
 #[cfg(test)]
+mod refused_search;
+#[cfg(test)]
 mod rows;
 #[cfg(test)]
 mod running;

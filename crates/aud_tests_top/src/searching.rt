@@ -139,7 +139,7 @@ fn searched<J: Fleet + Send + Sync, G: Gate<Prefix> + Sync, R: Threads + Wait + 
         tasks,
         budget,
     } = search;
-    let end = run_pool(rt, alloc, &node, passes, shape, tasks, budget, gate);
+    let end = run_pool(rt, alloc, alloc, &node, passes, shape, tasks, budget, gate);
     summary_of(rt, node, keeper, end.ok()?)
 }
 
@@ -214,7 +214,7 @@ fn refused_by<J: Fleet + Send + Sync, R: Threads + Wait + Sync>(
         tasks,
         budget,
     } = search;
-    match run_pool(rt, alloc, node, passes, shape, tasks, budget, &Open) {
+    match run_pool(rt, alloc, alloc, node, passes, shape, tasks, budget, &Open) {
         Ok(_) => None,
         Err((passes, fault)) => Some((fault, passes.len())),
     }

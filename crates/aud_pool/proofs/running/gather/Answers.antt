@@ -21,7 +21,7 @@ loop-member-preserved g c =
     let member = c.in-Some.member in
     let e = c.into_iter-member-iterator.ensures.into_iter_gives in
     let t = YieldsList-turn (YieldsList-from_vec {s = c.into_iter-member-iterator.result} _ e.0 (e.1 ∙ c.args.members.ok.0)) c.loop-member.yielded c.loop-member.member-iterator c.loop-member.yielded_by c.next.result c.next.new.self member c.in-Some.is c.next.ensures.steps in
-    let P : Member g.row.T.Denot g.row.S.Denot → Type 0 = IsHolding (worker_deque c.args.queue.now) in
+    let P : Member g.row.T.Denot g.row.S.Denot g.row.A.Denot → Type 0 = IsHolding (worker_deque c.args.queue.now) in
     let mine : P member = subst P (sym t.1) (c.requires.holding (length c.loop-member.yielded) member t.0) in
     let token = mine.1 in
     let old = i.4 in

@@ -20,7 +20,7 @@ loop-seat-preserved g c =
     let i = c.loop-seat.invariant in
     let s = c.another-token.ensures.same in
     let r = c.another-token.ensures.rule in
-    let member : Member g.row.T.Denot g.row.S.Denot = record { seat = c.in-Some.seat; token = c.another-token.result; drawn = c.new.result; failed = false } in
+    let member : Member g.row.T.Denot g.row.S.Denot g.row.A.Denot = record { seat = c.in-Some.seat; token = c.another-token.result; drawn = c.new.result; failed = false } in
     let items = c.in-Ok.ensures.items in
     let queue : worker_deque c.another-token.new.self ≡ worker_deque c.loop-seat.queue = s.0.0 in
     let old = subst (λ d. All (IsReady d) c.loop-seat.members.items) (sym queue) i.3 in
