@@ -45,19 +45,48 @@ fn met<R: Threads + Wait + Sync>(
     Some((ended, here, alone))
 }
 
+/// Whether that comes of each of so many audits.
+fn meet<R: Threads + Wait + Sync>(
+    rt: &R,
+    (nodes, workers): (u32, u32),
+    input: Input,
+    times: u32,
+    wanted: (Ended, u64, u64),
+    alloc: Global,
+) -> bool {
+    for _ in 0..times {
+        if met(rt, alloc, nodes, workers, input) != Some(wanted) {
+            return false;
+        }
+    }
+    true
+}
+
 #[test]
 fn workers_of_an_audit_are_at_their_tasks_at_once(rt: HostRuntime) {
     // One task of each worker first; and all, where none of these leads to an order, and twice again, where none was left open.
-    let cases = [
-        (2, 1, Input::Unseen, 100, (Ended::Opaque, 2, 0)),
-        (1, 2, Input::Unseen, 10, (Ended::Opaque, 2, 0)),
-        (2, 1, Input::Five, 3, (Ended::NotOpaque, 20, 0)),
-    ];
-    for (nodes, workers, input, times, wanted) in &cases {
-        for _ in 0..*times {
-            assert!(rt; met(&rt, rt.alloc(), *nodes, *workers, *input) == Some(*wanted));
-        }
-    }
+    let alloc = rt.alloc();
+    assert!(rt;
+        meet(
+            &rt,
+            (2, 1),
+            Input::Unseen,
+            100,
+            (Ended::Opaque, 2, 0),
+            alloc
+        )
+    );
+    assert!(rt; meet(&rt, (1, 2), Input::Unseen, 10, (Ended::Opaque, 2, 0), alloc));
+    assert!(rt;
+        meet(
+            &rt,
+            (2, 1),
+            Input::Five,
+            3,
+            (Ended::NotOpaque, 20, 0),
+            alloc
+        )
+    );
 }
 
 /// The job to check an order that shows the history of two transactions.

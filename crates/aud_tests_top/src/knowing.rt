@@ -150,7 +150,7 @@ const SHOWN: Row = Row {
     ..UNFINISHED
 };
 
-const ROWS: [Row; 9] = [
+const ROWS: &[Row] = &[
     UNFINISHED,
     TORN,
     Row {
@@ -197,6 +197,11 @@ const ROWS: [Row; 9] = [
         ..SHOWN
     },
 ];
+
+/// The rows, of which no test has to know what they say.
+fn rows() -> &'static [Row] {
+    ROWS
+}
 
 /// What another knows of the input's run by the steps.
 fn packet_of(alloc: Global, input: Input, steps: Steps) -> Result<Arc<Knowledge>, Unread> {
@@ -272,7 +277,7 @@ fn is_known(alloc: Global, row: &Row) -> Result<bool, Unread> {
 
 #[test]
 fn what_is_known_by_packets_facts_and_findings(rt: HostRuntime) {
-    for (at, row) in ROWS.iter().enumerate() {
+    for (at, row) in rows().iter().enumerate() {
         assert!(rt; is_known(rt.alloc(), row) == Ok(true), "in row {at}");
     }
 }

@@ -143,6 +143,12 @@ impl<J: Fleet, S: Wait + Drop> Site<J, S> {
         posted_twice(rt, alloc, packet)
     }
 
+    /// Offers a fact again by the second pass; whether it is taken.
+    fn offers_late<R: Wait>(&mut self, rt: &R, alloc: Global) -> bool {
+        let item = Item::Fact(end(0, 6));
+        self.node.offer(rt, alloc, &mut self.second, item).is_ok()
+    }
+
     /// Whether the node receives the two packets, and the one of another plan is counted.
     fn receives<R: Wait>(&mut self, rt: &R, alloc: Global, inbox: &Receiver<Packet>) -> bool {
         match receive_all(rt, alloc, inbox, &self.node, &mut self.first) {
@@ -310,31 +316,49 @@ fn counted(closed: &Closed) -> (usize, usize) {
     (closed.offered.len(), findings)
 }
 
-/// What a node is not closed for without the pass of seat 1, how many passes it hands back then, and what its log counts once it is closed
-/// with all, of which that pass made one offer more before.
-fn closed_late<J: Fleet, R: Wait>(
+/// The passes in a list.
+fn listed_passes<J: Fleet>(alloc: Global, one: Pass<J>, other: Pass<J>) -> Option<Vec<Pass<J>>> {
+    let mut passes = Vec::new(alloc);
+    passes.push(one).ok()?;
+    passes.push(other).ok()?;
+    Some(passes)
+}
+
+/// What a node counts that is closed with the pass too.
+fn counted_with<J: Fleet, R: Wait>(
+    rt: &R,
+    node: Running<J, &R>,
+    mut passes: Vec<Pass<J>>,
+    pass: Pass<J>,
+) -> Option<(usize, usize)> {
+    passes.push(pass).ok()?;
+    let closed = node.close(rt, passes).ok()?;
+    Some(counted(&closed))
+}
+
+/// Whether a node is not closed without the pass of seat 1, hands the others back, and once it is closed with all its log counts that.
+fn is_closed_late<J: Fleet, R: Wait>(
     rt: &R,
     alloc: Global,
     site: Site<J, &R>,
-) -> Option<(CloseFault, usize, (usize, usize))> {
+    counts: (usize, usize),
+) -> bool {
     let Site {
         node,
         first,
-        mut second,
+        second,
         third,
     } = site;
-    let offered = node.offer(rt, alloc, &mut second, Item::Fact(end(0, 6)));
-    offered.ok()?;
-    let mut passes = Vec::new(alloc);
-    passes.push(first).ok()?;
-    passes.push(third).ok()?;
-    let Err((node, mut passes, fault)) = node.close(rt, passes) else {
-        return None;
+    let Some(passes) = listed_passes(alloc, first, third) else {
+        return false;
     };
-    let back = passes.len();
-    passes.push(second).ok()?;
-    let closed = node.close(rt, passes).ok()?;
-    Some((fault, back, counted(&closed)))
+    match node.close(rt, passes) {
+        Ok(_) => false,
+        Err((node, passes, fault)) => {
+            let is_back = passes.len() == 2 && fault == CloseFault::PassMissing(1);
+            is_back && counted_with(rt, node, passes, second) == Some(counts)
+        }
+    }
 }
 
 /// Whether two nodes of the run come to one verdict, refuse a pass of the other one, and one of them is closed late.
@@ -357,11 +381,11 @@ fn go<J: Fleet, R: Wait>(
     let mut pair = Pair { one, other };
     let told = come_to_one_verdict(rt, alloc, &mut pair, run);
     let refuses = pair.refuse(rt, alloc) && pair.leave_in_inbox(rt, alloc) == Some(true);
-    let Pair { one, other: _ } = pair;
+    let Pair { mut one, other: _ } = pair;
+    let is_late = one.offers_late(rt, alloc);
     // seven facts of its log, two packets and a finding, and the late offer
-    let closed = closed_late(rt, alloc, one);
-    let is_closed = closed == Some((CloseFault::PassMissing(1), 2, (11, 1)));
-    Some(told == Ok([true; 3]) && refuses && is_closed)
+    let is_closed = is_closed_late(rt, alloc, one, (11, 1));
+    Some(told == Ok([true; 3]) && refuses && is_late && is_closed)
 }
 
 #[test]
@@ -388,14 +412,17 @@ fn is_out_of_range<J: Fleet, R: Wait>(
     matches!(&started, Err(StartFault::SeatRange))
 }
 
+/// Whether a node of so many seats is refused.
+fn refuses<R: Wait>(rt: &R, alloc: Global, seats: u32) -> Result<bool, Unread> {
+    let plan = run_of(alloc, Input::Torn)?.plan().dup()?;
+    let opened = Opened::new(0);
+    Ok(is_out_of_range::<Brand, _>(rt, alloc, opened, plan, seats))
+}
+
 #[test]
-fn a_node_has_1_to_32_seats(rt: HostRuntime) -> Result<(), Unread> {
-    let alloc = rt.alloc();
-    let run = run_of(alloc, Input::Torn)?;
-    for (seats, is_refused) in [(0, true), (1, false), (32, false), (33, true)] {
-        let plan = run.plan().dup()?;
-        let refused = is_out_of_range::<Brand, _>(&rt, alloc, Opened::new(0), plan, seats);
-        assert!(rt; refused == is_refused);
-    }
-    Ok(())
+fn a_node_has_1_to_32_seats(rt: HostRuntime) {
+    assert!(rt; refuses(&rt, rt.alloc(), 0) == Ok(true));
+    assert!(rt; refuses(&rt, rt.alloc(), 1) == Ok(false));
+    assert!(rt; refuses(&rt, rt.alloc(), 32) == Ok(false));
+    assert!(rt; refuses(&rt, rt.alloc(), 33) == Ok(true));
 }
