@@ -1,15 +1,14 @@
 //! Certificates as findings, and headers that are none. What is said of certificates after their records `tests/certificates` asks.
 
-use crate::fixtures::{shape_from, shape_of};
+use crate::fixtures::{Input, shape_from, shape_of};
 use aud_accept::laws::accepted_is_refuted;
-use aud_cert::{Cert, CertTextFault, check_cert, finding_of, make_cert, read_cert, write_cert};
+use aud_cert::{CertTextFault, check_cert, finding_of, make_cert, read_cert, write_cert};
 use aud_event::Dup;
 use aud_facts::Facts;
 use aud_know::{Item, Knowledge, Verdict};
-use aud_worked::{TORN_READ_THEN_ABORT, Unread};
+use aud_worked::Unread;
 use std::alloc::{Allocator, Global};
 use std::sync::Arc;
-use std::test::Fail;
 
 const TORN: &str = r#"{"cert":2}
 {"by":"kids","p":"1c"}
@@ -23,11 +22,6 @@ const COUNTED: &str = r#"{"cert":5}
 {"by":"kids","p":"2c"}
 {"by":"kids","p":"none"}
 "#;
-
-fn cert_in(alloc: Global, text: &str) -> Result<Cert, Fail> {
-    let cert = read_cert(alloc, text.as_bytes())?;
-    Ok(cert)
-}
 
 /// Why the text is refused, if it is: the line and the number of the fault.
 fn fault_of(alloc: Global, text: &str) -> Option<(usize, u32)> {
@@ -48,48 +42,31 @@ fn headers_are_refused(rt: HostRuntime) {
     assert!(rt; faults == [Some((1, 3)), Some((2, 2)), None]);
 }
 
-/// What a Knowledge of nothing says once it took the finding of the certificate, if it is accepted.
-fn verdict_by(alloc: Global, input: &str, text: &str) -> Result<Option<Verdict>, Fail> {
-    let shape = Arc::new(alloc, shape_of(alloc, input)?)?;
+/// Whether a Knowledge of nothing says that no order shows the torn read once it took the finding of the certificate, if it is accepted.
+fn refutes(alloc: Global, text: &str) -> Result<Option<bool>, Unread> {
+    let Ok(cert) = read_cert(alloc, text.as_bytes()) else {
+        return Err(Unread::Unsealed);
+    };
+    let shape = Arc::new(alloc, shape_of(alloc, Input::Torn)?)?;
     let plan = Arc::new(alloc, shape.plan().dup()?)?;
-    let cert = cert_in(alloc, text)?;
     let Some(finding) = finding_of(alloc, shape, &cert)? else {
         return Ok(None);
     };
     let mut knowledge = Knowledge::empty(alloc, plan)?;
-    match knowledge.take(&Item::Finding(finding)) {
-        Ok(()) => Ok(Some(knowledge.verdict()?)),
-        Err(_) => Ok(None),
+    if knowledge.take(&Item::Finding(finding)).is_err() {
+        return Err(Unread::OutOfMemory);
     }
+    Ok(Some(matches!(knowledge.verdict()?, Verdict::NotOpaque)))
 }
 
 #[test]
-fn an_accepted_certificate_is_a_finding(rt: HostRuntime) -> Result<(), Fail> {
-    let alloc = rt.alloc();
-    assert!(rt;
-        matches!(
-            &verdict_by(alloc, TORN_READ_THEN_ABORT, TORN)?,
-            Some(Verdict::NotOpaque)
-        )
-    );
-    assert!(rt; verdict_by(alloc, TORN_READ_THEN_ABORT, "{\"cert\":0}")?.is_none());
+fn an_accepted_certificate_is_a_finding(rt: HostRuntime) {
+    assert!(rt; refutes(rt.alloc(), TORN) == Ok(Some(true)));
+    assert!(rt; refutes(rt.alloc(), "{\"cert\":0}") == Ok(None));
     accepted_is_refuted::<Global>();
-    Ok(())
 }
 
-/// Whether the certificate that is made of the facts is accepted.
-pub(crate) fn is_refuted_by_lines<A: Allocator + Copy>(
-    alloc: A,
-    facts: &Facts<A>,
-) -> Result<bool, Unread> {
-    let shape = shape_from(alloc, facts)?;
-    match make_cert(alloc, &shape)? {
-        None => Ok(false),
-        Some(cert) => Ok(check_cert(alloc, &shape, &cert)?),
-    }
-}
-
-/// Whether the certificate that is made of the facts is a finding.
+/// Whether a certificate is made of the facts, accepted, and a finding.
 pub(crate) fn is_found_by_lines<A: Allocator + Copy>(
     alloc: A,
     facts: &Facts<A>,
@@ -97,7 +74,10 @@ pub(crate) fn is_found_by_lines<A: Allocator + Copy>(
     let shape = Arc::new(alloc, shape_from(alloc, facts)?)?;
     match make_cert(alloc, &shape)? {
         None => Ok(false),
-        Some(cert) => Ok(finding_of(alloc, shape, &cert)?.is_some()),
+        Some(cert) => {
+            let is_accepted = check_cert(alloc, &shape, &cert)?;
+            Ok(is_accepted && finding_of(alloc, shape, &cert)?.is_some())
+        }
     }
 }
 

@@ -1,14 +1,13 @@
 //! Two worked histories below small covers.
 
-use crate::fixtures::{is_order, order, shape_of};
+use crate::fixtures::{Input, is_order, order, shape_of};
 use aud_event::OutOfMemory;
 use aud_know::{closed, open_list};
 use aud_lattice::Cover;
 use aud_order::Shape;
 use aud_witness::{Decision, Prefix};
-use aud_worked::{PENDING_COMMIT_IS_UNSEEN, TORN_READ_THEN_ABORT, Unread};
+use aud_worked::Unread;
 use std::alloc::{Allocator, Global};
-use std::test::Fail;
 
 /// The cover of the lists of one decision each.
 fn cover_of<A: Allocator + Copy>(
@@ -40,24 +39,30 @@ pub(crate) fn closes<A: Allocator + Copy>(
     Ok(closed(alloc, &cover, shape, &prefix)?)
 }
 
+/// A worked history, a cover, a prefix, and whether the cover closes it.
+type Closing = (Input, &'static str, &'static str, bool);
+
+const CLOSINGS: [Closing; 8] = [
+    (Input::Torn, "none", "none", false),
+    (Input::Torn, "1c", "none", true),
+    (Input::Torn, "1c", "1c 2a", true),
+    (Input::Torn, "none", "2a", true),
+    (Input::Pending, "1c", "none", false),
+    (Input::Pending, "1c 1a", "none", false),
+    (Input::Pending, "1c 1a 2c", "none", true),
+    (Input::Pending, "1c", "1a", false),
+];
+
+fn closes_so(alloc: Global, row: &Closing) -> Result<bool, Unread> {
+    let shape = shape_of(alloc, row.0)?;
+    Ok(closes(alloc, &shape, row.1, row.2)? == row.3)
+}
+
 #[test]
-fn prefixes_are_closed(rt: HostRuntime) -> Result<(), Fail> {
-    let cases: [(&str, &str, &str, bool); 8] = [
-        (TORN_READ_THEN_ABORT, "none", "none", false),
-        (TORN_READ_THEN_ABORT, "1c", "none", true),
-        (TORN_READ_THEN_ABORT, "1c", "1c 2a", true),
-        (TORN_READ_THEN_ABORT, "none", "2a", true),
-        (PENDING_COMMIT_IS_UNSEEN, "1c", "none", false),
-        (PENDING_COMMIT_IS_UNSEEN, "1c 1a", "none", false),
-        (PENDING_COMMIT_IS_UNSEEN, "1c 1a 2c", "none", true),
-        (PENDING_COMMIT_IS_UNSEEN, "1c", "1a", false),
-    ];
-    for (input, members, prefix, wanted) in &cases {
-        let shape = shape_of(rt.alloc(), input)?;
-        let is_closed = closes(rt.alloc(), &shape, members, prefix)?;
-        assert_eq!(rt; is_closed, *wanted, "{prefix} below {members} of {input}");
+fn prefixes_are_closed(rt: HostRuntime) {
+    for (at, row) in CLOSINGS.iter().enumerate() {
+        assert!(rt; closes_so(rt.alloc(), row) == Ok(true), "in row {at}");
     }
-    Ok(())
 }
 
 /// Whether the lists are these, in this order.
@@ -86,29 +91,23 @@ pub(crate) fn leaves_open<A: Allocator + Copy>(
     are(alloc, &found, wanted)
 }
 
-/// Each worked history with a cover, and what the cover leaves open.
-const LEFT_OPEN: [(&str, &str, &[&str]); 3] = [
-    (TORN_READ_THEN_ABORT, "none", &["none"]),
-    (TORN_READ_THEN_ABORT, "1c", &[]),
-    (PENDING_COMMIT_IS_UNSEEN, "1c", &["1a", "2c"]),
+/// A worked history, a cover, and what that leaves open.
+type Opening = (Input, &'static str, &'static [&'static str]);
+
+const OPENINGS: [Opening; 3] = [
+    (Input::Torn, "none", &["none"]),
+    (Input::Torn, "1c", &[]),
+    (Input::Pending, "1c", &["1a", "2c"]),
 ];
 
-/// Whether the lists of one decision each leave these lists of the input's history open.
-fn is_left_open(
-    alloc: Global,
-    input: &str,
-    members: &str,
-    wanted: &[&str],
-) -> Result<bool, Unread> {
-    let shape = shape_of(alloc, input)?;
-    leaves_open(alloc, &shape, members, wanted)
+fn is_left_open(alloc: Global, row: &Opening) -> Result<bool, Unread> {
+    let shape = shape_of(alloc, row.0)?;
+    leaves_open(alloc, &shape, row.1, row.2)
 }
 
 #[test]
-fn what_is_left_open(rt: HostRuntime) -> Result<(), Fail> {
-    for (input, members, wanted) in &LEFT_OPEN {
-        let is_left = is_left_open(rt.alloc(), input, members, wanted)?;
-        assert!(rt; is_left, "below {members} of {input}");
+fn what_is_left_open(rt: HostRuntime) {
+    for (at, row) in OPENINGS.iter().enumerate() {
+        assert!(rt; is_left_open(rt.alloc(), row) == Ok(true), "in row {at}");
     }
-    Ok(())
 }

@@ -4,7 +4,10 @@ use aud_facts::{Facts, Sealed};
 use aud_order::Shape;
 use aud_text::{TextFault, read_order};
 use aud_witness::{Decision, Fate, Prefix};
-use aud_worked::{Unread, facts_of, sealed_from};
+use aud_worked::{
+    FIVE_COUNTERS, NINE_COUNTERS, NOTHING_HAPPENED, PENDING_COMMIT_IS_UNSEEN, READER_AFTER_COMMIT,
+    TORN_READ_THEN_ABORT, Unread, facts_of, sealed_from,
+};
 use std::alloc::{Allocator, Global};
 use std::sync::Arc;
 
@@ -48,7 +51,38 @@ pub fn shape_from<A: Allocator + Copy>(alloc: A, facts: &Facts<A>) -> Result<Sha
     shape_of_sealed(alloc, sealed_from(facts)?)?.ok_or(Unread::Unsealed)
 }
 
-/// The shape of the facts that an input says.
-pub fn shape_of(alloc: Global, input: &str) -> Result<Shape, Unread> {
-    shape_from(alloc, &facts_of(alloc, input)?)
+/// The shape of the facts that a text says.
+pub fn shape_in(alloc: Global, text: &str) -> Result<Shape, Unread> {
+    shape_from(alloc, &facts_of(alloc, text)?)
+}
+
+/// The worked histories that several tests ask of, of which none has to know the bytes.
+#[derive(Clone, Copy)]
+pub enum Input {
+    /// Transaction 2 reads what 1 overwrites and then what it wrote, and aborts.
+    Torn,
+    /// Transaction 2 does not see what 1 wrote, which asks to commit.
+    Pending,
+    Nothing,
+    /// Transaction 2 reads what 1 wrote and committed.
+    Reader,
+    /// Five transactions count at once, and nine.
+    Five,
+    Nine,
+}
+
+pub fn text_of(input: Input) -> &'static str {
+    match input {
+        Input::Torn => TORN_READ_THEN_ABORT,
+        Input::Pending => PENDING_COMMIT_IS_UNSEEN,
+        Input::Nothing => NOTHING_HAPPENED,
+        Input::Reader => READER_AFTER_COMMIT,
+        Input::Five => FIVE_COUNTERS,
+        Input::Nine => NINE_COUNTERS,
+    }
+}
+
+/// The shape of the input's facts.
+pub fn shape_of(alloc: Global, input: Input) -> Result<Shape, Unread> {
+    shape_in(alloc, text_of(input))
 }

@@ -2,8 +2,6 @@
 //! The tests of the crates between the facts and knowledge.
 
 #[cfg(test)]
-mod alone;
-#[cfg(test)]
 mod certs;
 #[cfg(test)]
 mod cover;

@@ -1,26 +1,31 @@
 //! Each growth refused in turn, of what is asked of texts, of facts and of their history.
 
-use crate::certs::{is_cert_written, is_found_by_lines, is_refuted_by_lines};
+use crate::certs::{is_cert_written, is_found_by_lines};
 use crate::cover::{closes, leaves_open};
-use crate::fixtures::{order, shape_from};
+use crate::fixtures::{Input, order, shape_from, text_of};
 use crate::report::{is_long_line, is_read, is_reported};
 use crate::search::is_decided;
 use crate::splits::splits_into;
 use crate::text::{are_decisions, is_written};
-use aud_facts::{Facts, Sealed};
+use aud_facts::Facts;
 use aud_history::History;
+use aud_order::Shape;
 use aud_refusing::Refusing;
 use aud_witness::{OrderFault, Prefix, shows};
-use aud_worked::{
-    FIVE_COUNTERS, NOTHING_HAPPENED, PENDING_COMMIT_IS_UNSEEN, READER_AFTER_COMMIT,
-    TORN_READ_THEN_ABORT, Unread, facts_of, facts_on, sealed_from,
-};
+use aud_worked::{Unread, facts_of, facts_on, sealed_from};
 use std::alloc::{AllocError, Allocator, Global};
-use std::test::Fail;
 
 /// What takes memory.
 #[derive(Clone, Copy)]
 enum Question {
+    OfText(OfText),
+    OfFacts(OfFacts),
+    OfShape(OfShape),
+}
+
+/// What is asked of texts.
+#[derive(Clone, Copy)]
+enum OfText {
     /// Whether an order is read from its text.
     OrderIsRead,
     /// Whether it is written.
@@ -33,33 +38,48 @@ enum Question {
     SourceIsRead,
     /// Whether a certificate is written.
     CertIsWritten,
-    /// What is asked of facts.
-    OfFacts(Asked),
 }
 
-/// What is asked of facts, and of their history.
+/// What is asked of facts.
 #[derive(Clone, Copy)]
-enum Asked {
-    /// Whether the facts are sealed.
-    AreSealed,
+enum OfFacts {
+    /// Whether they are sealed; and nothing yet of the order.
+    AreSealed(&'static str),
+    /// Whether a certificate is made of them, accepted, and a finding.
+    AreFound,
+    /// Whether this is reported of the order.
+    AreTold(&'static str, Option<OrderFault>),
+}
+
+/// What is asked of the shape of facts.
+#[derive(Clone, Copy)]
+enum OfShape {
     /// Whether `1c` closes the empty list.
     IsClosed,
     /// Whether `1c` leaves `1a` and `2c` open.
-    AreOpen,
+    IsOpen,
     /// Whether the tasks at depth 2 are `1c`, `1a 2c`, `2c 1c` and `2c 1a`.
     IsSplit,
-    /// Whether the search finds `1c 2c`.
-    IsDecided,
-    /// Whether the search refutes them.
-    IsRefuted,
-    /// Whether a certificate is made of them, and accepted.
-    IsCertified,
-    /// Whether a certificate is made of them, and is a finding.
-    IsFound,
-    /// Nothing yet of the order.
-    Nothing(&'static str),
-    /// Whether this is reported of the order.
-    IsTold(&'static str, Option<OrderFault>),
+    /// Whether the search finds this order, or says `not opaque`.
+    IsDecided(&'static str),
+}
+
+fn of_text<A: Allocator + Copy>(alloc: A, outside: Global, asked: OfText) -> Result<bool, Unread> {
+    match asked {
+        OfText::OrderIsRead => are_decisions(alloc, "1c 2a 3c 4a 5c 6a 7c 8a 9c", 9),
+        OfText::OrderIsWritten => is_written(alloc, "1c 2a 3c 4a 5c 6a 7c 8a 9c 1023a", 10),
+        OfText::LineIsWritten => is_long_line(alloc, outside),
+        OfText::VerdictIsReported => is_reported(alloc, outside),
+        OfText::SourceIsRead => is_read(alloc, outside),
+        OfText::CertIsWritten => is_cert_written(alloc, outside),
+    }
+}
+
+/// Whether the facts are sealed, and an order is read.
+fn are_sealed<A: Allocator + Copy>(alloc: A, facts: &Facts<A>, text: &str) -> Result<bool, Unread> {
+    let _sealed = sealed_from(facts)?;
+    let _order = order(alloc, text)?;
+    Ok(true)
 }
 
 /// What is reported of the order, of a history that is well-formed.
@@ -74,50 +94,42 @@ fn fault_of<A: Allocator + Copy>(
     }
 }
 
-/// Whether this is reported of the order, of the history of a sealed set.
+/// Whether this is reported of the order.
 fn is_told<A: Allocator + Copy>(
     alloc: A,
-    sealed: &Sealed<A>,
-    decisions: &str,
+    facts: &Facts<A>,
+    text: &str,
     fault: Option<OrderFault>,
 ) -> Result<bool, Unread> {
-    let order = order(alloc, decisions)?;
+    let sealed = sealed_from(facts)?;
+    let order = order(alloc, text)?;
     Ok(fault_of(alloc, sealed.history(), &order)? == fault)
 }
 
-/// The answer to a question about facts.
-fn answer_of<A: Allocator + Copy>(
+fn of_facts<A: Allocator + Copy>(
     alloc: A,
     facts: &Facts<A>,
-    asked: Asked,
+    asked: OfFacts,
 ) -> Result<bool, Unread> {
     match asked {
-        Asked::IsClosed => closes(alloc, &shape_from(alloc, facts)?, "1c", "none"),
-        Asked::AreOpen => {
-            let shape = shape_from(alloc, facts)?;
-            leaves_open(alloc, &shape, "1c", &["1a", "2c"])
+        OfFacts::AreSealed(order) => are_sealed(alloc, facts, order),
+        OfFacts::AreFound => is_found_by_lines(alloc, facts),
+        OfFacts::AreTold(order, fault) => is_told(alloc, facts, order, fault),
+    }
+}
+
+fn of_shape<A: Allocator + Copy>(
+    alloc: A,
+    shape: &Shape<A>,
+    asked: OfShape,
+) -> Result<bool, Unread> {
+    match asked {
+        OfShape::IsClosed => closes(alloc, shape, "1c", "none"),
+        OfShape::IsOpen => leaves_open(alloc, shape, "1c", &["1a", "2c"]),
+        OfShape::IsSplit => {
+            splits_into(alloc, shape, "none", 2, &["1c", "1a 2c", "2c 1c", "2c 1a"])
         }
-        Asked::IsSplit => {
-            let shape = shape_from(alloc, facts)?;
-            splits_into(alloc, &shape, "none", 2, &["1c", "1a 2c", "2c 1c", "2c 1a"])
-        }
-        Asked::IsDecided => is_decided(alloc, &shape_from(alloc, facts)?, "1c 2c"),
-        Asked::IsRefuted => is_decided(alloc, &shape_from(alloc, facts)?, "not opaque"),
-        Asked::IsCertified => is_refuted_by_lines(alloc, facts),
-        Asked::IsFound => is_found_by_lines(alloc, facts),
-        Asked::AreSealed => {
-            let _sealed = sealed_from(facts)?;
-            Ok(true)
-        }
-        Asked::Nothing(decisions) => {
-            let _sealed = sealed_from(facts)?;
-            let _order = order(alloc, decisions)?;
-            Ok(true)
-        }
-        Asked::IsTold(decisions, fault) => {
-            let sealed = sealed_from(facts)?;
-            is_told(alloc, &sealed, decisions, fault)
-        }
+        OfShape::IsDecided(text) => is_decided(alloc, shape, text),
     }
 }
 
@@ -129,13 +141,12 @@ fn answer<A: Allocator + Copy>(
     question: Question,
 ) -> Result<bool, Unread> {
     match question {
-        Question::OrderIsRead => are_decisions(alloc, "1c 2a 3c 4a 5c 6a 7c 8a 9c", 9),
-        Question::OrderIsWritten => is_written(alloc, "1c 2a 3c 4a 5c 6a 7c 8a 9c 1023a", 10),
-        Question::LineIsWritten => is_long_line(alloc, outside),
-        Question::VerdictIsReported => is_reported(alloc, outside),
-        Question::SourceIsRead => is_read(alloc, outside),
-        Question::CertIsWritten => is_cert_written(alloc, outside),
-        Question::OfFacts(asked) => answer_of(alloc, &facts_on(alloc, facts)?, asked),
+        Question::OfText(asked) => of_text(alloc, outside, asked),
+        Question::OfFacts(asked) => of_facts(alloc, &facts_on(alloc, facts)?, asked),
+        Question::OfShape(asked) => {
+            let facts = facts_on(alloc, facts)?;
+            of_shape(alloc, &shape_from(alloc, &facts)?, asked)
+        }
     }
 }
 
@@ -170,125 +181,137 @@ fn refused(
 }
 
 /// How often out of memory was reported, and how often the answer was right all the same, where each growth is refused in turn
-/// up to the first that is not asked for; none where an outcome was wrong.
-fn outcomes(
-    alloc: Global,
-    input: &str,
-    question: Question,
-    growths: u64,
-) -> Result<Option<(u64, u64)>, Unread> {
-    let facts = facts_of(alloc, input)?;
+/// up to the first that is not asked for; none where an outcome was wrong, or there are more growths than a small input has.
+fn outcomes(alloc: Global, input: Input, question: Question) -> Result<Option<(u64, u64)>, Unread> {
+    let facts = facts_of(alloc, text_of(input))?;
     let mut told = 0u64;
     let mut passed = 0u64;
-    for nth in 0..growths {
+    for nth in 0..2000u64 {
         match refused(alloc, &facts, question, nth)? {
-            Outcome::Unmet => break,
+            Outcome::Unmet => return Ok(Some((told, passed))),
             Outcome::Told => told = told.wrapping_add(1),
             Outcome::Passed => passed = passed.wrapping_add(1),
             Outcome::Wrong => return Ok(None),
         }
     }
-    Ok(Some((told, passed)))
+    Ok(None)
+}
+
+/// What is asked of an input, and how often out of memory is reported at least, and the answer right all the same at least and at most.
+type Row = (Question, Input, u64, u64, u64);
+
+/// All is reported, but where the search goes on without a memo that is out of memory: no answer is wrong then.
+const ROWS: [Row; 13] = [
+    (
+        Question::OfText(OfText::OrderIsRead),
+        Input::Nothing,
+        1,
+        0,
+        0,
+    ),
+    (
+        Question::OfText(OfText::OrderIsWritten),
+        Input::Nothing,
+        1,
+        0,
+        0,
+    ),
+    (
+        Question::OfText(OfText::LineIsWritten),
+        Input::Nothing,
+        1,
+        0,
+        0,
+    ),
+    (
+        Question::OfText(OfText::VerdictIsReported),
+        Input::Nothing,
+        1,
+        0,
+        0,
+    ),
+    (
+        Question::OfText(OfText::SourceIsRead),
+        Input::Nothing,
+        1,
+        0,
+        0,
+    ),
+    (
+        Question::OfText(OfText::CertIsWritten),
+        Input::Torn,
+        1,
+        0,
+        1999,
+    ),
+    (
+        Question::OfFacts(OfFacts::AreSealed("none")),
+        Input::Torn,
+        4,
+        0,
+        0,
+    ),
+    (Question::OfShape(OfShape::IsClosed), Input::Torn, 21, 0, 0),
+    (Question::OfShape(OfShape::IsOpen), Input::Pending, 21, 0, 0),
+    (
+        Question::OfShape(OfShape::IsSplit),
+        Input::Pending,
+        21,
+        0,
+        0,
+    ),
+    (
+        Question::OfShape(OfShape::IsDecided("1c 2c")),
+        Input::Reader,
+        21,
+        0,
+        0,
+    ),
+    (
+        Question::OfShape(OfShape::IsDecided("not opaque")),
+        Input::Five,
+        0,
+        11,
+        1999,
+    ),
+    (
+        Question::OfFacts(OfFacts::AreFound),
+        Input::Torn,
+        21,
+        0,
+        1999,
+    ),
+];
+
+fn is_met(alloc: Global, row: &Row) -> Result<bool, Unread> {
+    let (question, input, least, passes, most) = *row;
+    Ok(match outcomes(alloc, input, question)? {
+        Some((told, passed)) => told >= least && passed >= passes && passed <= most,
+        None => false,
+    })
 }
 
 #[test]
-fn each_refusal_is_told(rt: HostRuntime) -> Result<(), Fail> {
-    let cases: [(Question, &str, u64, u64); 10] = [
-        (Question::OrderIsRead, NOTHING_HAPPENED, 0, 64),
-        (Question::OrderIsWritten, NOTHING_HAPPENED, 0, 64),
-        (Question::LineIsWritten, NOTHING_HAPPENED, 0, 64),
-        (Question::VerdictIsReported, NOTHING_HAPPENED, 0, 64),
-        (Question::SourceIsRead, NOTHING_HAPPENED, 0, 64),
-        (
-            Question::OfFacts(Asked::AreSealed),
-            TORN_READ_THEN_ABORT,
-            3,
-            200,
-        ),
-        (
-            Question::OfFacts(Asked::IsClosed),
-            TORN_READ_THEN_ABORT,
-            20,
-            200,
-        ),
-        (
-            Question::OfFacts(Asked::AreOpen),
-            PENDING_COMMIT_IS_UNSEEN,
-            20,
-            200,
-        ),
-        (
-            Question::OfFacts(Asked::IsSplit),
-            PENDING_COMMIT_IS_UNSEEN,
-            20,
-            200,
-        ),
-        (
-            Question::OfFacts(Asked::IsDecided),
-            READER_AFTER_COMMIT,
-            20,
-            200,
-        ),
-    ];
-    for (row, (question, input, over, below)) in cases.iter().enumerate() {
-        let found = outcomes(rt.alloc(), input, *question, *below)?;
-        let (told, passed) = found.ok_or("right answers")?;
-        assert!(rt;
-            *over < told && told < *below && passed == 0,
-            "in row {row}: {told} told, {passed} passed"
-        );
+fn each_refusal_is_told_or_changes_no_answer(rt: HostRuntime) {
+    for (at, row) in ROWS.iter().enumerate() {
+        assert!(rt; is_met(rt.alloc(), row) == Ok(true), "in row {at}");
     }
-    Ok(())
+}
+
+/// Whether each growth of making the history and the order, and some of what is reported of it, is reported.
+fn is_shown(alloc: Global, order: &'static str, fault: Option<OrderFault>) -> Result<bool, Unread> {
+    let making = Question::OfFacts(OfFacts::AreSealed(order));
+    let telling = Question::OfFacts(OfFacts::AreTold(order, fault));
+    let made = outcomes(alloc, Input::Pending, making)?;
+    let told = outcomes(alloc, Input::Pending, telling)?;
+    Ok(match (made, told) {
+        (Some((made, _)), Some((told, 0))) => told > made.wrapping_add(5),
+        _ => false,
+    })
 }
 
 #[test]
-fn what_is_forgotten_changes_no_answer(rt: HostRuntime) -> Result<(), Fail> {
-    let question = Question::OfFacts(Asked::IsRefuted);
-    let found = outcomes(rt.alloc(), FIVE_COUNTERS, question, 400)?;
-    let (_told, passed) = found.ok_or("right answers")?;
-    assert!(rt; passed > 10, "{passed} passed");
-    Ok(())
-}
-
-/// The search goes on without a memo that is out of memory, so not each refusal is an error; none is a wrong answer.
-#[test]
-fn certificates_meet_each_refusal(rt: HostRuntime) -> Result<(), Fail> {
-    let cases: [(Question, u64); 3] = [
-        (Question::CertIsWritten, 0),
-        (Question::OfFacts(Asked::IsCertified), 20),
-        (Question::OfFacts(Asked::IsFound), 20),
-    ];
-    for (question, over) in &cases {
-        let found = outcomes(rt.alloc(), TORN_READ_THEN_ABORT, *question, 2000)?;
-        let (told, passed) = found.ok_or("right answers")?;
-        assert!(rt;
-            *over < told && told.wrapping_add(passed) < 2000,
-            "{told} told, {passed} passed"
-        );
-    }
-    Ok(())
-}
-
-/// Each growth of making the history and the order, and of what is reported of it, is reported.
-#[test]
-fn showing_meets_each_refusal(rt: HostRuntime) -> Result<(), Fail> {
-    let cases: [(&'static str, Option<OrderFault>); 2] = [
-        ("2c 1a", None),
-        ("1c 2c", Some(OrderFault::Illegal(2))),
-    ];
-    for (decisions, fault) in &cases {
-        let making = Question::OfFacts(Asked::Nothing(decisions));
-        let telling = Question::OfFacts(Asked::IsTold(decisions, *fault));
-        let (made, _passed) = outcomes(rt.alloc(), PENDING_COMMIT_IS_UNSEEN, making, 1000)?.ok_or(
-            "no fault",
-        )?;
-        let (told, passed) = outcomes(rt.alloc(), PENDING_COMMIT_IS_UNSEEN, telling, 1000)?.ok_or(
-            "the fault",
-        )?;
-        assert!(rt;
-            told > made.wrapping_add(5) && told < 1000 && passed == 0,
-            "{decisions}"
-        );
-    }
-    Ok(())
+fn showing_meets_each_refusal(rt: HostRuntime) {
+    assert!(rt; is_shown(rt.alloc(), "2c 1a", None) == Ok(true));
+    assert!(rt; is_shown(rt.alloc(), "1c 2c", Some(OrderFault::Illegal(2))) == Ok(true));
 }

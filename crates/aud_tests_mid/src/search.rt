@@ -2,13 +2,12 @@
 
 ghost use Rattle.std.specs.Prelude.{◌≡◌};
 
-use crate::fixtures::{is_order, order, shape_of};
+use crate::fixtures::{Input, is_order, order, shape_of};
 use aud_order::Shape;
 use aud_search::{Decided, Memory, Outcome, Scene, Shared, decide, explore};
-use aud_worked::{NINE_COUNTERS, PENDING_COMMIT_IS_UNSEEN, TORN_READ_THEN_ABORT, Unread};
+use aud_worked::Unread;
 use std::alloc::{Allocator, Global};
 use std::marker::Brand;
-use std::test::Fail;
 
 /// Whether the history is decided as the text says: it is an order, or `not opaque`.
 pub(crate) fn is_decided<A: Allocator + Copy>(
@@ -38,71 +37,92 @@ fn without_order(outcome: Outcome) -> Told {
     }
 }
 
-/// What is reported of the lists that begin with the prefix.
-fn explored(alloc: Global, shape: &Shape, prefix: &str, budget: u64) -> Result<Told, Unread> {
-    let prefix = order(alloc, prefix)?;
-    Ok(without_order(explore(alloc, shape, &prefix, budget)?))
-}
-
 /// An input, a prefix, a budget, and what is reported of the lists that begin with the prefix.
-const BUDGETS: [(&str, &str, u64, Told); 8] = [
-    (TORN_READ_THEN_ABORT, "none", 0, Told::Spent),
-    (TORN_READ_THEN_ABORT, "none", 1, Told::Spent),
-    (TORN_READ_THEN_ABORT, "none", 2, Told::Refuted),
-    (TORN_READ_THEN_ABORT, "1c", 0, Told::Spent),
-    (TORN_READ_THEN_ABORT, "1c", 1, Told::Refuted),
-    (TORN_READ_THEN_ABORT, "2c", 0, Told::Refuted),
-    (TORN_READ_THEN_ABORT, "1a", 0, Told::Refuted),
-    (PENDING_COMMIT_IS_UNSEEN, "2c 1c", 0, Told::Found),
+type Row = (Input, &'static str, u64, Told);
+
+const BUDGETS: [Row; 8] = [
+    (Input::Torn, "none", 0, Told::Spent),
+    (Input::Torn, "none", 1, Told::Spent),
+    (Input::Torn, "none", 2, Told::Refuted),
+    (Input::Torn, "1c", 0, Told::Spent),
+    (Input::Torn, "1c", 1, Told::Refuted),
+    (Input::Torn, "2c", 0, Told::Refuted),
+    (Input::Torn, "1a", 0, Told::Refuted),
+    (Input::Pending, "2c 1c", 0, Told::Found),
 ];
 
-#[test]
-fn budgets_are_spent_exactly(rt: HostRuntime) -> Result<(), Fail> {
-    for (input, prefix, budget, wanted) in &BUDGETS {
-        let shape = shape_of(rt.alloc(), input)?;
-        let told = explored(rt.alloc(), &shape, prefix, *budget)?;
-        assert!(rt; told == *wanted, "below {prefix} with {budget}");
-    }
-    Ok(())
+fn is_told(alloc: Global, row: &Row) -> Result<bool, Unread> {
+    let shape = shape_of(alloc, row.0)?;
+    let prefix = order(alloc, row.1)?;
+    Ok(without_order(explore(alloc, &shape, &prefix, row.2)?) == row.3)
 }
 
-/// What is reported of all lists of the shape, over what was refuted there of those that begin with one of them, and again of all
-/// lists by another search, which shares what was refuted.
-fn remembered<J: Scene>(
+#[test]
+fn budgets_are_spent_exactly(rt: HostRuntime) {
+    for (at, row) in BUDGETS.iter().enumerate() {
+        assert!(rt; is_told(rt.alloc(), row) == Ok(true), "in row {at}");
+    }
+}
+
+/// What a search over what it refuted before reports of the lists that begin with the prefix.
+fn explored<'a, J: Scene>(
+    alloc: Global,
+    memory: &mut Memory<'a, J>,
+    prefix: &str,
+    budget: u64,
+) -> Result<Told, Unread> {
+    let prefix = order(alloc, prefix)?;
+    Ok(without_order(memory.explore(&prefix, budget)?))
+}
+
+/// Whether one search over what is shared reports that of the prefixes in turn, each within its budget.
+fn tells<J: Scene>(
+    alloc: Global,
+    shape: &Shape,
+    shared: &Shared<J>,
+    asked: &[(&'static str, u64)],
+    wanted: Told,
+) -> Result<bool, Unread>
+    requires { shape.now ≡ J.shape }
+{
+    let mut memory = Memory::new(alloc, shape, Some(shared));
+    for (prefix, budget) in asked {
+        if explored(alloc, &mut memory, prefix, *budget)? != wanted {
+            return Ok(false);
+        }
+    }
+    Ok(true)
+}
+
+/// Whether that is reported of all lists of the shape, over what was refuted there of those that begin with one of them, and again of
+/// all lists by another search, which shares what was refuted.
+fn remembers<J: Scene>(
     alloc: Global,
     shape: &Shape,
     budget: u64,
-) -> Result<(Told, Told, Told), Unread>
+    wanted: Told,
+) -> Result<bool, Unread>
     requires { shape.now ≡ J.shape }
 {
     let shared = Shared::<J>::new(alloc, 2)?;
-    let mut memory = Memory::new(alloc, shape, Some(&shared));
-    let mut other = Memory::new(alloc, shape, Some(&shared));
-    let whole = memory.explore(&order(alloc, "none")?, budget)?;
-    let below = memory.explore(&order(alloc, "1c")?, 1)?;
-    let again = other.explore(&order(alloc, "none")?, 1)?;
-    Ok((
-        without_order(whole),
-        without_order(below),
-        without_order(again),
-    ))
+    let is_first = tells(
+        alloc,
+        shape,
+        &shared,
+        &[("none", budget), ("1c", 1)],
+        wanted,
+    )?;
+    Ok(is_first && tells(alloc, shape, &shared, &[("none", 1)], wanted)?)
 }
 
 /// The same of nine counters.
-fn counters_remembered(alloc: Global, budget: u64) -> Result<(Told, Told, Told), Unread> {
-    let shape = shape_of(alloc, NINE_COUNTERS)?;
-    remembered::<Brand>(alloc, &shape, budget)
+fn counters_remember(alloc: Global, budget: u64, wanted: Told) -> Result<bool, Unread> {
+    let shape = shape_of(alloc, Input::Nine)?;
+    remembers::<Brand>(alloc, &shape, budget, wanted)
 }
 
 #[test]
-fn what_was_refuted_is_not_expanded_again(rt: HostRuntime) -> Result<(), Fail> {
-    let cases = [
-        (256u64, (Told::Refuted, Told::Refuted, Told::Refuted)),
-        (0, (Told::Spent, Told::Spent, Told::Spent)),
-    ];
-    for (budget, wanted) in &cases {
-        let told = counters_remembered(rt.alloc(), *budget)?;
-        assert!(rt; told == *wanted);
-    }
-    Ok(())
+fn what_was_refuted_is_not_expanded_again(rt: HostRuntime) {
+    assert!(rt; counters_remember(rt.alloc(), 256, Told::Refuted) == Ok(true));
+    assert!(rt; counters_remember(rt.alloc(), 0, Told::Spent) == Ok(true));
 }

@@ -1,18 +1,19 @@
 //! Runs of two transactions, transaction 1 in log 0 and transaction 2 in log 1, and what is found of them.
 
-use aud_event::{Dup, EndMark, Fact, OutOfMemory, Plan};
-use aud_facts::{Facts, Sealed};
-use aud_know::Finding;
+use aud_event::{EndMark, Event, Fact, OutOfMemory, Record};
+use aud_facts::Facts;
+use aud_know::{Finding, Verdict};
 use aud_order::Shape;
+use aud_report::{Said, write_line};
 use aud_search::{Outcome, explore};
 use aud_text::read_order;
-use aud_witness::{Prefix, shows};
-use aud_worked::{Unread, facts_on, sealed_from};
-use std::alloc::Allocator;
+use aud_witness::Prefix;
+use aud_worked::{READER_AFTER_COMMIT, TORN_READ_THEN_ABORT, Unread, facts_of};
+use std::alloc::Global;
 use std::sync::Arc;
 
 /// T2 reads x, then T1 writes x and y and commits, then T2 reads the new y, and aborts.
-pub const TORN_READ: &str = r#"{"format":1,"logs":2,"objects":2}
+const TORN_READ: &str = r#"{"format":1,"logs":2,"objects":2}
 {"kind":"register","name":"x","open":0}
 {"kind":"register","name":"y","open":0}
 {"at":0,"ev":"inv","log":1,"ob":"x","op":"read","stamp":0,"tx":2}
@@ -32,7 +33,7 @@ pub const TORN_READ: &str = r#"{"format":1,"logs":2,"objects":2}
 "#;
 
 /// T1 writes 1 to x and asks to commit; T2 then reads 1 and commits.
-pub const SEEN_REQUEST: &str = r#"{"format":1,"logs":2,"objects":1}
+const SEEN_REQUEST: &str = r#"{"format":1,"logs":2,"objects":1}
 {"kind":"register","name":"x","open":0}
 {"arg":1,"at":0,"ev":"inv","log":0,"ob":"x","op":"write","stamp":0,"tx":1}
 {"ans":"done","at":1,"ev":"ret","log":0,"ob":"x","op":"write","stamp":1,"tx":1}
@@ -46,7 +47,7 @@ pub const SEEN_REQUEST: &str = r#"{"format":1,"logs":2,"objects":1}
 "#;
 
 /// T1 writes 1 to x and asks to commit; T2 then reads 0 and commits.
-pub const UNSEEN_REQUEST: &str = r#"{"format":1,"logs":2,"objects":1}
+const UNSEEN_REQUEST: &str = r#"{"format":1,"logs":2,"objects":1}
 {"kind":"register","name":"x","open":0}
 {"arg":1,"at":0,"ev":"inv","log":0,"ob":"x","op":"write","stamp":0,"tx":1}
 {"ans":"done","at":1,"ev":"ret","log":0,"ob":"x","op":"write","stamp":1,"tx":1}
@@ -59,76 +60,8 @@ pub const UNSEEN_REQUEST: &str = r#"{"format":1,"logs":2,"objects":1}
 {"end":4,"log":1}
 "#;
 
-/// The list of decisions that the order text says.
-pub fn list<A: Allocator + Copy>(alloc: A, order: &str) -> Result<Prefix<A>, Unread> {
-    Ok(read_order(alloc, order.as_bytes())?)
-}
-
-pub fn end(log: u32, count: u32) -> Fact {
-    Fact::End(EndMark { log, count })
-}
-
-/// A copy of the run's plan.
-pub fn plan_of<A: Allocator + Copy>(alloc: A, run: &Facts) -> Result<Plan<A>, Unread> {
-    let facts = facts_on(alloc, run)?;
-    Ok(facts.plan().dup()?)
-}
-
-pub type SharedShape<A> = Arc<Shape<A>, A>;
-
-fn shape_of_sealed<A: Allocator + Copy>(
-    alloc: A,
-    sealed: Arc<Sealed<A>, A>,
-) -> Result<Option<SharedShape<A>>, OutOfMemory> {
-    match sealed.history().first_fault() {
-        Some(_) => Ok(None),
-        None => Ok(Some(Arc::new(alloc, Shape::of(alloc, sealed)?)?)),
-    }
-}
-
-/// The shape of the run, if it is well-formed.
-pub fn shape_of<A: Allocator + Copy>(
-    alloc: A,
-    run: &Facts,
-) -> Result<Option<SharedShape<A>>, Unread> {
-    let sealed = sealed_from(&facts_on(alloc, run)?)?;
-    Ok(shape_of_sealed(alloc, sealed)?)
-}
-
-/// The finding that no order of the run that begins so shows it, if a search finds that.
-pub fn refuted<A: Allocator + Copy>(
-    alloc: A,
-    run: &Facts,
-    order: &str,
-) -> Result<Option<Finding<A>>, Unread> {
-    let Some(shape) = shape_of(alloc, run)? else {
-        return Ok(None);
-    };
-    let list = list(alloc, order)?;
-    match explore(alloc, &shape, &list, 100)? {
-        Outcome::Refuted => Ok(Some(Finding::refuted(shape, list))),
-        Outcome::Witness(_) | Outcome::Spent => Ok(None),
-    }
-}
-
-/// The finding that the order shows the run, if it does.
-pub fn shown<A: Allocator + Copy>(
-    alloc: A,
-    run: &Facts,
-    order: &str,
-) -> Result<Option<Finding<A>>, Unread> {
-    let Some(shape) = shape_of(alloc, run)? else {
-        return Ok(None);
-    };
-    let order = list(alloc, order)?;
-    match shows(alloc, shape.history(), &order)? {
-        Ok(()) => Ok(Some(Finding::witness(shape, order))),
-        Err(_) => Ok(None),
-    }
-}
-
 /// Three increments and a get that counts five, all at once.
-pub const FIVE_COUNTED: &str = r#"{"format":1,"logs":1,"objects":1}
+const FIVE_COUNTED: &str = r#"{"format":1,"logs":1,"objects":1}
 {"kind":"counter","name":"c","open":0}
 {"at":0,"ev":"inv","log":0,"ob":"c","op":"inc","stamp":0,"tx":1}
 {"at":1,"ev":"inv","log":0,"ob":"c","op":"inc","stamp":1,"tx":2}
@@ -148,3 +81,85 @@ pub const FIVE_COUNTED: &str = r#"{"format":1,"logs":1,"objects":1}
 {"at":15,"ev":"commit","log":0,"stamp":15,"tx":4}
 {"end":16,"log":0}
 "#;
+
+/// The inputs, of which no test has to know the bytes.
+#[derive(Clone, Copy)]
+pub enum Input {
+    Torn,
+    Seen,
+    Unseen,
+    Five,
+    /// A torn read in one log.
+    OneLog,
+    /// T1 writes 1 to x and commits; T2 then reads it and commits.
+    Reader,
+}
+
+pub fn text_of(input: Input) -> &'static str {
+    match input {
+        Input::Torn => TORN_READ,
+        Input::Seen => SEEN_REQUEST,
+        Input::Unseen => UNSEEN_REQUEST,
+        Input::Five => FIVE_COUNTED,
+        Input::OneLog => TORN_READ_THEN_ABORT,
+        Input::Reader => READER_AFTER_COMMIT,
+    }
+}
+
+/// The facts that the input says.
+pub fn run_of(alloc: Global, input: Input) -> Result<Facts, Unread> {
+    facts_of(alloc, text_of(input))
+}
+
+/// A record that stands where another one of the torn read does.
+pub const OTHER: Fact = Fact::Rec(Record {
+    log: 0,
+    at: 0,
+    stamp: 2,
+    tx: 1,
+    event: Event::TryC,
+});
+
+pub fn end(log: u32, count: u32) -> Fact {
+    Fact::End(EndMark { log, count })
+}
+
+pub fn log_of(fact: &Fact) -> u32 {
+    match fact {
+        Fact::Rec(record) => record.log,
+        Fact::End(mark) => mark.log,
+    }
+}
+
+/// The list of decisions that the order text says.
+pub fn list(alloc: Global, order: &str) -> Result<Prefix, Unread> {
+    Ok(read_order(alloc, order.as_bytes())?)
+}
+
+/// The shape of the run, which is well-formed.
+pub fn shape_of(alloc: Global, run: &Facts) -> Result<Arc<Shape>, Unread> {
+    let Some(sealed) = run.seal()? else {
+        return Err(Unread::Unsealed);
+    };
+    match sealed.history().first_fault() {
+        Some(_) => Err(Unread::Unsealed),
+        None => Ok(Arc::new(alloc, Shape::of(alloc, sealed)?)?),
+    }
+}
+
+/// What a search finds of the orders of the run that begin so: that none shows it, or one that does.
+pub fn found(alloc: Global, run: &Facts, order: &str) -> Result<Finding, Unread> {
+    let shape = shape_of(alloc, run)?;
+    let list = list(alloc, order)?;
+    match explore(alloc, &shape, &list, 100)? {
+        Outcome::Refuted => Ok(Finding::refuted(shape, list)),
+        Outcome::Witness(order) => Ok(Finding::witness(shape, order)),
+        Outcome::Spent => Err(Unread::Unsealed),
+    }
+}
+
+/// Whether the line is what is written of the verdict.
+pub fn is_line(alloc: Global, verdict: Verdict, line: &str) -> Result<bool, OutOfMemory> {
+    let said = Said::Verdict(verdict);
+    Ok(write_line(alloc, &said)?.as_slice() == line.as_bytes())
+}

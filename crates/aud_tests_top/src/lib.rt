@@ -4,11 +4,7 @@
 #[cfg(test)]
 mod audits;
 #[cfg(test)]
-mod devices;
-#[cfg(test)]
 mod fixtures;
-#[cfg(test)]
-mod gossip;
 #[cfg(test)]
 mod knowing;
 #[cfg(test)]
@@ -16,18 +12,12 @@ mod news;
 #[cfg(test)]
 mod nodes;
 #[cfg(test)]
-mod open;
-#[cfg(test)]
 mod pool;
-#[cfg(test)]
-mod refused_search;
-#[cfg(test)]
-mod rows;
 #[cfg(test)]
 mod running;
 #[cfg(test)]
 mod searching;
 #[cfg(test)]
-mod threads;
+mod watch;
 #[cfg(test)]
 mod worlds;

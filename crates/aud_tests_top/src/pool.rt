@@ -2,13 +2,11 @@
 
 ghost use Rattle.std.specs.Prelude.{◌≡◌};
 
+use crate::watch::{Watch, note};
 use aud_event::OutOfMemory;
-use aud_pool::{Gate, PoolEnd, Refusal, Work, run};
+use aud_pool::{PoolEnd, Refusal, Work, WorkerEnd, run};
 use std::alloc::{AllocError, Global};
 use std::sync::Wait;
-use std::sync::atomic::{AtomicU64, Ordering};
-use std::test::Fail;
-use std::thread;
 use std::thread::Threads;
 
 /// The task that is refused.
@@ -53,61 +51,6 @@ impl Work<u64, Vec<u64>, ()> for Noting {
     ghost grows_onward = { λ w s t u first second x is. second x (first x is) };
 }
 
-/// Counts what it is called for.
-#[derive(Drop)]
-struct Counting {
-    before: AtomicU64,
-    after: AtomicU64,
-}
-
-impl Counting {
-    fn new() -> Counting {
-        Counting {
-            before: AtomicU64::new(0),
-            after: AtomicU64::new(0),
-        }
-    }
-
-    fn counts(&self) -> (u64, u64) {
-        (
-            self.before.load(Ordering::SeqCst),
-            self.after.load(Ordering::SeqCst),
-        )
-    }
-}
-
-impl Gate<u64> for Counting {
-    fn before(&self, _worker: u32, _task: &u64) {
-        self.before.fetch_add(1, Ordering::SeqCst);
-    }
-
-    fn after(&self, _worker: u32, _task: &u64) {
-        self.after.fetch_add(1, Ordering::SeqCst);
-    }
-}
-
-/// Lets a worker go on once two are here, or after a long time.
-#[derive(Drop)]
-struct Meeting {
-    here: AtomicU64,
-    alone: AtomicU64,
-}
-
-impl Gate<u64> for Meeting {
-    fn before(&self, _worker: u32, _task: &u64) {
-        self.here.fetch_add(1, Ordering::SeqCst);
-        for _ in 0..50_000_000u32 {
-            if self.here.load(Ordering::SeqCst) >= 2 {
-                return;
-            }
-            thread::yield_now();
-        }
-        self.alone.fetch_add(1, Ordering::SeqCst);
-    }
-
-    fn after(&self, _worker: u32, _task: &u64) {}
-}
-
 fn seats(alloc: Global, count: u32) -> Result<Vec<Vec<u64>>, AllocError> {
     let mut seats = Vec::new(alloc);
     for _ in 0..count {
@@ -116,122 +59,130 @@ fn seats(alloc: Global, count: u32) -> Result<Vec<Vec<u64>>, AllocError> {
     Ok(seats)
 }
 
-/// The tasks 1 to `count`.
-fn numbers(alloc: Global, count: u64) -> Result<Vec<u64>, AllocError> {
-    let mut tasks = Vec::new(alloc);
-    for task in 1..=count {
-        tasks.push(task)?;
-    }
-    Ok(tasks)
-}
-
 /// All tasks that were worked, and those that were left, in their order.
 fn all_of(alloc: Global, end: &PoolEnd<u64, Vec<u64>>) -> Result<Vec<u64>, AllocError> {
     let mut all = Vec::new(alloc);
     for worker in &end.workers {
-        for task in &worker.seat {
-            all.push(*task)?;
-        }
+        all.extend_from_slice(&worker.seat)?;
     }
-    for task in &end.left {
-        all.push(*task)?;
-    }
+    all.extend_from_slice(&end.left)?;
     all.sort()?;
     Ok(all)
 }
 
-/// Whether a pool of so many workers works so many tasks once each, leaves none and calls its gate for each.
-fn works_all<R: Threads + Wait + Sync>(
+/// What a gate is to hear before the tasks of the worker.
+fn heard(number: u32, drawn: &[u64]) -> u64 {
+    let mut sum = 0u64;
+    for task in drawn {
+        sum = sum.wrapping_add(note(number, *task));
+    }
+    sum
+}
+
+/// How many tasks were drawn, how many workers failed, and what a gate is to hear before the tasks.
+fn drawn(workers: &[WorkerEnd<u64, Vec<u64>>]) -> (u64, u64, u64) {
+    let mut sums = (0u64, 0u64, 0u64);
+    let mut number = 0u32;
+    for worker in workers {
+        sums.0 = sums.0.wrapping_add(worker.drawn.len() as u64);
+        sums.1 = sums.1.wrapping_add(u64::from(worker.failed));
+        sums.2 = sums.2.wrapping_add(heard(number, &worker.drawn));
+        number = number.wrapping_add(1);
+    }
+    sums
+}
+
+/// The tasks of a pool, those of them that are not refused, least first, and how many tasks are drawn and how many workers fail.
+type Row<'a> = (&'a [u64], &'a [u64], u64, u64);
+
+/// Whether so many workers work each task once that is not refused, or leave it where all failed, and call the gate for each that they
+/// draw, with the number of the worker.
+fn is_worked<R: Threads + Wait + Sync>(
     rt: &R,
     alloc: Global,
     workers: u32,
-    tasks: u64,
+    row: Row,
 ) -> Result<bool, AllocError> {
-    let gate = Counting::new();
-    let all = numbers(alloc, tasks)?;
+    let (tasks, worked, count, failed) = row;
+    let gate = Watch::new(0);
     let seats = seats(alloc, workers)?;
-    let given = numbers(alloc, tasks)?;
-    let Ok(end) = run(rt, alloc, seats, given, &Noting, &gate) else {
+    let Ok(end) = run(rt, alloc, seats, tasks.to_vec(alloc)?, &Noting, &gate) else {
         return Ok(false);
     };
-    let unfailed = end.workers.iter().all(|worker| !worker.failed);
-    let worked = all_of(alloc, &end)?;
-    Ok(unfailed && end.left.is_empty() && worked == all && gate.counts() == (tasks, tasks))
+    let (drawn, fell, heard) = drawn(&end.workers);
+    let is_heard = gate.heard() == (drawn, 0, heard, heard);
+    let is_whole = all_of(alloc, &end)?.as_slice() == worked;
+    Ok(is_heard && is_whole && (drawn, fell) == (count, failed))
 }
 
-#[test]
-fn each_task_is_worked_once_by_any_number_of_workers(rt: HostRuntime) -> Result<(), Fail> {
+/// Whether pools of several sizes work the numbers from 1 to so many.
+fn are_worked<R: Threads + Wait + Sync>(
+    rt: &R,
+    alloc: Global,
+    count: u64,
+) -> Result<bool, AllocError> {
+    let mut tasks = Vec::new(alloc);
+    for task in 1..=count {
+        tasks.push(task)?;
+    }
     for workers in [1, 2, 3, 7, 16] {
-        for tasks in [0, 1, 2, 100] {
-            assert!(rt; works_all(&rt, rt.alloc(), workers, tasks)?);
+        if !is_worked(rt, alloc, workers, (&tasks, &tasks, count, 0))? {
+            return Ok(false);
         }
     }
-    Ok(())
+    Ok(true)
 }
 
 #[test]
-fn two_workers_are_at_their_tasks_at_once(rt: HostRuntime) -> Result<(), Fail> {
+fn each_task_is_worked_once_by_any_number_of_workers(rt: HostRuntime) {
+    for count in [0, 1, 2, 100] {
+        assert!(rt; are_worked(&rt, rt.alloc(), count) == Ok(true), "{count}");
+    }
+}
+
+#[test]
+fn a_pool_leaves_tasks_where_all_its_workers_are_refused(rt: HostRuntime) {
+    let all: Row = (&[REFUSED, REFUSED, 1, 2, 3], &[1, 2, 3], 2, 2);
+    assert!(rt; is_worked(&rt, rt.alloc(), 2, all) == Ok(true));
+    let one: Row = (&[4, REFUSED, 1, 2, 3], &[1, 2, 3, 4], 5, 1);
+    assert!(rt; is_worked(&rt, rt.alloc(), 3, one) == Ok(true));
+}
+
+/// Whether two workers are at two tasks at once.
+fn do_meet<R: Threads + Wait + Sync>(rt: &R, alloc: Global) -> Result<bool, AllocError> {
+    let gate = Watch::new(2);
+    let seats = seats(alloc, 2)?;
+    let tasks = Vec::from_slice(alloc, &[1, 2])?;
+    let has_run = run(rt, alloc, seats, tasks, &Noting, &gate).is_ok();
+    let (here, alone, _before, _after) = gate.heard();
+    Ok(has_run && here == 2 && alone == 0)
+}
+
+#[test]
+fn two_workers_are_at_their_tasks_at_once(rt: HostRuntime) {
     for _ in 0..100 {
-        let gate = Meeting {
-            here: AtomicU64::new(0),
-            alone: AtomicU64::new(0),
-        };
-        let seats = seats(rt.alloc(), 2)?;
-        let tasks = numbers(rt.alloc(), 2)?;
-        assert!(rt; run(&rt, rt.alloc(), seats, tasks, &Noting, &gate).is_ok());
-        assert_eq!(rt; gate.here.load(Ordering::SeqCst), 2);
-        assert_eq!(rt; gate.alone.load(Ordering::SeqCst), 0);
+        assert!(rt; do_meet(&rt, rt.alloc()) == Ok(true));
     }
-    Ok(())
 }
 
-#[test]
-fn a_pool_whose_workers_are_refused_leaves_the_other_tasks(rt: HostRuntime) -> Result<(), Fail> {
-    let gate = Counting::new();
-    let seats = seats(rt.alloc(), 2)?;
-    let tasks = Vec::from_slice(rt.alloc(), &[REFUSED, REFUSED, 1, 2, 3])?;
-    let Ok(end) = run(&rt, rt.alloc(), seats, tasks, &Noting, &gate) else {
-        panic!(rt; "the pool did not begin");
+/// Whether a pool of so many workers is refused so, hands the seats back, and calls no gate.
+fn is_refused<R: Threads + Wait + Sync>(
+    rt: &R,
+    alloc: Global,
+    count: u32,
+    refusal: Refusal,
+) -> Result<bool, AllocError> {
+    let gate = Watch::new(0);
+    let seats = seats(alloc, count)?;
+    let tasks = Vec::from_slice(alloc, &[1, 2, 3])?;
+    let Err((seats, why)) = run(rt, alloc, seats, tasks, &Noting, &gate) else {
+        return Ok(false);
     };
-    for worker in &end.workers {
-        assert_eq!(rt; (worker.drawn.len(), worker.failed), (1, true));
-    }
-    assert_eq!(rt; all_of(rt.alloc(), &end)?.as_slice(), [1, 2, 3].as_slice());
-    assert_eq!(rt; gate.counts(), (2, 2));
-    Ok(())
+    Ok(seats.len() == count as usize && why == refusal && gate.heard() == (0, 0, 0, 0))
 }
 
 #[test]
-fn one_refused_worker_leaves_no_task(rt: HostRuntime) -> Result<(), Fail> {
-    let gate = Counting::new();
-    let seats = seats(rt.alloc(), 3)?;
-    let tasks = Vec::from_slice(rt.alloc(), &[4, REFUSED, 1, 2, 3])?;
-    let Ok(end) = run(&rt, rt.alloc(), seats, tasks, &Noting, &gate) else {
-        panic!(rt; "the pool did not begin");
-    };
-    assert!(rt; end.left.is_empty());
-    assert_eq!(rt;
-        end.workers.iter().filter(|worker| worker.failed).count(),
-        1
-    );
-    assert_eq!(rt;
-        all_of(rt.alloc(), &end)?.as_slice(),
-        [1, 2, 3, 4].as_slice()
-    );
-    Ok(())
-}
-
-#[test]
-fn a_pool_has_1_to_16_workers(rt: HostRuntime) -> Result<(), Fail> {
-    for (count, refusal) in [(0, Refusal::NoWorkers), (17, Refusal::TooManyWorkers)] {
-        let gate = Counting::new();
-        let seats = seats(rt.alloc(), count)?;
-        let tasks = numbers(rt.alloc(), 3)?;
-        let Err((seats, why)) = run(&rt, rt.alloc(), seats, tasks, &Noting, &gate) else {
-            panic!(rt; "the pool began");
-        };
-        assert_eq!(rt; (seats.len(), why), (count as usize, refusal));
-        assert_eq!(rt; gate.counts(), (0, 0));
-    }
-    Ok(())
+fn a_pool_has_1_to_16_workers(rt: HostRuntime) {
+    assert!(rt; is_refused(&rt, rt.alloc(), 0, Refusal::NoWorkers) == Ok(true));
+    assert!(rt; is_refused(&rt, rt.alloc(), 17, Refusal::TooManyWorkers) == Ok(true));
 }

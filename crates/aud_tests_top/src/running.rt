@@ -2,76 +2,50 @@
 
 ghost use Rattle.std.specs.Prelude.{◌≡◌};
 
-use crate::fixtures::{TORN_READ, plan_of};
-use crate::nodes::{listed, offer_facts};
-use aud_event::{Event, Fact, Plan, Record};
+use crate::fixtures::{Input, log_of, run_of};
+use crate::knowing::{nothing, take_facts};
+use crate::nodes::{listed, offer_log};
+use aud_event::{Dup, Event, Fact, Plan, Record};
 use aud_know::{Item, Knowledge};
 use aud_node::{Closed, Fleet, Opened, Pass, Running};
 use aud_witness::Prefix;
-use aud_worked::{Unread, facts_of};
+use aud_worked::Unread;
 use std::alloc::Global;
 use std::marker::Brand;
-use std::sync::{Arc, Wait};
-use std::test::Fail;
+use std::sync::Wait;
 use std::thread;
 use std::thread::Threads;
 
-/// What one thread knows that takes all facts.
-fn known_alone(alloc: Global, plan: Plan, facts: &[Fact]) -> Result<Knowledge, Unread> {
-    let mut known = Knowledge::empty(alloc, Arc::new(alloc, plan)?)?;
-    for fact in facts {
-        if known.take_fact(fact).is_err() {
-            return Err(Unread::OutOfMemory);
-        }
-    }
-    Ok(known)
-}
-
-fn log_of(fact: &Fact) -> u32 {
-    match fact {
-        Fact::Rec(record) => record.log,
-        Fact::End(mark) => mark.log,
-    }
-}
-
-/// How often the fact was offered by the seat of its log.
-fn times(closed: &Closed, fact: &Fact) -> usize {
-    let mut count = 0usize;
+/// Whether nothing but facts was offered, each by the seat of its log.
+fn are_by_seats(closed: &Closed) -> bool {
     for (seat, item) in &closed.offered {
-        if let Item::Fact(offered) = &**item
-            && *seat == log_of(fact)
-            && offered == fact
-        {
-            count = count.saturating_add(1);
+        match &**item {
+            Item::Fact(fact) if *seat == log_of(fact) => {}
+            _ => return false,
         }
     }
-    count
+    true
 }
 
-/// Whether each fact was offered once, by the seat of its log, and nothing else was.
-fn has_each_once(closed: &Closed, facts: &[Fact]) -> bool {
-    for fact in facts {
-        if times(closed, fact) != 1 {
-            return false;
-        }
-    }
-    closed.offered.len() == facts.len()
+/// Reads what the pass knows.
+fn read<J: Fleet, S: Wait + Drop>(alloc: Global, node: &Running<J, S>, pass: &mut Pass<J>) {
+    let list: Prefix = Prefix::empty(alloc);
+    let _known = node.knows(pass, &list);
+    let _told = node.verdict(pass);
 }
 
 /// Offers the facts of the log of the pass's seat, and reads after each.
-fn offer_log<J: Fleet, R: Wait, S: Wait + Drop>(
+fn offer_reading<J: Fleet, R: Wait, S: Wait + Drop>(
     rt: &R,
     alloc: Global,
     node: &Running<J, S>,
     pass: &mut Pass<J>,
     facts: &[Fact],
 ) {
-    let list: Prefix = Prefix::empty(alloc);
+    let log = pass.seat();
     for fact in facts {
-        if log_of(fact) == pass.seat() {
-            let _taken = offer_facts(rt, alloc, node, pass, &[*fact]);
-            let _known = node.knows(pass, &list);
-            let _told = node.verdict(pass);
+        if log_of(fact) == log && offer_log(rt, alloc, node, pass, &[*fact], log) {
+            read(alloc, node, pass);
         }
     }
 }
@@ -84,7 +58,7 @@ fn offer_at_once<J: Fleet + Send + Sync, R: Threads + Wait + Sync>(
     passes: &mut [Pass<J>],
     facts: &[Fact],
 ) {
-    let each = |_place: usize, pass: &mut Pass<J>| offer_log(rt, alloc, node, pass, facts);
+    let each = |_place: usize, pass: &mut Pass<J>| offer_reading(rt, alloc, node, pass, facts);
     thread::for_each_mut(rt, passes, 8, &each);
 }
 
@@ -105,17 +79,35 @@ fn closed_by<J: Fleet + Send + Sync, R: Threads + Wait + Sync>(
     node.close(rt, passes).ok()
 }
 
-#[test]
-fn two_threads_offer_halves(rt: HostRuntime) -> Result<(), Fail> {
-    let alloc = rt.alloc();
-    let run = facts_of(alloc, TORN_READ)?;
-    let facts = listed(alloc, &run)?;
-    let plan = plan_of(alloc, &run)?;
-    let alone = known_alone(alloc, plan_of(alloc, &run)?, &facts)?;
-    let closed = closed_by::<Brand, _>(&rt, alloc, Opened::new(0), plan, 2, &facts);
-    let closed = closed.ok_or("closed")?;
-    assert!(rt; has_each_once(&closed, &facts) && closed.known.same(&alone));
-    Ok(())
+/// What one thread knows that takes all facts.
+fn known_alone(alloc: Global, plan: &Plan, facts: &[Fact]) -> Result<Knowledge, Unread> {
+    let mut alone = nothing(alloc, plan)?;
+    take_facts(&mut alone, facts)?;
+    Ok(alone)
+}
+
+/// Whether each fact was offered once, by the seat of its log, and nothing else was: as many items as there are facts, which are known
+/// alone, and all are known.
+fn has_each_once(closed: &Closed, alone: &Knowledge) -> bool {
+    let count = alone.facts().len();
+    closed.offered.len() == count && are_by_seats(closed) && closed.known.same(alone)
+}
+
+/// Whether threads that offer a log each leave each fact once, and what one thread knows that takes all.
+fn is_as_alone<R: Threads + Wait + Sync>(
+    rt: &R,
+    alloc: Global,
+    number: u32,
+    plan: &Plan,
+    facts: &[Fact],
+) -> Result<bool, Unread> {
+    let alone = known_alone(alloc, plan, facts)?;
+    let plan = plan.dup()?;
+    let (opened, seats) = (Opened::new(number), plan.logs());
+    match closed_by::<Brand, _>(rt, alloc, opened, plan, seats, facts) {
+        Some(closed) => Ok(has_each_once(&closed, &alone)),
+        None => Ok(false),
+    }
 }
 
 const LOGS: u32 = 8;
@@ -137,18 +129,20 @@ fn records(alloc: Global) -> Result<Vec<Fact>, Unread> {
     Ok(facts)
 }
 
-fn plan_of_logs(alloc: Global) -> Result<Plan, Unread> {
-    Ok(Plan::new(alloc, LOGS, Vec::new(alloc))?)
+fn is_torn_as_alone<R: Threads + Wait + Sync>(rt: &R, alloc: Global) -> Result<bool, Unread> {
+    let run = run_of(alloc, Input::Torn)?;
+    let facts = listed(alloc, &run)?;
+    is_as_alone(rt, alloc, 0, run.plan(), &facts)
+}
+
+fn are_records_as_alone<R: Threads + Wait + Sync>(rt: &R, alloc: Global) -> Result<bool, Unread> {
+    let plan = Plan::new(alloc, LOGS, Vec::new(alloc))?;
+    let facts = records(alloc)?;
+    is_as_alone(rt, alloc, 3, &plan, &facts)
 }
 
 #[test]
-fn eight_threads_offer_and_read(rt: HostRuntime) -> Result<(), Fail> {
-    let alloc = rt.alloc();
-    let facts = records(alloc)?;
-    let alone = known_alone(alloc, plan_of_logs(alloc)?, &facts)?;
-    let plan = plan_of_logs(alloc)?;
-    let closed = closed_by::<Brand, _>(&rt, alloc, Opened::new(3), plan, LOGS, &facts);
-    let closed = closed.ok_or("closed")?;
-    assert!(rt; has_each_once(&closed, &facts) && closed.known.same(&alone));
-    Ok(())
+fn threads_offer_and_read_at_once(rt: HostRuntime) {
+    assert!(rt; is_torn_as_alone(&rt, rt.alloc()) == Ok(true));
+    assert!(rt; are_records_as_alone(&rt, rt.alloc()) == Ok(true));
 }

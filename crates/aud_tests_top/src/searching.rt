@@ -2,271 +2,251 @@
 
 ghost use Rattle.std.specs.Prelude.{◌≡◌, ◌<◌};
 
-use crate::fixtures::{
-    SEEN_REQUEST, SharedShape, TORN_READ, UNSEEN_REQUEST, list, plan_of, shape_of,
-};
-use crate::knowing::{Judgement, judged};
-use aud_event::Plan;
+use crate::fixtures::{Input, found, is_line, list, run_of, shape_of};
+use crate::watch::{Watch, first_of, note};
+use aud_event::{Dup, Plan};
 use aud_facts::Facts;
-use aud_node::{Fleet, Opened, Pass, Running};
-use aud_split::{Gate, PoolEnd, PoolFault, run_pool, split};
+use aud_know::Item;
+use aud_node::{Closed, Fleet, Opened, Pass, Running};
+use aud_order::Shape;
+use aud_split::{PoolEnd, PoolFault, run_pool, split};
 use aud_witness::Prefix;
-use aud_worked::{Unread, facts_of};
+use aud_worked::Unread;
 use std::alloc::Global;
 use std::marker::Brand;
-use std::sync::Wait;
-use std::sync::atomic::{AtomicU64, Ordering};
-use std::test::Fail;
-use std::thread;
+use std::sync::{Arc, Wait};
 use std::thread::Threads;
-
-/// Lets everybody pass.
-struct Open;
-
-impl Gate<Prefix> for Open {
-    fn before(&self, _worker: u32, _task: &Prefix) {}
-
-    fn after(&self, _worker: u32, _task: &Prefix) {}
-}
-
-/// Lets a task begin once two are at the gate, of any pool, or after a long time.
-#[derive(Drop)]
-pub(crate) struct Meeting {
-    pub here: AtomicU64,
-    pub alone: AtomicU64,
-}
-
-impl Gate<Prefix> for Meeting {
-    fn before(&self, _worker: u32, _task: &Prefix) {
-        self.here.fetch_add(1, Ordering::SeqCst);
-        for _ in 0..50_000_000u32 {
-            if self.here.load(Ordering::SeqCst) >= 2 {
-                return;
-            }
-            thread::yield_now();
-        }
-        self.alone.fetch_add(1, Ordering::SeqCst);
-    }
-
-    fn after(&self, _worker: u32, _task: &Prefix) {}
-}
 
 /// What a pool is to work on: the shape of a run, and tasks of it.
 #[derive(Drop)]
 struct Search {
-    shape: SharedShape<Global>,
+    shape: Arc<Shape>,
     tasks: Vec<Prefix>,
     budget: u64,
 }
 
-/// The tasks that begin with these orders.
-fn search_of(
-    alloc: Global,
-    run: &Facts,
-    orders: &[&str],
-    budget: u64,
-) -> Result<Option<Search>, Unread> {
-    let Some(shape) = shape_of(alloc, run)? else {
-        return Ok(None);
+/// The tasks that begin with these orders; those at a depth of two, where there are none.
+fn search_of(alloc: Global, run: &Facts, orders: &[&str], budget: u64) -> Result<Search, Unread> {
+    let shape = shape_of(alloc, run)?;
+    let mut tasks = if orders.is_empty() {
+        split(alloc, &shape, &Prefix::empty(alloc), 2)?
+    } else {
+        Vec::new(alloc)
     };
-    let mut tasks = Vec::new(alloc);
     for order in orders {
         tasks.push(list(alloc, order)?)?;
     }
-    Ok(Some(Search {
+    Ok(Search {
         shape,
         tasks,
         budget,
-    }))
+    })
 }
 
-/// The tasks of the run at a depth of two.
-fn split_of(alloc: Global, run: &Facts, budget: u64) -> Result<Option<Search>, Unread> {
-    let Some(shape) = shape_of(alloc, run)? else {
-        return Ok(None);
-    };
-    let tasks = split(alloc, &shape, &Prefix::empty(alloc), 2)?;
-    Ok(Some(Search {
-        shape,
-        tasks,
-        budget,
-    }))
+/// How many tasks were drawn and left, and how many faults there were.
+type Counts = (usize, usize, usize);
+
+/// A run, the order of which a finding is offered before the pool begins, the tasks of the pool, which are those at a depth of two where
+/// none are said, the budget of each, what its end counts, how many findings were offered, and the verdict on what is known then.
+type Row = (
+    Input,
+    &'static [&'static str],
+    &'static [&'static str],
+    u64,
+    Counts,
+    usize,
+    &'static str,
+);
+
+/// What a gate is to hear before the tasks.
+fn heard(drawn: &[(u32, Prefix)]) -> u64 {
+    let mut sum = 0u64;
+    for (worker, task) in drawn {
+        sum = sum.wrapping_add(note(*worker, first_of(task)));
+    }
+    sum
 }
 
-/// How many tasks were drawn and left, how many faults there were, what is known at the end, and how many findings were
-/// offered.
-type Summary = (usize, usize, usize, Judgement, usize);
-
-/// Closes the node by the passes of the pool and the one that it did not have.
-fn summary_of<J: Fleet, R: Wait>(
+/// What the node leaves that is closed by the passes of the pool and the one that it did not have.
+fn closed_with<J: Fleet, R: Wait>(
     rt: &R,
+    node: Running<J, &R>,
+    mut passes: Vec<Pass<J>>,
+    keeper: Pass<J>,
+) -> Option<Closed> {
+    passes.push(keeper).ok()?;
+    node.close(rt, passes).ok()
+}
+
+/// Whether the verdict on what a closed node knows is this.
+fn says(alloc: Global, closed: &Closed, line: &str) -> bool {
+    match closed.known.verdict() {
+        Ok(verdict) => is_line(alloc, verdict, line) == Ok(true),
+        Err(_) => false,
+    }
+}
+
+/// Whether the gate heard of the tasks that were drawn, and of the number of the worker that drew each; and the pool ended as the row
+/// says.
+fn is_as_said<J: Fleet, R: Wait>(
+    rt: &R,
+    alloc: Global,
     node: Running<J, &R>,
     keeper: Pass<J>,
     end: PoolEnd<J>,
-) -> Option<Summary> {
-    let PoolEnd {
-        mut passes,
-        drawn,
-        left,
-        faults,
-    } = end;
-    passes.push(keeper).ok()?;
-    let closed = node.close(rt, passes).ok()?;
-    let judgement = judged(&closed.known).ok()?;
-    let offered = closed.offered.len();
-    Some((drawn.len(), left.len(), faults.len(), judgement, offered))
+    gate: &Watch,
+    row: &Row,
+) -> bool {
+    let sum = heard(&end.drawn);
+    let is_heard = gate.heard() == (end.drawn.len() as u64, 0, sum, sum);
+    let counts = (end.drawn.len(), end.left.len(), end.faults.len());
+    match closed_with(rt, node, end.passes, keeper) {
+        Some(closed) => {
+            let is_ended = counts == row.4 && closed.offered.len() == row.5;
+            is_heard && is_ended && says(alloc, &closed, row.6)
+        }
+        None => false,
+    }
 }
 
-/// What a node says for which so many workers searched.
-fn searched<J: Fleet + Send + Sync, G: Gate<Prefix> + Sync, R: Threads + Wait + Sync>(
+/// Whether so many workers search for a node as the row says.
+fn searched<J: Fleet + Send + Sync, R: Threads + Wait + Sync>(
     rt: &R,
     alloc: Global,
     opened: Opened,
     plan: Plan,
+    run: &Facts,
     workers: u32,
-    search: Search,
-    gate: &G,
-) -> Option<Summary>
+    gate: &Watch,
+    row: &Row,
+) -> Option<bool>
     requires named { opened.book ≡ J.book opened.number }
     requires planned { plan ≡ J.plan opened.number }
     requires few { workers < 32 }
 {
-    let seats = workers + 1;
-    let (node, mut passes) = Running::<J, &R>::start(rt, alloc, opened, plan, seats).ok()?;
-    let keeper = passes.pop()?;
     let Search {
         shape,
         tasks,
         budget,
-    } = search;
-    let end = run_pool(rt, alloc, alloc, &node, passes, shape, tasks, budget, gate);
-    summary_of(rt, node, keeper, end.ok()?)
+    } = search_of(alloc, run, row.2, row.3).ok()?;
+    let seats = workers + 1;
+    let (node, mut passes) = Running::<J, &R>::start(rt, alloc, opened, plan, seats).ok()?;
+    let mut keeper = passes.pop()?;
+    for order in row.1 {
+        let item = Item::Finding(found(alloc, run, order).ok()?);
+        node.offer(rt, alloc, &mut keeper, item).ok()?;
+    }
+    let end = run_pool(rt, alloc, alloc, &node, passes, shape, tasks, budget, gate).ok()?;
+    Some(is_as_said(rt, alloc, node, keeper, end, gate, row))
 }
+
+/// The same of a pool in which so many are to meet.
+fn is_searched<R: Threads + Wait + Sync>(
+    rt: &R,
+    alloc: Global,
+    workers: u32,
+    meeting: u64,
+    row: &Row,
+) -> Result<bool, Unread>
+    requires few { workers < 32 }
+{
+    let run = run_of(alloc, row.0)?;
+    let gate = Watch::new(meeting);
+    let opened = Opened::new(0);
+    let plan = run.plan().dup()?;
+    let said = searched::<Brand, _>(rt, alloc, opened, plan, &run, workers, &gate, row);
+    Ok(said == Some(true))
+}
+
+/// Two tasks that two workers draw.
+const TWO: Row = (
+    Input::Unseen,
+    &[],
+    &["1a", "2c"],
+    100,
+    (2, 0, 0),
+    2,
+    "opaque 1a 2c\n",
+);
 
 #[test]
-fn two_workers_search_at_once(rt: HostRuntime) -> Result<(), Fail> {
-    let alloc = rt.alloc();
-    let run = facts_of(alloc, UNSEEN_REQUEST)?;
+fn two_workers_search_at_once(rt: HostRuntime) {
     for _ in 0..100 {
-        let gate = Meeting {
-            here: AtomicU64::new(0),
-            alone: AtomicU64::new(0),
-        };
-        let plan = plan_of(alloc, &run)?;
-        let search = search_of(alloc, &run, &["1a", "2c"], 100)?;
-        let search = search.ok_or("well-formed")?;
-        let said = searched::<Brand, _, _>(&rt, alloc, Opened::new(0), plan, 2, search, &gate);
-        assert!(rt; said == Some((2, 0, 0, Judgement::Opaque, 2)));
-        assert_eq!(rt; gate.here.load(Ordering::SeqCst), 2);
-        assert_eq!(rt; gate.alone.load(Ordering::SeqCst), 0);
+        assert!(rt; is_searched(&rt, rt.alloc(), 2, 2, &TWO) == Ok(true));
     }
-    Ok(())
 }
 
-/// A run, the budget of a task, and what is known after its tasks at a depth of two.
-type Row = (&'static str, u64, Summary);
-
-const ROWS: [Row; 5] = [
-    (TORN_READ, 100, (1, 0, 0, Judgement::NotOpaque, 1)),
-    (TORN_READ, 0, (1, 0, 0, Judgement::Waiting(0), 0)),
-    (SEEN_REQUEST, 100, (2, 0, 0, Judgement::Opaque, 2)),
-    (UNSEEN_REQUEST, 100, (4, 0, 0, Judgement::Opaque, 4)),
-    (UNSEEN_REQUEST, 0, (4, 0, 0, Judgement::Opaque, 3)),
+const ROWS: [Row; 6] = [
+    (Input::Torn, &[], &[], 100, (1, 0, 0), 1, "not opaque\n"),
+    // a task that the node knows is not searched
+    (
+        Input::Torn,
+        &["1c"],
+        &["1c"],
+        100,
+        (1, 0, 0),
+        1,
+        "not opaque\n",
+    ),
+    (
+        Input::Torn,
+        &[],
+        &[],
+        0,
+        (1, 0, 0),
+        0,
+        "waiting for log 0\n",
+    ),
+    (Input::Seen, &[], &[], 100, (2, 0, 0), 2, "opaque 1c 2c\n"),
+    (Input::Unseen, &[], &[], 100, (4, 0, 0), 4, "opaque 1a 2c\n"),
+    (Input::Unseen, &[], &[], 0, (4, 0, 0), 3, "opaque 1a 2c\n"),
 ];
 
 #[test]
-fn what_a_pool_found_is_known(rt: HostRuntime) -> Result<(), Fail> {
-    let alloc = rt.alloc();
-    for (input, budget, expected) in ROWS {
-        let run = facts_of(alloc, input)?;
+fn what_a_pool_found_is_known(rt: HostRuntime) {
+    for (at, row) in ROWS.iter().enumerate() {
         for workers in [1, 2, 3] {
-            let plan = plan_of(alloc, &run)?;
-            let search = split_of(alloc, &run, budget)?;
-            let search = search.ok_or("well-formed")?;
-            let said = searched::<Brand, _, _>(
-                &rt,
-                alloc,
-                Opened::new(0),
-                plan,
-                workers,
-                search,
-                &Open,
-            );
-            assert!(rt; said == Some(expected));
+            let is_searched = is_searched(&rt, rt.alloc(), workers, 0, row);
+            assert!(rt; is_searched == Ok(true), "in row {at} by {workers}");
         }
     }
-    Ok(())
 }
 
-/// What a pool is refused for, and how many passes come back.
-type Refused = Option<(PoolFault, usize)>;
-
-/// What the node refuses a pool of these passes for.
-fn refused_by<J: Fleet + Send + Sync, R: Threads + Wait + Sync>(
+/// Whether the node refuses a pool of these passes for that, hands so many back, and calls no gate.
+fn is_refused_by<J: Fleet + Send + Sync, R: Threads + Wait + Sync>(
     rt: &R,
     alloc: Global,
     node: &Running<J, &R>,
     passes: Vec<Pass<J>>,
     search: Search,
-) -> Refused {
+    fault: PoolFault,
+) -> bool {
     let Search {
         shape,
         tasks,
         budget,
     } = search;
-    match run_pool(rt, alloc, alloc, node, passes, shape, tasks, budget, &Open) {
-        Ok(_) => None,
-        Err((passes, fault)) => Some((fault, passes.len())),
+    let gate = Watch::new(0);
+    let count = passes.len();
+    match run_pool(rt, alloc, alloc, node, passes, shape, tasks, budget, &gate) {
+        Ok(_) => false,
+        Err((passes, why)) => {
+            why == fault && passes.len() == count && gate.heard() == (0, 0, 0, 0)
+        }
     }
 }
 
-/// What a node refuses a pool of so many passes of its own for.
-fn refused<J: Fleet + Send + Sync, R: Threads + Wait + Sync>(
-    rt: &R,
-    alloc: Global,
-    opened: Opened,
-    plan: Plan,
-    workers: u32,
-    search: Search,
-) -> Refused
-    requires named { opened.book ≡ J.book opened.number }
-    requires planned { plan ≡ J.plan opened.number }
-{
-    let seats = workers.checked_add(1)?;
-    let (node, mut passes) = Running::<J, &R>::start(rt, alloc, opened, plan, seats).ok()?;
-    let _keeper = passes.pop();
-    refused_by(rt, alloc, &node, passes, search)
-}
-
-#[test]
-fn a_pool_has_1_to_16_passes_and_one_plan(rt: HostRuntime) -> Result<(), Fail> {
-    let alloc = rt.alloc();
-    let rows = [
-        (UNSEEN_REQUEST, 0, PoolFault::NoWorkers),
-        (UNSEEN_REQUEST, 17, PoolFault::TooManyWorkers),
-        (TORN_READ, 0, PoolFault::NoWorkers),
-        (TORN_READ, 17, PoolFault::TooManyWorkers),
-        (TORN_READ, 2, PoolFault::PlanMismatch),
-    ];
-    let run = facts_of(alloc, UNSEEN_REQUEST)?;
-    for (input, workers, fault) in rows {
-        let plan = plan_of(alloc, &run)?;
-        let search = split_of(alloc, &facts_of(alloc, input)?, 100)?;
-        let search = search.ok_or("well-formed")?;
-        let said = refused::<Brand, _>(&rt, alloc, Opened::new(0), plan, workers, search);
-        assert!(rt; said == Some((fault, workers as usize)));
-    }
-    Ok(())
-}
-
-/// What a node refuses a pool for whose second pass is of another node.
-fn refused_between<J: Fleet + Send + Sync, R: Threads + Wait + Sync>(
+/// Whether a node refuses a pool of so many passes of its own, and of one pass of another node where that is said.
+fn refuses<J: Fleet + Send + Sync, R: Threads + Wait + Sync>(
     rt: &R,
     alloc: Global,
     opened: (Opened, Opened),
     plans: (Plan, Plan),
+    workers: u32,
+    has_stranger: bool,
     search: Search,
-) -> Refused
+    fault: PoolFault,
+) -> Option<bool>
     requires named { opened.0.book ≡ J.book opened.0.number }
     requires planned { plans.0 ≡ J.plan opened.0.number }
     requires other_named { opened.1.book ≡ J.book opened.1.number }
@@ -274,21 +254,69 @@ fn refused_between<J: Fleet + Send + Sync, R: Threads + Wait + Sync>(
 {
     let (one, other) = opened;
     let (plan, other_plan) = plans;
-    let (node, mut passes) = Running::<J, &R>::start(rt, alloc, one, plan, 1).ok()?;
+    let seats = workers.checked_add(1)?;
+    let (node, mut passes) = Running::<J, &R>::start(rt, alloc, one, plan, seats).ok()?;
     let (_other, mut strange) = Running::<J, &R>::start(rt, alloc, other, other_plan, 1).ok()?;
-    passes.push(strange.pop()?).ok()?;
-    refused_by(rt, alloc, &node, passes, search)
+    let _keeper = passes.pop()?;
+    if has_stranger {
+        passes.push(strange.pop()?).ok()?;
+    }
+    Some(is_refused_by(rt, alloc, &node, passes, search, fault))
+}
+
+/// Whether the pool is refused tasks of the input at a node of the plan of the run.
+fn is_refused<R: Threads + Wait + Sync>(
+    rt: &R,
+    alloc: Global,
+    run: Input,
+    input: Input,
+    (workers, has_stranger, fault): (u32, bool, PoolFault),
+) -> Result<bool, Unread> {
+    let run = run_of(alloc, run)?;
+    let search = search_of(alloc, &run_of(alloc, input)?, &[], 100)?;
+    let opened = (Opened::new(0), Opened::new(1));
+    let plans = (run.plan().dup()?, run.plan().dup()?);
+    let refuses = refuses::<Brand, _>(
+        rt,
+        alloc,
+        opened,
+        plans,
+        workers,
+        has_stranger,
+        search,
+        fault,
+    );
+    Ok(refuses == Some(true))
 }
 
 #[test]
-fn a_pool_has_passes_of_its_node_alone(rt: HostRuntime) -> Result<(), Fail> {
-    let alloc = rt.alloc();
-    let run = facts_of(alloc, TORN_READ)?;
-    let plans = (plan_of(alloc, &run)?, plan_of(alloc, &run)?);
-    let opened = (Opened::new(0), Opened::new(1));
-    let search = split_of(alloc, &run, 100)?;
-    let search = search.ok_or("well-formed")?;
-    let said = refused_between::<Brand, _>(&rt, alloc, opened, plans, search);
-    assert!(rt; said == Some((PoolFault::WrongNode, 2)));
-    Ok(())
+fn a_pool_has_1_to_16_passes_of_its_node_and_one_plan(rt: HostRuntime) {
+    let rows = [
+        (
+            Input::Unseen,
+            Input::Unseen,
+            (0, false, PoolFault::NoWorkers),
+        ),
+        (
+            Input::Unseen,
+            Input::Unseen,
+            (17, false, PoolFault::TooManyWorkers),
+        ),
+        (Input::Unseen, Input::Torn, (0, false, PoolFault::NoWorkers)),
+        (
+            Input::Unseen,
+            Input::Torn,
+            (17, false, PoolFault::TooManyWorkers),
+        ),
+        (
+            Input::Unseen,
+            Input::Torn,
+            (2, false, PoolFault::PlanMismatch),
+        ),
+        (Input::Torn, Input::Torn, (1, true, PoolFault::WrongNode)),
+    ];
+    for (at, (run, input, refused)) in rows.iter().enumerate() {
+        let is_refused = is_refused(&rt, rt.alloc(), *run, *input, *refused);
+        assert!(rt; is_refused == Ok(true), "in row {at}");
+    }
 }

@@ -1,25 +1,15 @@
-//! A run in two logs over two nodes, and the moves that are refused.
+//! A run in two logs over three nodes, and the moves that are refused.
 
 ghost use Rattle.std.specs.Prelude.{◌++◌, IfOk, IfSome};
 ghost use Rattle.aud_world.specs.Headline.{Headline};
 
-use crate::fixtures::{TORN_READ, end, plan_of, refuted};
-use crate::knowing::{Judgement, judged};
-use aud_event::{Fact, OutOfMemory, Plan};
+use crate::fixtures::{Input, OTHER, end, found, is_line, list, log_of, run_of};
+use aud_event::{Dup, OutOfMemory, Plan};
 use aud_facts::Facts;
 use aud_know::Finding;
-use aud_worked::{Unread, facts_of};
-use aud_world::laws::{atoms_are_taken, headline_holds};
+use aud_worked::Unread;
 use aud_world::{Move, MoveFault, World};
 use std::alloc::Global;
-use std::test::Fail;
-
-fn log_of(fact: &Fact) -> u32 {
-    match fact {
-        Fact::Rec(record) => record.log,
-        Fact::End(mark) => mark.log,
-    }
-}
 
 /// The node is fed the log of its number.
 fn feeds(alloc: Global, run: &Facts, node: u32) -> Result<Vec<Move>, OutOfMemory> {
@@ -39,9 +29,9 @@ fn two_runs(
     first: &[Move],
     second: &[Move],
 ) -> Result<Option<World>, OutOfMemory>
-    ensures { IfOk result (λ o. IfSome o (λ w. Headline 2 (first.now ++ second.now) w)) }
+    ensures { IfOk result (λ o. IfSome o (λ w. Headline 3 (first.now ++ second.now) w)) }
 {
-    let mut world = World::new(alloc, plan, 2)?;
+    let mut world = World::new(alloc, plan, 3)?;
     match world.run(first) {
         Ok(()) => {}
         Err(_) => return Ok(None),
@@ -52,11 +42,11 @@ fn two_runs(
     }
 }
 
-/// Each node fed one log.
-fn fed(alloc: Global, run: &Facts) -> Result<Option<World>, Unread> {
+/// Each of the first two nodes fed one log.
+fn fed(alloc: Global, run: &Facts) -> Result<World, Unread> {
     let first = feeds(alloc, run, 0)?;
     let second = feeds(alloc, run, 1)?;
-    Ok(two_runs(alloc, plan_of(alloc, run)?, &first, &second)?)
+    two_runs(alloc, run.plan().dup()?, &first, &second)?.ok_or(Unread::Unsealed)
 }
 
 /// Packets in both directions, one of them twice; whether all moves are made.
@@ -82,90 +72,58 @@ fn spread(world: &mut World, finding: Finding) -> bool {
     world.run(&moves).is_ok()
 }
 
-/// The same of the finding that no order of the run that begins so shows it, if a search finds that.
-fn spread_refuted(
-    alloc: Global,
-    world: &mut World,
-    run: &Facts,
-    order: &str,
-) -> Result<bool, Unread> {
-    match refuted(alloc, run, order)? {
-        Some(finding) => Ok(spread(world, finding)),
+/// Whether the verdict of the node is this.
+fn says(alloc: Global, world: &World, number: u32, line: &str) -> Result<bool, OutOfMemory> {
+    match world.node(number) {
+        Some(known) => is_line(alloc, known.verdict()?, line),
         None => Ok(false),
     }
 }
 
-/// Whether both nodes are there and hold the same.
-fn are_same(world: &World) -> bool {
-    match (world.node(0), world.node(1)) {
+/// Whether the first two nodes are there, hold the same, and have this verdict.
+fn both_say(alloc: Global, world: &World, line: &str) -> Result<bool, OutOfMemory> {
+    let are_same = match (world.node(0), world.node(1)) {
         (Some(first), Some(second)) => first.same(second),
         _ => false,
-    }
+    };
+    Ok(are_same && says(alloc, world, 0, line)? && says(alloc, world, 1, line)?)
 }
 
-/// What the verdict of the node says, if it is there.
-fn judged_at(world: &World, number: u32) -> Result<Option<Judgement>, OutOfMemory> {
-    match world.node(number) {
-        Some(node) => Ok(Some(judged(node)?)),
-        None => Ok(None),
-    }
+/// Whether the third node has this verdict, and knows that no order which begins with the commit of transaction 1 shows the run.
+fn third_says(alloc: Global, world: &World, line: &str) -> Result<bool, Unread> {
+    let knows = match world.node(2) {
+        Some(known) => known.knows(&list(alloc, "1c")?),
+        None => false,
+    };
+    Ok(knows && says(alloc, world, 2, line)?)
 }
 
-/// What the verdicts of both nodes say.
-fn judged_at_both(world: &World) -> Result<[Option<Judgement>; 2], OutOfMemory> {
-    Ok([judged_at(world, 0)?, judged_at(world, 1)?])
+/// Whether two nodes come to one verdict on the torn read, each by one log, what the other knows and what the first found; and a third by
+/// one packet.
+fn come_to_one_verdict(alloc: Global) -> Result<bool, Unread> {
+    let run = run_of(alloc, Input::Torn)?;
+    let mut world = fed(alloc, &run)?;
+    let wait = says(alloc, &world, 0, "waiting for log 1\n")?
+        && says(alloc, &world, 1, "waiting for log 0\n")?;
+    let has_exchanged = exchange(&mut world) && both_say(alloc, &world, "unfinished\n")?;
+    let has_spread = spread(&mut world, found(alloc, &run, "1c")?)
+        && both_say(alloc, &world, "not opaque\n")?
+        && world.packets() == 3;
+    let is_enough = world.step(&Move::Deliver(2, 2)).is_ok()
+        && third_says(alloc, &world, "not opaque\n")?
+        && world.step(&Move::Feed(2, OTHER)).is_ok()
+        && third_says(alloc, &world, "conflict 1 at log 0 place 0\n")?;
+    Ok(wait && has_exchanged && has_spread && is_enough)
 }
 
 #[test]
-fn each_node_waits_for_the_other_log(rt: HostRuntime) -> Result<(), Fail> {
-    let alloc = rt.alloc();
-    let world = fed(alloc, &facts_of(alloc, TORN_READ)?)?.ok_or("a move was refused")?;
-    let wanted = [Some(Judgement::Waiting(1)), Some(Judgement::Waiting(0))];
-    assert_eq!(rt; judged_at_both(&world)?, wanted);
-    Ok(())
-}
-
-#[test]
-fn two_nodes_come_to_one_verdict(rt: HostRuntime) -> Result<(), Fail> {
-    let alloc = rt.alloc();
-    let run = facts_of(alloc, TORN_READ)?;
-    let mut world = fed(alloc, &run)?.ok_or("a move was refused")?;
-    assert!(rt; exchange(&mut world) && are_same(&world));
-    assert_eq!(rt; judged_at_both(&world)?, [Some(Judgement::Unfinished); 2]);
-    assert!(rt; spread_refuted(alloc, &mut world, &run, "1c")? && are_same(&world));
-    assert_eq!(rt; judged_at_both(&world)?, [Some(Judgement::NotOpaque); 2]);
-    assert_eq!(rt; world.packets(), 3);
-    Ok(())
-}
-
-/// Two nodes that know nothing of the run.
-fn new_world(alloc: Global, input: &str) -> Result<World, Unread> {
-    let plan = plan_of(alloc, &facts_of(alloc, input)?)?;
-    Ok(World::new(alloc, plan, 2)?)
+fn nodes_come_to_one_verdict(rt: HostRuntime) {
+    assert!(rt; come_to_one_verdict(rt.alloc()) == Ok(true));
 }
 
 /// Why the move is not made.
 fn fault_of(world: &mut World, next: Move) -> Option<MoveFault> {
     world.step(&next).err()
-}
-
-#[test]
-fn moves_are_refused(rt: HostRuntime) -> Result<(), Fail> {
-    let mut world = new_world(rt.alloc(), TORN_READ)?;
-    let faults = [
-        fault_of(&mut world, Move::Feed(2, end(0, 6))),
-        fault_of(&mut world, Move::Deliver(0, 0)),
-        fault_of(&mut world, Move::Deliver(0, 2)),
-        fault_of(&mut world, Move::Feed(0, end(2, 6))),
-    ];
-    let wanted = [
-        Some(MoveFault::NoNode),
-        Some(MoveFault::NoPacket),
-        Some(MoveFault::NoNode),
-        Some(MoveFault::PlanMismatch),
-    ];
-    assert_eq!(rt; faults, wanted);
-    Ok(())
 }
 
 /// How a run of a post, a delivery of a packet that was not posted, and a post ends, and the node of the delivery.
@@ -174,32 +132,31 @@ fn run_undelivered(world: &mut World) -> (Result<(), (usize, MoveFault)>, u32) {
     (world.run(&moves), moves[1].node())
 }
 
-#[test]
-fn a_run_ends_at_a_refused_move(rt: HostRuntime) -> Result<(), Fail> {
-    let mut world = new_world(rt.alloc(), TORN_READ)?;
-    let ended = run_undelivered(&mut world);
-    assert_eq!(rt; ended, (Err((1, MoveFault::NoPacket)), 0));
-    assert_eq!(rt; world.packets(), 1);
-    assert!(rt; world.node(2).is_none());
-    Ok(())
-}
-
-#[test]
-fn faults_have_numbers(rt: HostRuntime) -> Result<(), Fail> {
-    let cases = [
-        (MoveFault::NoNode, 1),
-        (MoveFault::NoPacket, 2),
-        (MoveFault::PlanMismatch, 3),
-        (MoveFault::OutOfMemory, 4),
+/// Whether moves are refused of a world of two nodes, and a run ends at the first of them.
+fn refuses(world: &mut World) -> bool {
+    let faults = [
+        fault_of(world, Move::Feed(2, end(0, 6))),
+        fault_of(world, Move::Deliver(0, 0)),
+        fault_of(world, Move::Deliver(0, 2)),
+        fault_of(world, Move::Feed(0, end(2, 6))),
     ];
-    for (fault, number) in &cases {
-        assert_eq!(rt; fault.number(), *number, "at {fault:?}");
-    }
-    Ok(())
+    let wanted = [
+        Some(MoveFault::NoNode),
+        Some(MoveFault::NoPacket),
+        Some(MoveFault::NoNode),
+        Some(MoveFault::PlanMismatch),
+    ];
+    let ended = run_undelivered(world);
+    faults == wanted && ended == (Err((1, MoveFault::NoPacket)), 0)
+}
+
+fn are_refused(alloc: Global) -> Result<bool, Unread> {
+    let plan = run_of(alloc, Input::Torn)?.plan().dup()?;
+    let mut world = World::new(alloc, plan, 2)?;
+    Ok(refuses(&mut world) && world.packets() == 1 && world.node(2).is_none())
 }
 
 #[test]
-fn laws_are_called() {
-    atoms_are_taken::<Global>();
-    headline_holds::<Global>();
+fn moves_are_refused(rt: HostRuntime) {
+    assert!(rt; are_refused(rt.alloc()) == Ok(true));
 }

@@ -1,4 +1,4 @@
-use Rattle.aud_tests_top.proofs.searching.what_a_pool_found_is_known.Given as goal
+use Rattle.aud_tests_top.proofs.searching.is_searched.Given as goal
 
 -- the history that was just opened, and its plan
 abbrev pub ghosts-searched : goal.ghosts-searched

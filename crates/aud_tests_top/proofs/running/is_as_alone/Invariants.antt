@@ -1,4 +1,4 @@
-use Rattle.aud_tests_top.proofs.running.eight_threads_offer_and_read.Given as goal
+use Rattle.aud_tests_top.proofs.running.is_as_alone.Given as goal
 
 -- the history that was just opened, and its plan
 abbrev pub ghosts-closed_by : goal.ghosts-closed_by

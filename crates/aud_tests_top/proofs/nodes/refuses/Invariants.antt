@@ -1,4 +1,4 @@
-use Rattle.aud_tests_top.proofs.nodes.a_node_has_1_to_32_seats.Given as goal
+use Rattle.aud_tests_top.proofs.nodes.refuses.Given as goal
 
 -- the history that was just opened, and its plan
 abbrev pub ghosts-is_out_of_range : goal.ghosts-is_out_of_range

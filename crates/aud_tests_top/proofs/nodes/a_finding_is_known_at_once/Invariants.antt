@@ -1,5 +1,0 @@
-use Rattle.aud_tests_top.proofs.nodes.a_finding_is_known_at_once.Given as goal
-
--- the history that was just opened, and its plan
-abbrev pub ghosts-told : goal.ghosts-told
-ghosts-told g a = record { book = λ _. a.opened.book; plan = λ _. a.plan }
