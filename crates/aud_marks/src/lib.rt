@@ -3,4 +3,4 @@
 
 mod marks;
 
-pub use marks::Marks;
+pub use marks::{Marks, are_same, with_bit};

@@ -3,7 +3,7 @@
 ghost use Rattle.std.specs.Prelude.{◌≡◌, ◌↔◌, ◌<◌, true, false, length, replicate, IsTrue, IfOk, slice_set, slice_index_or};
 ghost use Rattle.aud_marks.specs.Marked.{is_marked, marks_of, IsBitWritten, IsNextMark, IsNextOfWord};
 
-use aud_base::{Dup, OutOfMemory};
+use aud_base::OutOfMemory;
 use std::alloc::{Allocator, Global};
 use std::marker::Model;
 
@@ -38,8 +38,8 @@ fn is_set(words: &[u64], place: usize) -> bool
     }
 }
 
-/// The word with a mark at its place.
-fn with_bit(word: u64, place: usize) -> u64
+/// The word with a mark at its place, from 0.
+pub fn with_bit(word: u64, place: usize) -> u64
     requires { place < 64 }
     ensures { IsBitWritten word result place true }
 {
@@ -67,10 +67,11 @@ fn next_of_word(word: u64, from: u32) -> Option<u32>
     }
 }
 
-fn is_same_words(a: &[u64], b: &[u64]) -> bool
-    ensures { IsTrue result → a.now ≡ b.now }
+/// Whether the words are the same, and so what they mark.
+pub fn are_same(words: &[u64], others: &[u64]) -> bool
+    ensures { IsTrue result → words.now ≡ others.now }
 {
-    a == b
+    words == others
 }
 
 /// So many words that mark nothing.
@@ -150,7 +151,7 @@ impl<A: Allocator + Drop> Marks<A> {
         if self.count != other.count {
             return false;
         }
-        if is_same_words(&self.words, &other.words) {
+        if are_same(&self.words, &other.words) {
             return true;
         }
         for place in 0..self.count {
@@ -166,15 +167,5 @@ impl<A: Allocator + Drop> Marks<A> {
         ensures { self.now ≡ marks_of result.now (length self.now) }
     {
         &self.words
-    }
-}
-
-impl<A: Allocator + Clone> Dup for Marks<A> {
-    fn dup(&self) -> Result<Marks<A>, OutOfMemory> {
-        let words = self.words.clone()?;
-        Ok(Marks {
-            words,
-            count: self.count,
-        })
     }
 }

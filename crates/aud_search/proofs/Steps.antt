@@ -31,7 +31,8 @@ use Rattle.aud_search.specs.declared.outcome.Ended.{Ended}
 use Rattle.aud_search.specs.declared.outcome.Ended.TheVariants as ended
 use Rattle.aud_search.specs.Choices.{AreChoices, IsOfRow}
 use Rattle.aud_search.specs.Searches.{SpentBy, Reports}
-use Rattle.aud_search.specs.Levels.{AreTried, IsSearching, IsOneLess}
+use Rattle.aud_search.specs.Levels.{AreTried, IsSearching}
+use Rattle.aud_base.specs.Budgets.{IsOneLess}
 use Rattle.aud_search.specs.Memos.{MemoOf, states_reached, Names, NameWay, IsStep}
 use Rattle.aud_search.specs.Tried.{IsTried, no_choice, IsEnoughAt, IsTriedEnough, IsFound, IsFollowed, IsTaken, IsNextPlace, IsWitnessOf, Spends, ReportsFrom, outcome_of}
 use Rattle.aud_search.proofs.Levels.{there-below, tried-more, tried-after, search-on, search-deeper, search-spent, search-unspent, refuted-here, search-back, search-refuted, search-begins}

@@ -35,10 +35,3 @@ pub record IsSearching (objects : List Declared) (h : History) (p : List Decisio
   pub tried : AreTried objects h cs path next
   pub fresh : AreFresh cs es path next
   pub levels : AreBelow objects h p cs es below path
-
--- one less, where there is a count
-abbrev pub IsOneLess : Option ℕ → Option ℕ → Type 0
-IsOneLess None None = Unit {0}
-IsOneLess (Some a) (Some b) = a ≡ b + 1
-IsOneLess None (Some b) = ⊥
-IsOneLess (Some a) None = ⊥

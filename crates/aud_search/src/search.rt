@@ -8,7 +8,6 @@ ghost use Rattle.aud_history.specs.WellFormed.{IsWellFormed};
 ghost use Rattle.aud_history.specs.FirstFault.{IsWithinLimits};
 ghost use Rattle.aud_order.specs.Shapes.{plan_of, objects_of, history_of};
 ghost use Rattle.aud_search.specs.Choices.{AreChoices, IsOfRow};
-ghost use Rattle.aud_search.specs.Levels.{IsOneLess};
 ghost use Rattle.aud_search.specs.Readiness.{IsReady};
 ghost use Rattle.aud_search.specs.Searches.{Reports, ReportsWith, Decides, DecidesByLetter};
 ghost use Rattle.aud_order.specs.Cursors.{cursor_back, cursor_with};
@@ -25,22 +24,12 @@ use crate::ready::Ready;
 use crate::recorder::{Recorder, Unnoted, Unrecorded};
 use crate::room::BOUND;
 use crate::rules::Rules;
+use aud_base::spend;
 use aud_event::OutOfMemory;
 use aud_order::{Cursor, Pushed, Shape};
 use aud_witness::laws::letter_is_opaque;
 use aud_witness::{Decision, Fate, Prefix};
 use std::alloc::Allocator;
-
-/// One expansion less, if there is one.
-fn spend(left: Option<u64>) -> Option<Option<u64>>
-    ensures { MatchOption result (left ≡ Some 0) (λ rest. IsOneLess left rest) }
-{
-    match left {
-        None => Some(None),
-        Some(0) => None,
-        Some(count) => Some(Some(count - 1)),
-    }
-}
 
 /// Goes on by the decision if it is good.
 fn try_decision<A: Allocator + Copy>(

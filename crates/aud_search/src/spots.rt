@@ -1,12 +1,11 @@
 //! Spots as words, all in one memory.
 
 ghost use Rattle.std.specs.Prelude.{◌≡◌, ◌+◌, ◌<◌, ◌≤◌, ◌++◌, [], ◌∷◌, true, nat_eq, IfSome, IsTrue, MatchOption, length, take, drop, slice_index_or, if◌then◌else◌, ◌⊎◌, Some, vec_len};
-ghost use Rattle.aud_marks.specs.Marked.{IsBitWritten};
 ghost use Rattle.aud_search.specs.Spots.{IsKeptAs, with_place, WithPlace, IsSpot, IsPlaceOf, entries_over, entry};
 
 use crate::index::{Index, Look, hash_of};
 use crate::room::reserves;
-use aud_marks::Marks;
+use aud_marks::{Marks, are_same, with_bit};
 use std::alloc::{Allocator, Global};
 use std::marker::Model;
 use std::mem::size_of;
@@ -37,31 +36,17 @@ const WIDTH: usize = 64;
 /// How many slots are looked at before a spot counts as not found.
 const LOOKS: usize = 64;
 
-/// The word with a mark at its place.
-fn with_mark(word: u64, place: usize) -> u64
-    requires { place < 64 }
-    ensures { IsBitWritten word result place true }
-{
-    word | (1 << place)
-}
-
 /// A hash of a spot: the states have the number, and the rows are placed, with one further where there is one.
 fn hash_spot(states: usize, placed: &[u64], further: Option<usize>) -> u64 {
     let mut hash = hash_of(0x2545_F491_4F6C_DD1D, states as u64);
     for (at, word) in placed.iter().enumerate() {
         let word = match further {
-            Some(place) if place / WIDTH == at => with_mark(*word, place % WIDTH),
+            Some(place) if place / WIDTH == at => with_bit(*word, place % WIDTH),
             _ => *word,
         };
         hash = hash_of(hash, word);
     }
     hash
-}
-
-fn is_same(a: &[u64], b: &[u64]) -> bool
-    ensures { IsTrue result → a.now ≡ b.now }
-{
-    a == b
 }
 
 /// Whether the words mark what others mark, and the place.
@@ -72,9 +57,9 @@ fn is_with(words: &[u64], others: &[u64], place: usize) -> bool
     if at >= others.len() || at >= words.len() {
         return false;
     }
-    words[at] == with_mark(others[at], place % WIDTH)
-        && is_same(&words[..at], &others[..at])
-        && is_same(&words[at + 1..], &others[at + 1..])
+    words[at] == with_bit(others[at], place % WIDTH)
+        && are_same(&words[..at], &others[..at])
+        && are_same(&words[at + 1..], &others[at + 1..])
 }
 
 /// The word with a mark at the place of a row, if it marks that row.
@@ -82,7 +67,7 @@ pub(crate) fn with_further(word: u64, place: usize) -> Option<u64>
     ensures { IfSome result (λ own. WithPlace (word ∷ []) (own ∷ []) place) }
 {
     if place / WIDTH == 0 {
-        Some(with_mark(word, place % WIDTH))
+        Some(with_bit(word, place % WIDTH))
     } else {
         None
     }
@@ -99,7 +84,7 @@ fn is_spot(words: &[u64], states: usize, placed: &[u64], further: Option<usize>)
         return false;
     }
     match further {
-        None => is_same(marks, placed),
+        None => are_same(marks, placed),
         Some(place) => is_with(marks, placed, place),
     }
 }

@@ -5,20 +5,20 @@ use Rattle.aud_search.proofs.Spotting.{set-between, rest-all}
 use Rattle.aud_search.proofs.spots.is_with.Goals as goal
 use Rattle.aud_search.proofs.spots.is_with.Goals.{then-words-at, else-words-at}
 
-pub returns-then-is_same : goal.returns-then-is_same
-returns-then-is_same c =
+pub returns-then-are_same : goal.returns-then-are_same
+returns-then-are_same c =
     let words = c.args.words.now in
     let others = c.args.others.now in
     let at = c.args.place / 64 in
     λ it. elim c.if-words-at.branch [
       | then-words-at w ↦ (
-        c.with_mark.result,
+        c.with_bit.result,
         (
           omega arith,
-          c.with_mark.ensures,
-          set-between others words at c.with_mark.result (omega arith) (omega arith) w.if-words-at.true (w.is_same.ensures (sym w.value-is ∙ c.if-is_same.true))
-              (sym (rest-all words (at + 1)) ∙ c.is_same-then-is_same.ensures it ∙ rest-all others (at + 1)),
+          c.with_bit.ensures,
+          set-between others words at c.with_bit.result (omega arith) (omega arith) w.if-words-at.true (w.are_same.ensures (sym w.value-is ∙ c.if-are_same.true))
+              (sym (rest-all words (at + 1)) ∙ c.are_same-then-are_same.ensures it ∙ rest-all others (at + 1)),
         ),
       )
-      | else-words-at w ↦ absurd (w.if-words-at.false (nat_eq-is (get_or words at 0) c.with_mark.result (sym w.value-is ∙ c.if-is_same.true)))
+      | else-words-at w ↦ absurd (w.if-words-at.false (nat_eq-is (get_or words at 0) c.with_bit.result (sym w.value-is ∙ c.if-are_same.true)))
     ]
