@@ -9,14 +9,11 @@ ghost use Rattle.aud_cert.specs.Recorded.{IsLonger};
 
 use aud_accept::{Cert, CertLine, Rules};
 use aud_event::{Dup, OutOfMemory};
-use aud_marks::Marks;
-use aud_object::Store;
 use aud_order::Shape;
 use aud_search::Recorder;
 use aud_witness::{Decision, Prefix};
 use std::alloc::{Allocator, Global};
 use std::marker::Model;
-use std::sync::Arc;
 
 /// Lines of which each is accepted after those before it. A list that was refuted is named by the number of its line.
 #[derive(Drop)]
@@ -101,30 +98,6 @@ impl<'a, A: Allocator + Copy> Recorder<usize, A> for Lines<'a, A> {
     ghost grows = { λ r s. IsLonger r s };
 
     fn is_deaf(&self) -> bool {
-        false
-    }
-
-    fn is_sharing(&self) -> bool {
-        false
-    }
-
-    fn find(
-        &self,
-        _digest: u64,
-        _states: &Store<A>,
-        _placed: &Marks<A>,
-        _further: Option<usize>,
-    ) -> Option<usize> {
-        None
-    }
-
-    fn keep(
-        &self,
-        _digest: u64,
-        _states: &Arc<Store<A>, A>,
-        _placed: &Marks<A>,
-        _note: usize,
-    ) -> bool {
         false
     }
 

@@ -16,7 +16,7 @@ use std::sync::Arc;
 
 /// What hears of each good list that a search refutes, in the order in which they are refuted. A list that it noted is named by
 /// its note.
-pub trait Recorder<N, A: Allocator>: Drop {
+pub trait Recorder<N: Copy, A: Allocator>: Drop {
     // It is for searches of the shape.
     ghost is_for: { Self → ShapeOf → Type 0 };
 
@@ -31,7 +31,9 @@ pub trait Recorder<N, A: Allocator>: Drop {
         ensures { IsTrue result → ((p : List Decision) → HasNote (noted self.now) p) };
 
     /// Whether it may know of lists that others refuted, and have others know of those that it hears of.
-    fn is_sharing(&self) -> bool;
+    fn is_sharing(&self) -> bool {
+        false
+    }
 
     /// The note of a refuted list that places the rows that are marked, with one further where there is one, and leaves the states,
     /// which have the digest, if it knows of one. It does not allocate.
@@ -45,12 +47,18 @@ pub trait Recorder<N, A: Allocator>: Drop {
         requires rows { MarksRows (is_for self.now) placed.now }
         requires further { MatchOption further (Unit {0}) (λ k. k < length placed.now) }
         ensures { IfSome result (λ note. IsKnownFor (is_for self.now) (noted self.now note) states.now.now
-            (with_place placed.now further)) };
+            (with_place placed.now further)) }
+    {
+        None
+    }
 
     /// Others may know of the refuted list of the note, which places the rows that are marked and leaves the states. It answers
     /// whether `find` comes to know of it, and so need not be remembered elsewhere.
     fn keep(&self, digest: u64, states: &Arc<Store<A>, A>, placed: &Marks<A>, note: N) -> bool
-        requires { IsKnownOf (is_for self.now) (noted self.now note) states.now.value.now placed.now };
+        requires { IsKnownOf (is_for self.now) (noted self.now note) states.now.value.now placed.now }
+    {
+        false
+    }
 
     /// Notes the good list: it is not full, and each good list that is one decision longer was noted.
     fn note_kids(&mut self, list: &[Decision]) -> Result<N, OutOfMemory>
@@ -96,30 +104,6 @@ impl<A: Allocator> Recorder<Unnoted, A> for Unrecorded {
 
     fn is_deaf(&self) -> bool {
         true
-    }
-
-    fn is_sharing(&self) -> bool {
-        false
-    }
-
-    fn find(
-        &self,
-        _digest: u64,
-        _states: &Store<A>,
-        _placed: &Marks<A>,
-        _further: Option<usize>,
-    ) -> Option<Unnoted> {
-        None
-    }
-
-    fn keep(
-        &self,
-        _digest: u64,
-        _states: &Arc<Store<A>, A>,
-        _placed: &Marks<A>,
-        _note: Unnoted,
-    ) -> bool {
-        false
     }
 
     fn note_kids(&mut self, _list: &[Decision]) -> Result<Unnoted, OutOfMemory> {
