@@ -8,6 +8,9 @@ use aud_object::Store;
 use std::alloc::Allocator;
 use std::collections::BTreeMap;
 
+/// How many rows are looked at that may be a start.
+const STARTS: usize = 64;
+
 /// A row that needs a value of a cell, by when its transaction ended. The value's place is that of those who may bring it.
 #[derive(Clone, Copy, PartialEq, Eq, PartialOrd, Ord)]
 struct Wanter {
@@ -178,14 +181,13 @@ impl<A: Allocator + Copy> Wants<A> {
         Ok(wants)
     }
 
-    /// Of the rows that are not placed, have to come before the wanter and leave another value, the one that begins last.
+    /// Of the rows that are not placed, have to come before the wanter and leave another value, the one that begins last, among so many
+    /// of those that end last.
     fn start(&self, placed: &Marks<A>, slot: usize, wanter: Wanter) -> Option<Setter> {
         let setters = self.setters.get(slot)?;
+        let early = setters.partition_point(|setter| setter.last < wanter.first);
         let mut start: Option<Setter> = None;
-        for setter in setters {
-            if setter.last >= wanter.first {
-                return start;
-            }
+        for setter in setters[..early].iter().rev().take(STARTS) {
             let is_later = match start {
                 Some(other) => other.first < setter.first,
                 None => true,
