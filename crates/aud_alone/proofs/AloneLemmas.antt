@@ -79,7 +79,7 @@ events-alone ob t (e ∷ h) =
       | false ↦ events-alone ob t h
     ]
 
-in-alone : (ob t : ℕ) (h : History) → is_in (alone ob h) t ≡ is_in h t
+pub in-alone : (ob t : ℕ) (h : History) → is_in (alone ob h) t ≡ is_in h t
 in-alone ob t [] = refl
 in-alone ob t (e ∷ h) = ap (λ k. nat_eq e.0 t || k) (in-alone ob t h)
 
@@ -109,7 +109,7 @@ live-alone ob t h = ap not (completed-alone ob t h)
 pending-alone : (ob t : ℕ) (h : History) → is_commit_pending (alone ob h) t ≡ is_commit_pending h t
 pending-alone ob t h = ap (λ k. k && list_any is_try_commit (events_of t (alone ob h))) (live-alone ob t h) ∙ ap (λ k. is_live h t && k) (asked-alone ob t h)
 
-before-alone : (ob t u : ℕ) (h : History) → is_before (alone ob h) t u ≡ is_before h t u
+pub before-alone : (ob t u : ℕ) (h : History) → is_before (alone ob h) t u ≡ is_before h t u
 before-alone ob t u h =
     ap (λ k. k && is_in (alone ob h) u && not (is_in (from_first u (alone ob h)) t)) (completed-alone ob t h)
     ∙ ap (λ k. is_completed h t && k && not (is_in (from_first u (alone ob h)) t)) (in-alone ob u h)
@@ -121,7 +121,7 @@ allowed-alone : (ob t : ℕ) (h : History) (f : Fate) → is_allowed (alone ob h
 allowed-alone ob t h C = ap (λ k. k || is_commit_pending (alone ob h) t) (committed-alone ob t h) ∙ ap (λ k. is_committed h t || k) (pending-alone ob t h)
 allowed-alone ob t h A = ap (λ k. k || is_live (alone ob h) t) (aborted-alone ob t h) ∙ ap (λ k. is_aborted h t || k) (live-alone ob t h)
 
-all_allowed-alone : (ob : ℕ) (h : History) (p : List Decision) → list_all (λ d. is_allowed (alone ob h) d.tx d.fate) p ≡ list_all (λ d. is_allowed h d.tx d.fate) p
+pub all_allowed-alone : (ob : ℕ) (h : History) (p : List Decision) → list_all (λ d. is_allowed (alone ob h) d.tx d.fate) p ≡ list_all (λ d. is_allowed h d.tx d.fate) p
 all_allowed-alone ob h [] = refl
 all_allowed-alone ob h (d ∷ p) =
     ap (λ k. k && list_all (λ d. is_allowed (alone ob h) d.tx d.fate) p) (allowed-alone ob d.tx h d.fate) ∙ ap (λ k. is_allowed h d.tx d.fate && k) (all_allowed-alone ob h p)
@@ -137,7 +137,7 @@ block-alone ob h d =
     ends true = ap (λ es. live_ending es d.fate) (events-alone ob d.tx h) ∙ ending-alone ob (events_of d.tx h) d.fate
     ends false = refl
 
-visible-alone : (ob : ℕ) (h : History) (p : List Decision) (t : ℕ) → visible (alone ob h) p t ≡ map (seen_by ob) (visible h p t)
+pub visible-alone : (ob : ℕ) (h : History) (p : List Decision) (t : ℕ) → visible (alone ob h) p t ≡ map (seen_by ob) (visible h p t)
 visible-alone ob h [] t = refl
 visible-alone ob h (d ∷ p) t = go (nat_eq d.tx t) (is_kept d) (visible-alone ob h p t)
   where
@@ -153,12 +153,12 @@ visible-alone ob h (d ∷ p) t = go (nat_eq d.tx t) (is_kept d) (visible-alone o
 -- # Legality
 
 -- the event as it is seen from elsewhere
-abbrev away : Event → Event
+abbrev pub away : Event → Event
 away (Inv o op) = Inv o (Contains (pos 0))
 away (Ret o name answer) = Ret o word.Contains (Flag false)
 away e = e
 
-seen-own : (ob : ℕ) (e : Event) → is_on ob e ≡ true → seen_by ob e ≡ e
+pub seen-own : (ob : ℕ) (e : Event) → is_on ob e ≡ true → seen_by ob e ≡ e
 seen-own ob (Inv o op) on = ap (λ k. Inv o (cond k op (Contains (pos 0)))) on
 seen-own ob (Ret o name answer) on = ap (λ k. Ret o (cond k name word.Contains) (cond k answer (Flag false))) on
 seen-own ob TryC on = refl
@@ -166,7 +166,7 @@ seen-own ob TryA on = refl
 seen-own ob Commit on = refl
 seen-own ob Abort on = refl
 
-seen-away : (ob k : ℕ) (e : Event) → nat_eq k ob ≡ false → is_on k e ≡ true → seen_by ob e ≡ away e
+pub seen-away : (ob k : ℕ) (e : Event) → nat_eq k ob ≡ false → is_on k e ≡ true → seen_by ob e ≡ away e
 seen-away ob k (Inv o op) other on =
     ap (λ b. Inv o (cond b op (Contains (pos 0)))) (ap (λ n. nat_eq n ob) (nat_eq-is o k on) ∙ other)
 seen-away ob k (Ret o name answer) other on =
@@ -177,7 +177,7 @@ seen-away ob k Commit other on = absurd (cc)
 seen-away ob k Abort other on = absurd (cc)
 
 -- where the events on an object are seen as such
-on-object : (ob k : ℕ) (f : Event → Event) → ((e : Event) → is_on k e ≡ true → seen_by ob e ≡ f e) → (es : List Event) → on_object k (map (seen_by ob) es) ≡ map f (on_object k es)
+pub on-object : (ob k : ℕ) (f : Event → Event) → ((e : Event) → is_on k e ≡ true → seen_by ob e ≡ f e) → (es : List Event) → on_object k (map (seen_by ob) es) ≡ map f (on_object k es)
 on-object ob k f as_f [] = refl
 on-object ob k f as_f (e ∷ es) =
     ap (λ b. cond b (seen_by ob e ∷ on_object k (map (seen_by ob) es)) (on_object k (map (seen_by ob) es))) (on-alone ob k e) ∙ go (is_on k e) refl (on-object ob k f as_f es)
@@ -186,24 +186,46 @@ on-object ob k f as_f (e ∷ es) =
     go true on rest = ap (λ x. x ∷ on_object k (map (seen_by ob) es)) (as_f e on) ∙ ap (λ l. f e ∷ l) rest
     go false off rest = rest
 
-map-same : (es : List Event) → map (λ e. e) es ≡ es
+pub map-same : (es : List Event) → map (λ e. e) es ≡ es
 map-same [] = refl
 map-same (e ∷ es) = ap (λ l. e ∷ l) (map-same es)
 
-seq-away : (s : ObjState) (es : List Event) → IsInSeq s es → IsInSeq (set_of []) (map away es)
-seq-away s [] seq = seq
-seq-away s (Inv o op ∷ []) seq = seq
-seq-away s (Inv o op ∷ Ret q name answer ∷ es) seq = (refl, seq-away (after_op s op) es seq.1)
-seq-away s (Inv o op ∷ Inv q also ∷ es) seq = absurd seq
-seq-away s (Inv o op ∷ TryC ∷ es) seq = absurd seq
-seq-away s (Inv o op ∷ TryA ∷ es) seq = absurd seq
-seq-away s (Inv o op ∷ Commit ∷ es) seq = absurd seq
-seq-away s (Inv o op ∷ Abort ∷ es) seq = absurd seq
-seq-away s (Ret o name answer ∷ es) seq = absurd seq
-seq-away s (TryC ∷ es) seq = absurd seq
-seq-away s (TryA ∷ es) seq = absurd seq
-seq-away s (Commit ∷ es) seq = absurd seq
-seq-away s (Abort ∷ es) seq = absurd seq
+-- invocations, each with a response next to it but perhaps the last
+abbrev pub IsPaired : List Event → Type 0
+IsPaired [] = Unit {0}
+IsPaired (Inv _ _ ∷ []) = Unit {0}
+IsPaired (Inv _ _ ∷ Ret _ _ _ ∷ es) = IsPaired es
+IsPaired _ = ⊥
+
+pub paired-seq : (s : ObjState) (es : List Event) → IsInSeq s es → IsPaired es
+paired-seq s [] seq = seq
+paired-seq s (Inv o op ∷ []) seq = seq
+paired-seq s (Inv o op ∷ Ret q name answer ∷ es) seq = paired-seq (after_op s op) es seq.1
+paired-seq s (Inv o op ∷ Inv q also ∷ es) seq = absurd seq
+paired-seq s (Inv o op ∷ TryC ∷ es) seq = absurd seq
+paired-seq s (Inv o op ∷ TryA ∷ es) seq = absurd seq
+paired-seq s (Inv o op ∷ Commit ∷ es) seq = absurd seq
+paired-seq s (Inv o op ∷ Abort ∷ es) seq = absurd seq
+paired-seq s (Ret o name answer ∷ es) seq = absurd seq
+paired-seq s (TryC ∷ es) seq = absurd seq
+paired-seq s (TryA ∷ es) seq = absurd seq
+paired-seq s (Commit ∷ es) seq = absurd seq
+paired-seq s (Abort ∷ es) seq = absurd seq
+
+pub seq-paired : (es : List Event) → IsPaired es → IsInSeq (set_of []) (map away es)
+seq-paired [] paired = paired
+seq-paired (Inv o op ∷ []) paired = paired
+seq-paired (Inv o op ∷ Ret q name answer ∷ es) paired = (refl, seq-paired es paired)
+seq-paired (Inv o op ∷ Inv q also ∷ es) paired = absurd paired
+seq-paired (Inv o op ∷ TryC ∷ es) paired = absurd paired
+seq-paired (Inv o op ∷ TryA ∷ es) paired = absurd paired
+seq-paired (Inv o op ∷ Commit ∷ es) paired = absurd paired
+seq-paired (Inv o op ∷ Abort ∷ es) paired = absurd paired
+seq-paired (Ret o name answer ∷ es) paired = absurd paired
+seq-paired (TryC ∷ es) paired = absurd paired
+seq-paired (TryA ∷ es) paired = absurd paired
+seq-paired (Commit ∷ es) paired = absurd paired
+seq-paired (Abort ∷ es) paired = absurd paired
 
 legal-alone : (objects others : List Declared) (ob : ℕ) (es : List Event) → AreAlone ob objects others → IsLegal objects es → IsLegal others (map (seen_by ob) es)
 legal-alone objects others ob es are legal k d at =
@@ -216,7 +238,7 @@ legal-alone objects others ob es are legal k d at =
           subst (λ l. IsInSeq (opening_of d) l) (sym as_is) (subst (λ s. IsInSeq s (on_object k es)) (sym (opens ∙ ap (λ b. cond b (opening_of o) (set_of [])) own)) seq)
       | inr other ↦
           subst (λ l. IsInSeq (opening_of d) l) (sym (on-object ob k away (λ e on. seen-away ob k e other on) es))
-          (subst (λ s. IsInSeq s (map away (on_object k es))) (sym (opens ∙ ap (λ b. cond b (opening_of o) (set_of [])) other)) (seq-away (opening_of o) (on_object k es) seq))
+          (subst (λ s. IsInSeq s (map away (on_object k es))) (sym (opens ∙ ap (λ b. cond b (opening_of o) (set_of [])) other)) (seq-paired (on_object k es) (paired-seq (opening_of o) (on_object k es) seq)))
     ]
 
 pub shows-alone : ShowsAlone

@@ -67,9 +67,9 @@ fn next_of_word(word: u64, from: u32) -> Option<u32>
     }
 }
 
-/// Whether the words are the same, and so what they mark.
+/// Whether the words are the same: what they mark is, then.
 pub fn are_same(words: &[u64], others: &[u64]) -> bool
-    ensures { IsTrue result → words.now ≡ others.now }
+    ensures { IsTrue result ↔ (words.now ≡ others.now) }
 {
     words == others
 }

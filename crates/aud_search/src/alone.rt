@@ -44,10 +44,11 @@ fn is_refuted_for<A: Allocator + Copy>(
     ensures { IfOk result (λ yes. IsTrue yes → Refuted (objects_of shape.now) (history_of shape.now) []) }
 {
     refutes_alone();
+    let _well_formed = shape.history();
     let Some(other) = alone(alloc, shape, object)? else {
         return Ok(false);
     };
-    let lists = lists_of(shape).saturating_mul(TIMES);
+    let lists = lists_of(&other).saturating_mul(TIMES);
     match explore(alloc, &other, &Prefix::empty(alloc), lists)? {
         Outcome::Refuted => Ok(true),
         Outcome::Witness(_) | Outcome::Spent => Ok(false),

@@ -10,4 +10,4 @@ returns-in-Refuted g c = λ _.
     let other = c.in-Some.other in
     let seen : IsAlone c.args.object c.args.shape.now other = rw c.in-Some.is at c.in_ok-other.ensures in
     let refuted : Refuted (objects_of other) (history_of other) c.empty.result = rw c.in-Refuted.is at c.in_ok-explore.ensures in
-    c.refutes_alone.ensures c.args.object c.args.shape.now other [] seen (subst (Refuted (objects_of other) (history_of other)) c.empty.ensures refuted)
+    c.refutes_alone.ensures c.args.object c.args.shape.now other [] seen c.history-well_formed.ensures.sound (subst (Refuted (objects_of other) (history_of other)) c.empty.ensures refuted)

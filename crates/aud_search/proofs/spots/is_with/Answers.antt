@@ -16,8 +16,8 @@ returns-then-are_same c =
         (
           omega arith,
           c.with_bit.ensures,
-          set-between others words at c.with_bit.result (omega arith) (omega arith) w.if-words-at.true (w.are_same.ensures (sym w.value-is ∙ c.if-are_same.true))
-              (sym (rest-all words (at + 1)) ∙ c.are_same-then-are_same.ensures it ∙ rest-all others (at + 1)),
+          set-between others words at c.with_bit.result (omega arith) (omega arith) w.if-words-at.true (w.are_same.ensures.0 (sym w.value-is ∙ c.if-are_same.true))
+              (sym (rest-all words (at + 1)) ∙ c.are_same-then-are_same.ensures.0 it ∙ rest-all others (at + 1)),
         ),
       )
       | else-words-at w ↦ absurd (w.if-words-at.false (nat_eq-is (get_or words at 0) c.with_bit.result (sym w.value-is ∙ c.if-are_same.true)))
