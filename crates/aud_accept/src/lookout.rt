@@ -47,19 +47,27 @@ impl<'a, A: Allocator + Copy> Lookout<'a, A> {
         }
     }
 
+    /// Makes what looks ahead, unless it was made before.
+    fn prepare(&mut self) -> Result<(), OutOfMemory>
+        ensures { self.new ≡ self.old }
+    {
+        if self.ahead.is_none() {
+            self.ahead = Some(Ahead::of(self.alloc, self.shape)?);
+        }
+        Ok(())
+    }
+
     /// Whether the look ahead refutes the cursor's prefix. It may fail to see it.
     pub fn sees_doom(&mut self, cursor: &Cursor<A>) -> Result<bool, OutOfMemory>
         requires { cursor.now.shape ≡ self.old }
         ensures doomed { IfOk result (λ doomed. IsTrue doomed → IsDoomed cursor.now) }
         ensures same { self.new ≡ self.old }
     {
-        if self.ahead.is_none() {
-            self.ahead = Some(Ahead::of(self.alloc, self.shape)?);
+        self.prepare()?;
+        match &mut self.ahead {
+            Some(ahead) => ahead.sees_doom(cursor),
+            None => Ok(false),
         }
-        let Some(ahead) = &mut self.ahead else {
-            return Ok(false);
-        };
-        ahead.sees_doom(cursor)
     }
 
     /// Whether the transaction of the row at the place, committed after the cursor's prefix, is enough. It may fail to see it.

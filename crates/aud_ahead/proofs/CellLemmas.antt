@@ -19,7 +19,7 @@ use Rattle.aud_ahead.specs.declared.cell.Key.{Key}
 use Rattle.aud_ahead.specs.declared.cell.Key.TheVariants.{Own, Element, Entry}
 use Rattle.aud_ahead.specs.declared.cell.Cell.{Cell}
 use Rattle.aud_ahead.specs.Ranges.{RunNowhere, StayWithin}
-use Rattle.aud_ahead.specs.Cells.{one_if, cell_of, same_key, same_value, element, entry, seen_by, told_by, told_of, newer, told, is_cell, MayHold, lacks, may_hold_by, AreProper, HoldAfter, Hold, may_see, may_answer, TellWithin, LeadWithin}
+use Rattle.aud_ahead.specs.Cells.{one_if, cell_of, same_key, same_value, element, entry, seen_by, told_by, told_of, newer, told, is_cell, is_now, is_lacking, MayHold, lacks, may_hold_by, AreProper, HoldAfter, Hold, may_see, may_answer, TellWithin, LeadWithin}
 use Rattle.aud_object.specs.Proper.{IsProper}
 use Rattle.aud_object.proofs.Proper.{has-with, has-without, value-with, value-without, proper-after}
 
@@ -397,6 +397,56 @@ leads-lacking object c xs u tells differs states after proper ran =
                 | inr off ↦ ap (λ b. not (b && same_value v c.value)) off
                 | inl same ↦
                     ap (λ b. not (b && same_value v c.value)) same ∙ ap not (here ob key v (nat_eq-is ob object on) (same_key-is c.key key same) held)
+              ])
+        ]
+
+-- # What a cell lacks
+
+-- executions that do not tell last of the cell that it has the value leave it lacking
+pub stays-lacking : (object : ℕ) (c : Cell) (xs : List Execution) → ((u : Option ℤ) → told None xs object c.key ≡ Some u → same_value u c.value ≡ false) → StayWithin (Hold (lacks object c)) xs
+stays-lacking object c xs other = stay-within (lacks object c) xs each
+  where
+    here : (ob : ℕ) (key : Key) (v : Option ℤ) → ob ≡ object → c.key ≡ key → told None xs ob key ≡ Some v → same_value v c.value ≡ false
+    here ob key v is same tells = other v (ap (λ k. told None xs object k) same ∙ ap (λ n. told None xs n key) (sym is) ∙ tells)
+
+    each : (ob : ℕ) (key : Key) (v : Option ℤ) → told None xs ob key ≡ Some v → lacks object c ob key v ≡ true
+    each ob key v tells =
+        elim (split (nat_eq ob object)) [
+          | inr off ↦ ap (λ b. not (b && is_cell key v c)) off
+          | inl on ↦
+              ap (λ b. not (b && is_cell key v c)) on ∙ (elim (split (same_key c.key key)) as (λ _. not (is_cell key v c) ≡ true) [
+                | inr off ↦ ap (λ b. not (b && same_value v c.value)) off
+                | inl same ↦
+                    ap (λ b. not (b && same_value v c.value)) same ∙ ap not (here ob key v (nat_eq-is ob object on) (same_key-is c.key key same) tells)
+              ])
+        ]
+
+-- proper states in which the cell has another value hold what may be where it lacks this one
+pub lacking-holds : (object : ℕ) (c : Cell) (states : List ObjState) → AreProper states → is_lacking object c states ≡ true → Hold (lacks object c) states
+lacking-holds object c states proper lacking = record { proper = proper; held = λ ob s key v at cell. each ob s key v at cell }
+  where
+    here : (ob : ℕ) (s : ObjState) (key : Key) (v : Option ℤ) → ob ≡ object → c.key ≡ key → slice_get states ob ≡ Some s → cell_of s key ≡ Some v → same_value v c.value ≡ false
+    here ob s key v is same at cell =
+        elim (split (same_value v c.value)) as (λ _. same_value v c.value ≡ false) [
+          | inr off ↦ off
+          | inl on ↦
+              absurd (let own : v ≡ c.value = same_value-is v c.value on in
+              let now : is_now (slice_get states object) c.key c.value ≡ true =
+              ap (λ (o : Option ObjState). is_now o c.key c.value) (ap (slice_get states) (sym is) ∙ at)
+              ∙ ap (λ (o : Option (Option ℤ)). elim o as (λ _. Bool) [ Some w ↦ same_value c.value w | None ↦ false ]) (ap (cell_of s) same ∙ cell)
+              ∙ ap (same_value c.value) own ∙ same_value-itself c.value in
+              let wrong : not true ≡ true = ap not (sym now) ∙ lacking in cc)
+        ]
+
+    each : (ob : ℕ) (s : ObjState) (key : Key) (v : Option ℤ) → slice_get states ob ≡ Some s → cell_of s key ≡ Some v → lacks object c ob key v ≡ true
+    each ob s key v at cell =
+        elim (split (nat_eq ob object)) [
+          | inr off ↦ ap (λ b. not (b && is_cell key v c)) off
+          | inl on ↦
+              ap (λ b. not (b && is_cell key v c)) on ∙ (elim (split (same_key c.key key)) as (λ _. not (is_cell key v c) ≡ true) [
+                | inr off ↦ ap (λ b. not (b && same_value v c.value)) off
+                | inl same ↦
+                    ap (λ b. not (b && same_value v c.value)) same ∙ ap not (here ob s key v (nat_eq-is ob object on) (same_key-is c.key key same) at cell)
               ])
         ]
 

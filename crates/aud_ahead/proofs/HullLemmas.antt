@@ -20,7 +20,7 @@ use Rattle.aud_witness.proofs.Good.{IsGood-beginning, place_of}
 use Rattle.aud_order.proofs.Moves.{led-to, step-states}
 use Rattle.aud_order.proofs.SilentRows.{row-found}
 use Rattle.aud_order.proofs.Stepping.{steps-from, walked-join, walked-one}
-use Rattle.aud_ahead.specs.Hulls.{reached, MayComeBefore, MayComeBetween, IsHull, IsHullFrom, StandsBefore, RunsNowhere, HullsRefute}
+use Rattle.aud_ahead.specs.Hulls.{reached, MayComeBefore, IsHull, IsHullFrom, StandsBefore, RunsNowhere, HullsRefute}
 use Rattle.aud_ahead.proofs.Outlooking.{proper-reached}
 
 fate-or : (f : Fate) → (f ≡ C) ⊎ (f ≡ A)

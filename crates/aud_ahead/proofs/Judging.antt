@@ -1,5 +1,5 @@
 -- What may be, once it is closed, refutes a list.
-use Rattle.std.specs.Prelude.{◌≡◌, ℕ, zero, suc, ◌+◌, ◌<◌, ◌≤◌, Bool, true, false, not, ◌&&◌, ◌||◌, nat_eq, nat_lt, List, [], ◌∷◌, map, length, Some, slice_get, slice_index_or, refl, ◌⊎◌}
+use Rattle.std.specs.Prelude.{◌≡◌, ℕ, zero, suc, ◌+◌, ◌<◌, ◌≤◌, Bool, true, false, not, ◌&&◌, ◌||◌, nat_eq, nat_lt, List, [], ◌∷◌, map, length, Some, None, slice_get, slice_index_or, refl, ◌⊎◌}
 use Rattle.std.specs.List.{list_any}
 use Rattle.std.proofs.Common.{sym, ◌∙◌, ap, subst, inl, inr, arith, get_or}
 use Rattle.std.proofs.Math.ListN.{length-map}
@@ -9,7 +9,6 @@ use Rattle.aud_event.specs.Meanings.{PlanOf}
 use Rattle.aud_base.proofs.Bools.{true_and, not_false, split, nat_eq-is}
 use Rattle.aud_object.specs.Objects.{ObjState}
 use Rattle.aud_object.specs.Replayed.{executed}
-use Rattle.aud_ahead.specs.Cells.{AreProper}
 use Rattle.aud_history.specs.Histories.{History, events_of, is_in, is_completed}
 use Rattle.aud_history.specs.WellFormed.{IsWellFormed}
 use Rattle.aud_history.specs.FirstFault.{IsWithinLimits}
@@ -24,7 +23,10 @@ use Rattle.aud_witness.proofs.Bridge.{row-at, named-at, status-allowed, ended-st
 use Rattle.aud_order.proofs.KidLemmas.{in-transactions}
 use Rattle.aud_ahead.specs.Hulls.{reached, MayComeBefore, MayComeBetween, IsHull, IsHullFrom, StandsBefore}
 use Rattle.aud_ahead.specs.Ranges.{RunNowhere, StayWithin}
-use Rattle.aud_ahead.specs.Outlooks.{OutlookOf, MayBe, may_come, may_come_between, HasToPrecede, AreClosed, AreClosedBetween, IsClosed}
+use Rattle.aud_ahead.specs.declared.cells.Lack.{Lack}
+use Rattle.aud_ahead.specs.Cells.{AreProper, lacks, Hold}
+use Rattle.aud_ahead.specs.Bringers.{MarksBringers, IsNextOpen}
+use Rattle.aud_ahead.specs.Outlooks.{may_come, may_come_between, HasToPrecede, AreClosedBy, AreClosed, AreClosedBetween}
 use Rattle.aud_ahead.proofs.HullLemmas.{refuted-by_hull, refuted-between}
 
 -- where a transaction stands among others
@@ -121,9 +123,9 @@ module _ (plan : PlanOf) (h : History) (p : List Decision) (may_be : List ObjSta
       (subst (λ l. AreClosedBetween may_be (table_of h) l first row (length (table_of h))) marks closed)) in
       refuted-between plan h p v t may_be fine within (hull-from v t begun there lead shut) (stands-before v t begun there fresh order) there stuck
 
-module _ (plan : PlanOf) (h : History) (p : List Decision) (outlook : OutlookOf) (fine : IsWellFormed h) (within : IsWithinLimits plan h) where
-  closed-hull : (t : ℕ) → is_in h t ≡ true → MayBe outlook (reached plan.objects h p) → IsClosed outlook (table_of h) (map (is_named p) (transactions h)) (row_of h t) →
-      IsHull plan.objects h p t (MayBe outlook)
+module _ (plan : PlanOf) (h : History) (p : List Decision) (may_be : List ObjState → Type 0) (fine : IsWellFormed h) (within : IsWithinLimits plan h) where
+  closed-hull : (t : ℕ) → is_in h t ≡ true → may_be (reached plan.objects h p) → AreClosed may_be (table_of h) (map (is_named p) (transactions h)) (row_of h t) (length (table_of h)) →
+      IsHull plan.objects h p t may_be
   closed-hull t there now closed = record {
     now = now;
     closed = λ d before after come commits may ran.
@@ -135,19 +137,19 @@ module _ (plan : PlanOf) (h : History) (p : List Decision) (outlook : OutlookOf)
   }
 
   pub refuted-stuck : (k : ℕ) (row d : RowOf) (placed : List Bool) (states : List ObjState) → k < length (table_of h) → row ≡ slice_index_or (table_of h) k d →
-      placed ≡ map (is_named p) (transactions h) → states ≡ reached plan.objects h p → slice_index_or placed k false ≡ false → RunNowhere (MayBe outlook) row.block.executions →
-      MayBe outlook states → IsClosed outlook (table_of h) placed row → Refuted plan.objects h p
+      placed ≡ map (is_named p) (transactions h) → states ≡ reached plan.objects h p → slice_index_or placed k false ≡ false → RunNowhere may_be row.block.executions →
+      may_be states → AreClosed may_be (table_of h) placed row (length (table_of h)) → Refuted plan.objects h p
   refuted-stuck k row d placed states inside is marks now new nowhere holds closed =
       let t : ℕ = get_or (transactions h) k 0 in
       let short : k < length (transactions h) = omega (arith, inside, length-map (transactions h) (row_of h)) in
       let own : row ≡ row_of h t = is ∙ named-row h (transactions h) k d short in
       let there : is_in h t ≡ true = in-transactions h k 0 short in
       let fresh : is_named p t ≡ false = sym (named-at (is_named p) (transactions h) k 0 short) ∙ ap (λ l. slice_index_or l k false) (sym marks) ∙ new in
-      let stuck : RunNowhere (MayBe outlook) (row_of h t).block.executions = subst (λ (r : RowOf). RunNowhere (MayBe outlook) r.block.executions) own nowhere in
-      let hold : MayBe outlook (reached plan.objects h p) = subst (λ ss. MayBe outlook ss) now holds in
-      let shut : IsClosed outlook (table_of h) (map (is_named p) (transactions h)) (row_of h t) =
-      subst (λ (r : RowOf). IsClosed outlook (table_of h) (map (is_named p) (transactions h)) r) own (subst (λ l. IsClosed outlook (table_of h) l row) marks closed) in
-      refuted-by_hull plan h p t (MayBe outlook) fine within (closed-hull t there hold shut) there fresh stuck
+      let stuck : RunNowhere may_be (row_of h t).block.executions = subst (λ (r : RowOf). RunNowhere may_be r.block.executions) own nowhere in
+      let hold : may_be (reached plan.objects h p) = subst (λ ss. may_be ss) now holds in
+      let shut : AreClosed may_be (table_of h) (map (is_named p) (transactions h)) (row_of h t) (length (table_of h)) =
+      subst (λ (r : RowOf). AreClosed may_be (table_of h) (map (is_named p) (transactions h)) r (length (table_of h))) own (subst (λ l. AreClosed may_be (table_of h) l row (length (table_of h))) marks closed) in
+      refuted-by_hull plan h p t may_be fine within (closed-hull t there hold shut) there fresh stuck
 
 -- before a place or at it
 less_or : (k n : ℕ) → k < n + 1 → (k < n) ⊎ (k ≡ n)
@@ -161,38 +163,48 @@ unsome : (x y : RowOf) → Some x ≡ Some y → x ≡ y
 unsome x y e = cc
 
 -- one row further
-pub closed-more : (outlook : OutlookOf) (rows : List RowOf) (placed : List Bool) (t : RowOf) (n : ℕ) (row : RowOf) (is_placed : Bool) → n < length rows → row ≡ slice_index_or rows n row →
-    is_placed ≡ slice_index_or placed n false → AreClosed outlook rows placed t n → (is_placed ≡ false → may_come t row ≡ true → StayWithin (MayBe outlook) row.block.executions) →
-    AreClosed outlook rows placed t (n + 1)
-closed-more outlook rows placed t n row is_placed inside is mark before here k r low at open_row may =
-    elim (less_or k n low) as (λ _. StayWithin (MayBe outlook) r.block.executions) [
-      | inl less ↦ before k r less at open_row may
-      | inr same ↦
-          let own : row ≡ r = unsome row r (sym (slice_get_read rows (length rows) n row refl inside is) ∙ ap (slice_get rows) (sym same) ∙ at) in
-          let off : is_placed ≡ false = mark ∙ ap (λ m. slice_index_or placed m false) (sym same) ∙ open_row in
-          subst (λ (x : RowOf). StayWithin (MayBe outlook) x.block.executions) own (here off (ap (λ (x : RowOf). may_come t x) own ∙ may))
-    ]
-
--- all rows
-pub closed-all : (outlook : OutlookOf) (rows : List RowOf) (placed : List Bool) (t : RowOf) (n : ℕ) → length rows ≤ n → AreClosed outlook rows placed t n → IsClosed outlook rows placed t
-closed-all outlook rows placed t n whole closed k r low at open_row may = closed k r (omega (arith, low, whole)) at open_row may
-
--- # The same between two rows
-
--- one row further
-pub between-more : (may_be : List ObjState → Type 0) (rows : List RowOf) (placed : List Bool) (v t : RowOf) (n : ℕ) (row : RowOf) (is_placed : Bool) → n < length rows → row ≡ slice_index_or rows n row →
-    is_placed ≡ slice_index_or placed n false → AreClosedBetween may_be rows placed v t n → (is_placed ≡ false → may_come_between v t row ≡ true → StayWithin may_be row.block.executions) →
-    AreClosedBetween may_be rows placed v t (n + 1)
-between-more may_be rows placed v t n row is_placed inside is mark before here k r low at open_row may =
+pub closed-more : (may_be : List ObjState → Type 0) (comes : RowOf → Bool) (rows : List RowOf) (placed : List Bool) (n : ℕ) (row : RowOf) (is_placed : Bool) → n < length rows → row ≡ slice_index_or rows n row →
+    is_placed ≡ slice_index_or placed n false → AreClosedBy may_be comes rows placed n → (is_placed ≡ false → comes row ≡ true → StayWithin may_be row.block.executions) →
+    AreClosedBy may_be comes rows placed (n + 1)
+closed-more may_be comes rows placed n row is_placed inside is mark before here k r low at open_row may =
     elim (less_or k n low) as (λ _. StayWithin may_be r.block.executions) [
       | inl less ↦ before k r less at open_row may
       | inr same ↦
           let own : row ≡ r = unsome row r (sym (slice_get_read rows (length rows) n row refl inside is) ∙ ap (slice_get rows) (sym same) ∙ at) in
           let off : is_placed ≡ false = mark ∙ ap (λ m. slice_index_or placed m false) (sym same) ∙ open_row in
-          subst (λ (x : RowOf). StayWithin may_be x.block.executions) own (here off (ap (λ (x : RowOf). may_come_between v t x) own ∙ may))
+          subst (λ (x : RowOf). StayWithin may_be x.block.executions) own (here off (ap (λ (x : RowOf). comes x) own ∙ may))
     ]
 
 -- all rows
-pub between-all : (may_be : List ObjState → Type 0) (rows : List RowOf) (placed : List Bool) (v t : RowOf) (n : ℕ) → length rows ≤ n → AreClosedBetween may_be rows placed v t n →
-    AreClosedBetween may_be rows placed v t (length rows)
-between-all may_be rows placed v t n whole closed k r low at open_row may = closed k r (omega (arith, low, whole)) at open_row may
+pub closed-all : (may_be : List ObjState → Type 0) (comes : RowOf → Bool) (rows : List RowOf) (placed : List Bool) (n : ℕ) → length rows ≤ n → AreClosedBy may_be comes rows placed n →
+    AreClosedBy may_be comes rows placed (length rows)
+closed-all may_be comes rows placed n whole closed k r low at open_row may = closed k r (omega (arith, low, whole)) at open_row may
+
+-- # By the rows that may bring what a cell lacks
+
+module _ (rows : List RowOf) (lack : Lack) (marks placed : List Bool) (comes : RowOf → Bool) (from : ℕ) where
+  abbrev pub Closed : ℕ → Type 0
+  Closed n = AreClosedBy (Hold (lacks lack.object lack.cell)) comes rows placed n
+
+  -- past the next one that is not placed, which may not come
+  pub closed-after : (n : ℕ) (row : RowOf) → MarksBringers rows lack marks → Closed from → IsNextOpen marks placed from (Some n) → n < length rows → row ≡ slice_index_or rows n row → comes row ≡ false →
+      Closed (n + 1)
+  closed-after n row bringers before next inside is off k r low at open_row may =
+      elim (split (nat_lt k from)) as (λ _. StayWithin (Hold (lacks lack.object lack.cell)) r.block.executions) [
+        | inl less ↦ before k r (grind (arith, nat_tests, less)) at open_row may
+        | inr more ↦
+            elim (less_or k n low) as (λ _. StayWithin (Hold (lacks lack.object lack.cell)) r.block.executions) [
+              | inl below ↦ bringers k r at (next.1 k (grind (arith, nat_tests, more)) below open_row)
+              | inr same ↦
+                  absurd (let own : row ≡ r = unsome row r (sym (slice_get_read rows (length rows) n row refl inside is) ∙ ap (slice_get rows) (sym same) ∙ at) in
+                  let wrong : false ≡ true = sym off ∙ ap (λ (x : RowOf). comes x) own ∙ may in cc)
+            ]
+      ]
+
+  -- where none is left
+  pub closed-rest : MarksBringers rows lack marks → Closed from → IsNextOpen marks placed from None → Closed (length rows)
+  closed-rest bringers before next k r low at open_row may =
+      elim (split (nat_lt k from)) as (λ _. StayWithin (Hold (lacks lack.object lack.cell)) r.block.executions) [
+        | inl less ↦ before k r (grind (arith, nat_tests, less)) at open_row may
+        | inr more ↦ bringers k r at (next k (grind (arith, nat_tests, more)) open_row)
+      ]

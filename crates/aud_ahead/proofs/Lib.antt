@@ -1,5 +1,6 @@
 pub mod HullLemmas
 pub mod CellLemmas
+pub mod BringerLemmas
 pub mod SpanLemmas
 pub mod QueueLemmas
 pub mod Outlooking

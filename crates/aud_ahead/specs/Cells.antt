@@ -115,6 +115,10 @@ may_hold now loose ob key v = is_now (slice_get now ob) key v || list_any (is_ce
 abbrev pub lacks : ℕ → Cell → MayHold
 lacks object c ob key v = not (nat_eq ob object && is_cell key v c)
 
+-- the cell has not the value
+abbrev pub is_lacking : ℕ → Cell → List ObjState → Bool
+is_lacking object c states = not (is_now (slice_get states object) c.key c.value)
+
 -- whether the cell may have the value where it is known what was told of it
 abbrev pub may_hold_by : MayHold → ℕ → Key → Option (Option ℤ) → Option ℤ → Bool
 may_hold_by may ob key None v = may ob key v

@@ -1,5 +1,5 @@
 -- When what objects may be refutes a list.
-use Rattle.std.specs.Prelude.{◌≡◌, ℕ, Bool, true, false, not, ◌&&◌, ◌<◌, nat_lt, List, Some, slice_get, slice_index_or, length}
+use Rattle.std.specs.Prelude.{◌≡◌, ℕ, Bool, true, false, not, ◌&&◌, ◌<◌, nat_lt, List, Some, slice_get, slice_index_or}
 use Rattle.aud_object.specs.Objects.{ObjState}
 use Rattle.aud_history.specs.Table.{RowOf}
 use Rattle.aud_witness.specs.declared.decision.Fate.TheVariants.{C, A}
@@ -31,14 +31,14 @@ pub record MayBe (outlook : OutlookOf) (states : List ObjState) : Type 0 where
 abbrev pub may_come : RowOf → RowOf → Bool
 may_come t r = status_allows r.status C && not (is_ended t.status && nat_lt t.last r.first)
 
--- of the first rows, each that is not placed and may come before the row leads from what may be to what may be
-abbrev pub AreClosed : OutlookOf → List RowOf → List Bool → RowOf → ℕ → Type 0
-AreClosed outlook rows placed t n =
-    (k : ℕ) (r : RowOf) → k < n → slice_get rows k ≡ Some r → slice_index_or placed k false ≡ false → may_come t r ≡ true → StayWithin (MayBe outlook) r.block.executions
+-- of the first rows, each that is not placed and may come leads from what may be to what may be
+abbrev pub AreClosedBy : (List ObjState → Type 0) → (RowOf → Bool) → List RowOf → List Bool → ℕ → Type 0
+AreClosedBy may_be comes rows placed n =
+    (k : ℕ) (r : RowOf) → k < n → slice_get rows k ≡ Some r → slice_index_or placed k false ≡ false → comes r ≡ true → StayWithin may_be r.block.executions
 
--- the same of all rows
-abbrev pub IsClosed : OutlookOf → List RowOf → List Bool → RowOf → Type 0
-IsClosed outlook rows placed t = AreClosed outlook rows placed t (length rows)
+-- the same of those that may come before the row
+abbrev pub AreClosed : (List ObjState → Type 0) → List RowOf → List Bool → RowOf → ℕ → Type 0
+AreClosed may_be rows placed t n = AreClosedBy may_be (may_come t) rows placed n
 
 -- the first row's transaction commits, and ends before the second one's begins
 pub record HasToPrecede (v t : RowOf) : Type 0 where
@@ -50,10 +50,9 @@ pub record HasToPrecede (v t : RowOf) : Type 0 where
 abbrev pub may_come_between : RowOf → RowOf → RowOf → Bool
 may_come_between v t r = may_come t r && not (is_ended r.status && nat_lt r.last v.first)
 
--- of the first rows, each that is not placed and may come between the two leads from such states to such
+-- the same of those that may come between the two
 abbrev pub AreClosedBetween : (List ObjState → Type 0) → List RowOf → List Bool → RowOf → RowOf → ℕ → Type 0
-AreClosedBetween may_be rows placed v t n =
-    (k : ℕ) (r : RowOf) → k < n → slice_get rows k ≡ Some r → slice_index_or placed k false ≡ false → may_come_between v t r ≡ true → StayWithin may_be r.block.executions
+AreClosedBetween may_be rows placed v t n = AreClosedBy may_be (may_come_between v t) rows placed n
 
 -- no list that begins with the cursor's shows the history
 abbrev pub IsDoomed : CursorOf → Type 0

@@ -3,10 +3,11 @@
 ghost use Rattle.std.specs.Prelude.{◌≡◌, IfOk, IsTrue, MatchOption, ◌<◌};
 ghost use Rattle.aud_ahead.specs.Outlooks.{IsDoomed};
 
-use crate::brief::{Brief, Slots, briefs_of};
+use crate::brief::{Brief, Slot, Slots, briefs_of};
+use crate::bringers::Supply;
 use crate::cell::Cell;
 use crate::cells::Lack;
-use crate::judge::{is_cut_off, is_stuck};
+use crate::judge::{is_cut_off, is_starved, is_stuck};
 use crate::sight::{Sight, admit_until};
 use crate::wants::{Starving, Wants};
 use aud_event::OutOfMemory;
@@ -37,15 +38,30 @@ pub struct Ahead<'a, A: Allocator + Copy = Global> {
     briefs: Vec<Brief<A>, A>,
     urgent: Vec<Urgent, A>,
     wants: Wants<A>,
+    supply: Supply<'a, A>,
     sight: Sight<A>,
 }
 
 impl<'a, A: Allocator + Copy> Model for Ahead<'a, A> {
+    ghost use Rattle.std.specs.Prelude.{◌≡◌};
     ghost use Rattle.aud_order.specs.Shapes.{ShapeOf};
 
     ghost Value = { ShapeOf };
 
     ghost view = { λ a. a.shape.now };
+
+    ghost invariant = { λ a. a.supply ≡ a.shape.now };
+}
+
+/// The value that the cell lacks.
+fn lack_of(slot: Slot, value: Option<i64>) -> Lack {
+    Lack {
+        object: slot.object,
+        cell: Cell {
+            key: slot.key,
+            value,
+        },
+    }
 }
 
 /// The rows, those first that have to be placed first.
@@ -73,6 +89,7 @@ impl<'a, A: Allocator + Copy> Ahead<'a, A> {
         let briefs = briefs_of(alloc, &mut slots, shape)?;
         let urgent = urgent_of(alloc, &briefs)?;
         let wants = Wants::of(alloc, slots.list.len(), &briefs)?;
+        let supply = Supply::of(alloc, shape, wants.values())?;
         let objects = shape.plan().objects().len();
         let is_queueing = briefs.iter().any(|brief| !brief.draws.is_empty());
         let lines = if is_queueing { objects } else { 0 };
@@ -84,6 +101,7 @@ impl<'a, A: Allocator + Copy> Ahead<'a, A> {
             briefs,
             urgent,
             wants,
+            supply,
             sight,
         })
     }
@@ -157,47 +175,17 @@ impl<'a, A: Allocator + Copy> Ahead<'a, A> {
         None
     }
 
-    /// Whether the row at the place may run in nothing that is found to be possible in front of it.
-    fn is_stuck_alone(&mut self, cursor: &Cursor<A>, place: usize) -> Result<bool, OutOfMemory>
+    /// Looks for the rows that may bring what was found to be needed of the cell at the place.
+    fn ask(&mut self, slot: usize, found: Starving) -> Result<(), OutOfMemory>
         ensures { self.new ≡ self.old }
     {
-        let (store, placed) = (cursor.store(), cursor.placed());
-        let Some(brief) = self.briefs.get(place) else {
-            return Ok(false);
-        };
-        self.sight.begin();
-        admit_until(&mut self.sight, &self.briefs, placed, 0, brief.last)?;
-        self.sight.widen(store, &self.slots.list, &self.briefs)?;
-        Ok(!self.sight.is_active(place))
+        match self.slots.list.get(slot) {
+            Some(slot) => self.supply.ask(found.bringers, lack_of(*slot, found.value)),
+            None => Ok(()),
+        }
     }
 
-    /// Whether it is so that the row needs what it cannot have of the cell at the place once the start was placed.
-    fn is_cut_off(
-        &self,
-        cursor: &Cursor<A>,
-        slot: usize,
-        value: Option<i64>,
-        start: usize,
-        place: usize,
-    ) -> bool
-        requires { cursor.now.shape ≡ self.now }
-        ensures { IsTrue result → IsDoomed cursor.now }
-    {
-        let Some(slot) = self.slots.list.get(slot) else {
-            return false;
-        };
-        let lack = Lack {
-            object: slot.object,
-            cell: Cell {
-                key: slot.key,
-                value,
-            },
-        };
-        let count = self.shape.table().rows().len();
-        start < count && place < count && is_cut_off(self.shape, cursor, lack, start, place)
-    }
-
-    /// Whether what was found shows that no list that begins with the cursor's shows the history.
+    /// Whether what was found of the cell at the place shows that no list that begins with the cursor's shows the history.
     fn is_starved(
         &mut self,
         cursor: &Cursor<A>,
@@ -208,13 +196,28 @@ impl<'a, A: Allocator + Copy> Ahead<'a, A> {
         ensures doomed { IfOk result (λ doomed. IsTrue doomed → IsDoomed cursor.now) }
         ensures same { self.new ≡ self.old }
     {
-        if let Some(start) = found.start {
-            return Ok(self.is_cut_off(cursor, slot, found.value, start, found.place));
+        self.ask(slot, found)?;
+        Ok(self.shows(cursor, found))
+    }
+
+    /// The same of what was asked for.
+    fn shows(&self, cursor: &Cursor<A>, found: Starving) -> bool
+        requires { cursor.now.shape ≡ self.now }
+        ensures { IsTrue result → IsDoomed cursor.now }
+    {
+        let count = self.shape.table().rows().len();
+        let Some(bringers) = self.supply.bringers(found.bringers) else {
+            return false;
+        };
+        if found.place >= count {
+            return false;
         }
-        if self.is_stuck_alone(cursor, found.place)? {
-            return self.is_shown(cursor, found.place);
+        match found.start {
+            Some(start) => {
+                start < count && is_cut_off(self.shape, cursor, bringers, start, found.place)
+            }
+            None => is_starved(self.shape, cursor, bringers, found.place),
         }
-        Ok(false)
     }
 
     fn look_after(&mut self, cursor: &Cursor<A>, placed_last: usize) -> Result<bool, OutOfMemory>
@@ -271,13 +274,15 @@ impl<'a, A: Allocator + Copy> Ahead<'a, A> {
         ensures doomed { IfOk result (λ doomed. IsTrue doomed → IsDoomed cursor.now) }
         ensures same { self.new ≡ self.old }
     {
-        if !cursor.prefix().is_empty() {
-            return self.look(cursor, LOOKS);
-        }
         if self.look_first(cursor)? {
             return Ok(true);
         }
-        self.look(cursor, usize::MAX)
+        let looks = if cursor.prefix().is_empty() {
+            usize::MAX
+        } else {
+            LOOKS
+        };
+        self.look(cursor, looks)
     }
 
     /// The same, but where memory is refused it says no.

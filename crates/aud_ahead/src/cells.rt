@@ -2,7 +2,7 @@
 
 ghost use Rattle.std.specs.Prelude.{◌≡◌, ℕ, ℤ, Bool, Option, IsTrue, true, false, None, Some, slice_get, slice_index_or, []};
 ghost use Rattle.std.specs.List.{list_any};
-ghost use Rattle.aud_ahead.specs.Cells.{is_cell, is_now, lacks, may_answer, may_hold, may_hold_by, may_see, newer, told, told_by, told_of, Hold, LeadWithin};
+ghost use Rattle.aud_ahead.specs.Cells.{is_cell, is_lacking, is_now, lacks, may_answer, may_hold, may_hold_by, may_see, newer, told, told_by, told_of, Hold, LeadWithin};
 ghost use Rattle.aud_ahead.specs.declared.cell.Cell.{Cell};
 ghost use Rattle.aud_ahead.specs.declared.cell.Key.{Key};
 ghost use Rattle.aud_ahead.specs.Ranges.{RunNowhere, StayWithin};
@@ -182,13 +182,6 @@ pub(crate) fn stays<M: MayHold>(cells: &M, executions: &[Execution]) -> bool
     true
 }
 
-/// Whether the executions lead from what cells may have to what they may have, or run nowhere.
-pub(crate) fn keeps<M: MayHold>(cells: &M, executions: &[Execution]) -> bool
-    ensures { IsTrue result → StayWithin (Hold (M.may cells.now)) executions.now }
-{
-    !may_run(cells, executions) || stays(cells, executions)
-}
-
 /// For each object the cells that it may have, beside those that it has now.
 #[derive(Drop)]
 pub(crate) struct Loose<A: Allocator + Copy = Global> {
@@ -279,6 +272,23 @@ impl MayHold for Lack {
 }
 
 impl Lack {
+    /// Whether the executions leave the cell lacking the value where it lacked it before, or run nowhere then.
+    pub(crate) fn is_kept(&self, executions: &[Execution]) -> bool
+        ensures { IsTrue result → StayWithin (Hold (lacks self.now.object self.now.cell)) executions.now }
+    {
+        match told(executions, self.object, self.cell.key) {
+            Some(value) => !same_value(value, self.cell.value) || !may_run(self, executions),
+            None => true,
+        }
+    }
+
+    /// Whether the object's cell has another value now.
+    pub(crate) fn is_lacking<A: Allocator + Drop>(&self, store: &Store<A>) -> bool
+        ensures { result ≡ is_lacking self.now.object self.now.cell store.now.now }
+    {
+        !is_now(store, self.object as usize, self.cell.key, self.cell.value)
+    }
+
     /// Whether the executions leave the cell with another value, wherever they run.
     pub(crate) fn is_left(&self, executions: &[Execution]) -> bool
         ensures { IsTrue result → LeadWithin (lacks self.now.object self.now.cell) executions.now }

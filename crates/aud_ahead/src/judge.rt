@@ -5,10 +5,12 @@ ghost use Rattle.aud_history.specs.Table.{table_of};
 ghost use Rattle.aud_witness.specs.Spots.{is_ended};
 ghost use Rattle.aud_order.specs.Shapes.{history_of};
 ghost use Rattle.aud_ahead.specs.Ranges.{StayWithin};
-ghost use Rattle.aud_ahead.specs.Outlooks.{may_come, may_come_between, AreClosedBetween, HasToPrecede, IsClosed, IsDoomed, MayBe};
+ghost use Rattle.aud_ahead.specs.Bringers.{IsNextOpen, MarksBringers};
+ghost use Rattle.aud_ahead.specs.Outlooks.{may_come, may_come_between, AreClosed, AreClosedBetween, HasToPrecede, IsDoomed, MayBe};
 ghost use Rattle.aud_ahead.specs.Cells.{lacks, Hold};
 
-use crate::cells::{Lack, Loose, keeps, may_run};
+use crate::bringers::Bringers;
+use crate::cells::{Loose, may_run};
 use crate::outlook::Outlook;
 use crate::queues::Queues;
 use crate::span::Spans;
@@ -54,7 +56,7 @@ fn is_closed<A: Allocator + Copy>(
     placed: &Marks<A>,
     row: &TxRow<A>,
 ) -> bool
-    ensures { IsTrue result → IsClosed outlook.now rows.now placed.now row.now }
+    ensures { IsTrue result → AreClosed (MayBe outlook.now) rows.now placed.now row.now (length rows.now) }
 {
     for (place, other) in rows.iter().enumerate() {
         if !stays_under(outlook, row, other, placed.has(place)) {
@@ -109,36 +111,94 @@ fn may_come_between<A: Allocator>(start: &TxRow<A>, row: &TxRow<A>, other: &TxRo
     may_come(row, other) && !(has_ended(other.status()) && other.last() < start.first())
 }
 
-/// Whether the third row leaves the cell lacking, where it is not placed and may come between the first and the second one.
-fn stays_lacking<A: Allocator>(
-    lack: Lack,
-    start: &TxRow<A>,
-    row: &TxRow<A>,
-    other: &TxRow<A>,
-    is_placed: bool,
-) -> bool
-    ensures { IsTrue result → is_placed ≡ false → may_come_between start.now row.now other.now ≡ true →
-        StayWithin (Hold (lacks lack.object lack.cell)) other.now.block.executions }
+/// The first from a place on of the rows that may bring the value and are not placed.
+fn next_bringer<A: Allocator + Copy>(
+    bringers: &Bringers<A>,
+    placed: &Marks<A>,
+    from: usize,
+) -> Option<usize>
+    ensures { IsNextOpen bringers.now.marks placed.now from result }
 {
-    is_placed || !may_come_between(start, row, other) || keeps(&lack, other.block().executions())
+    let mut next = from;
+    while let Some(place) = bringers.marks.next(next) {
+        if place >= placed.len() || !placed.has(place) {
+            return Some(place);
+        }
+        next = place + 1;
+    }
+    None
 }
 
-/// Whether all rows do.
-fn all_stay_lacking<A: Allocator + Copy>(
-    lack: Lack,
+/// Whether no row brings the value that may come before the row.
+fn none_brings<A: Allocator + Copy>(
+    bringers: &Bringers<A>,
+    rows: &[TxRow<A>],
+    placed: &Marks<A>,
+    row: &TxRow<A>,
+) -> bool
+    requires { MarksBringers rows.now bringers.now.lack bringers.now.marks }
+    ensures { IsTrue result → AreClosed (Hold (lacks bringers.now.lack.object bringers.now.lack.cell)) rows.now placed.now row.now (length rows.now) }
+{
+    let mut from = 0;
+    while let Some(place) = next_bringer(bringers, placed, from) {
+        if place >= rows.len() {
+            return false;
+        }
+        if may_come(row, &rows[place]) {
+            return false;
+        }
+        from = place + 1;
+    }
+    true
+}
+
+/// Whether no row brings the value that may come between the two.
+fn none_brings_between<A: Allocator + Copy>(
+    bringers: &Bringers<A>,
     rows: &[TxRow<A>],
     placed: &Marks<A>,
     start: &TxRow<A>,
     row: &TxRow<A>,
 ) -> bool
-    ensures { IsTrue result → AreClosedBetween (Hold (lacks lack.object lack.cell)) rows.now placed.now start.now row.now (length rows.now) }
+    requires { MarksBringers rows.now bringers.now.lack bringers.now.marks }
+    ensures { IsTrue result → AreClosedBetween (Hold (lacks bringers.now.lack.object bringers.now.lack.cell)) rows.now placed.now start.now row.now (length rows.now) }
 {
-    for (place, other) in rows.iter().enumerate() {
-        if !stays_lacking(lack, start, row, other, placed.has(place)) {
+    let mut from = 0;
+    while let Some(place) = next_bringer(bringers, placed, from) {
+        if place >= rows.len() {
             return false;
         }
+        if may_come_between(start, row, &rows[place]) {
+            return false;
+        }
+        from = place + 1;
     }
     true
+}
+
+/// Whether the row at the place needs a value that the cell has not after the cursor's list, and that no transaction brings that may come
+/// before the row's: then no list that begins with the cursor's shows the history.
+pub(crate) fn is_starved<A: Allocator + Copy>(
+    shape: &Shape<A>,
+    cursor: &Cursor<A>,
+    bringers: &Bringers<A>,
+    place: usize,
+) -> bool
+    requires shape { cursor.now.shape ≡ shape.now }
+    requires bringers { MarksBringers (table_of (history_of shape.now)) bringers.now.lack bringers.now.marks }
+    requires inside { place < length (table_of (history_of shape.now)) }
+    ensures { IsTrue result → IsDoomed cursor.now }
+{
+    let _sound = shape.history();
+    let _within = shape.plan();
+    let rows = shape.table().rows();
+    let row = &rows[place];
+    let placed = cursor.placed();
+    let lack = bringers.lack;
+    if placed.has(place) || may_run(&lack, row.block().executions()) {
+        return false;
+    }
+    lack.is_lacking(cursor.store()) && none_brings(bringers, rows, placed, row)
 }
 
 /// Whether the row at the place needs what the cell lacks once the transaction of the row at another place, which has to come before it,
@@ -146,11 +206,12 @@ fn all_stay_lacking<A: Allocator + Copy>(
 pub(crate) fn is_cut_off<A: Allocator + Copy>(
     shape: &Shape<A>,
     cursor: &Cursor<A>,
-    lack: Lack,
+    bringers: &Bringers<A>,
     start: usize,
     place: usize,
 ) -> bool
     requires shape { cursor.now.shape ≡ shape.now }
+    requires bringers { MarksBringers (table_of (history_of shape.now)) bringers.now.lack bringers.now.marks }
     requires started { start < length (table_of (history_of shape.now)) }
     requires inside { place < length (table_of (history_of shape.now)) }
     ensures { IsTrue result → IsDoomed cursor.now }
@@ -160,11 +221,12 @@ pub(crate) fn is_cut_off<A: Allocator + Copy>(
     let rows = shape.table().rows();
     let (first, row) = (&rows[start], &rows[place]);
     let placed = cursor.placed();
+    let lack = bringers.lack;
     if placed.has(start) || !has_to_precede(first, row) {
         return false;
     }
     if may_run(&lack, row.block().executions()) || !lack.is_left(first.block().executions()) {
         return false;
     }
-    all_stay_lacking(lack, rows, placed, first, row)
+    none_brings_between(bringers, rows, placed, first, row)
 }

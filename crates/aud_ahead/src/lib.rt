@@ -4,6 +4,7 @@
 
 mod ahead;
 mod brief;
+mod bringers;
 mod cell;
 mod cells;
 mod judge;

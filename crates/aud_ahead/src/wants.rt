@@ -44,6 +44,7 @@ struct Setter {
 pub(crate) struct Starving {
     pub place: usize,
     pub value: Option<i64>,
+    pub bringers: usize,
     pub start: Option<usize>,
 }
 
@@ -181,6 +182,11 @@ impl<A: Allocator + Copy> Wants<A> {
         Ok(wants)
     }
 
+    /// How many values there are, of all cells.
+    pub(crate) fn values(&self) -> usize {
+        self.bringers.len()
+    }
+
     /// Of the rows that are not placed, have to come before the wanter and leave another value, the one that begins last, among so many
     /// of those that end last.
     fn start(&self, placed: &Marks<A>, slot: usize, wanter: Wanter) -> Option<Setter> {
@@ -200,21 +206,24 @@ impl<A: Allocator + Copy> Wants<A> {
         start
     }
 
-    /// Whether a row that is not placed may bring what is wanted, in time and not before an event.
-    fn may_come(&self, placed: &Marks<A>, wanter: Wanter, from: u32) -> bool {
-        let Some(bringers) = self.bringers.get(wanter.bringers) else {
-            return true;
-        };
+    /// When the last event is of the rows that are not placed and may bring what is wanted in time: of all of them the last, or one that
+    /// no start can be after.
+    fn last_bringer(&self, placed: &Marks<A>, wanter: Wanter) -> Option<u32> {
+        let bringers = self.bringers.get(wanter.bringers)?;
+        let mut last: Option<u32> = None;
         for bringer in bringers {
             if bringer.first > wanter.last {
-                return false;
+                return last;
             }
             let is_open = bringer.place < placed.len() && !placed.has(bringer.place);
-            if is_open && bringer.last >= from && bringer.place != wanter.place {
-                return true;
+            if is_open && bringer.place != wanter.place && last <= Some(bringer.last) {
+                last = Some(bringer.last);
+                if bringer.last >= wanter.first {
+                    return last;
+                }
             }
         }
-        false
+        last
     }
 
     /// The same of a wanter, if none may bring it what it wants.
@@ -225,25 +234,23 @@ impl<A: Allocator + Copy> Wants<A> {
         now: Option<Option<i64>>,
         wanter: Wanter,
     ) -> Option<Starving> {
-        let (place, value) = (wanter.place, wanter.value);
-        let start = self.start(placed, slot, wanter);
-        let from = match start {
-            Some(start) => start.first,
-            None => {
-                if now == Some(value) {
-                    return None;
-                }
-                0
-            }
-        };
-        if self.may_come(placed, wanter, from) {
+        let last = self.last_bringer(placed, wanter);
+        if last >= Some(wanter.first) {
             return None;
         }
-        let start = start.map(|start| start.place);
+        let start = self.start(placed, slot, wanter);
+        let is_brought = match start {
+            Some(start) => last >= Some(start.first),
+            None => last.is_some() || now == Some(wanter.value),
+        };
+        if is_brought {
+            return None;
+        }
         Some(Starving {
-            place,
-            value,
-            start,
+            place: wanter.place,
+            value: wanter.value,
+            bringers: wanter.bringers,
+            start: start.map(|start| start.place),
         })
     }
 

@@ -113,7 +113,7 @@ impl<'a, A: Allocator + Copy> Rules<'a, A> {
         }
         self.steps += 1;
         if self.steps > PATIENCE {
-            self.unseen = depth;
+            self.unseen = depth.saturating_add(1);
             let _ = self.begin();
         }
     }

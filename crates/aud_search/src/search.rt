@@ -362,6 +362,7 @@ fn prefer<N: Copy, R: Recorder<N, A>, A: Allocator + Copy>(
     choices: &[Choice],
     ready: &Ready<A>,
     place: usize,
+    is_first: bool,
     rules: &Rules<A>,
 ) -> Result<Taken, OutOfMemory>
     requires choices { AreChoices (history_of cursor.old.shape) choices.now }
@@ -376,7 +377,10 @@ fn prefer<N: Copy, R: Recorder<N, A>, A: Allocator + Copy>(
         place,
         is_enough: false,
     };
-    if !rules.are_in_play() || choices[place].effect == Effect::Silent || !memo.is_deaf() {
+    if !is_first || !rules.are_in_play() {
+        return Ok(first);
+    }
+    if choices[place].effect == Effect::Silent || !memo.is_deaf() {
         return Ok(first);
     }
     let _ = cursor.pop();
@@ -544,7 +548,7 @@ fn search_on<N: Copy, R: Recorder<N, A>, A: Allocator + Copy>(
                 None => continue,
             }
         };
-        let taken = prefer(memo, cursor, choices, ready, place, rules)?;
+        let taken = prefer(memo, cursor, choices, ready, place, here.next == 0, rules)?;
         if cursor.full() {
             return witness_at(alloc, cursor);
         }

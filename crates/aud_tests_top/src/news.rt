@@ -32,12 +32,17 @@ const PAIRS: [Pair; 9] = [
     (Input::Seen, Steps(100, &["1c 2c"]), ALL, (9, 0, true)),
 ];
 
+/// What one knows who knows the first and joins the other.
+fn joined(known: &Knowledge, other: &Knowledge) -> Result<Knowledge, KnowFault> {
+    let mut both = known.copy()?;
+    both.join(other)?;
+    Ok(both)
+}
+
 /// Whether one who knows the first comes to know by the news what it would by joining the other whole.
 fn join_alike(known: &Knowledge, news: &Knowledge, whole: &Knowledge) -> Result<bool, KnowFault> {
-    let mut by_news = known.copy()?;
-    let mut by_all = known.copy()?;
-    by_news.join(news)?;
-    by_all.join(whole)?;
+    let by_news = joined(known, news)?;
+    let by_all = joined(known, whole)?;
     Ok(by_news.same(&by_all))
 }
 
@@ -75,11 +80,22 @@ fn is_posted(
     Ok(has_joined && size_of(&delta.packet.known)? == size)
 }
 
+/// A packet with what is known.
+fn packet_of(alloc: Global, known: Knowledge) -> Result<Packet, Unread> {
+    let known = Arc::new(alloc, known)?;
+    Ok(Packet { known })
+}
+
+/// Nothing, of a plan with three logs and no objects.
+fn foreign(alloc: Global) -> Result<Knowledge, Unread> {
+    let plan = Plan::new(alloc, 3, Vec::new(alloc))?;
+    nothing(alloc, &plan)
+}
+
 /// A packet of a plan with three logs and no objects.
 pub fn foreign_packet(alloc: Global) -> Result<Packet, Unread> {
-    let plan = Plan::new(alloc, 3, Vec::new(alloc))?;
-    let known = Arc::new(alloc, nothing(alloc, &plan)?)?;
-    Ok(Packet { known })
+    let known = foreign(alloc)?;
+    packet_of(alloc, known)
 }
 
 /// What is known by the steps of a packet, and how much an outbox posts of it after those before.

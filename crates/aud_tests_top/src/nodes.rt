@@ -37,16 +37,12 @@ struct Site<J: Fleet, S: Wait + Drop> {
     third: Pass<J>,
 }
 
-fn started<J: Fleet, R: Wait>(
-    rt: &R,
-    alloc: Global,
-    opened: Opened,
-    plan: Plan,
-) -> Option<Site<J, &R>>
-    requires named { opened.book ≡ J.book opened.number }
-    requires planned { plan ≡ J.plan opened.number }
-{
-    let (node, mut passes) = Running::<J, &R>::start(rt, alloc, opened, plan, 3).ok()?;
+/// The node with the passes, if these are three.
+fn site_of<J: Fleet, S: Wait + Drop>(
+    node: Running<J, S>,
+    passes: Vec<Pass<J>>,
+) -> Option<Site<J, S>> {
+    let mut passes = passes;
     let third = passes.pop()?;
     let second = passes.pop()?;
     let first = passes.pop()?;
@@ -56,6 +52,19 @@ fn started<J: Fleet, R: Wait>(
         second,
         third,
     })
+}
+
+fn started<J: Fleet, R: Wait>(
+    rt: &R,
+    alloc: Global,
+    opened: Opened,
+    plan: Plan,
+) -> Option<Site<J, &R>>
+    requires named { opened.book ≡ J.book opened.number }
+    requires planned { plan ≡ J.plan opened.number }
+{
+    let (node, passes) = Running::<J, &R>::start(rt, alloc, opened, plan, 3).ok()?;
+    site_of(node, passes)
 }
 
 /// Whether the pass says that, and whether it knows that no order which begins with the list shows the run.

@@ -1,11 +1,11 @@
-use Rattle.std.specs.Prelude.{◌≡◌, map, refl, slice_index_or}
+use Rattle.std.specs.Prelude.{◌≡◌, map, refl, slice_index_or, length}
 use Rattle.std.proofs.Common.{sym, ◌∙◌, ap, subst}
 use Rattle.aud_history.specs.Table.{transactions, table_of}
 use Rattle.aud_witness.specs.Orders.{is_named}
 use Rattle.aud_order.specs.Shapes.{plan_of, objects_of, history_of}
 use Rattle.aud_ahead.specs.Hulls.{reached}
 use Rattle.aud_ahead.specs.Ranges.{RunNowhere}
-use Rattle.aud_ahead.specs.Outlooks.{IsDoomed, IsClosed, MayBe, OutlookOf}
+use Rattle.aud_ahead.specs.Outlooks.{IsDoomed, AreClosed, MayBe, OutlookOf}
 use Rattle.aud_ahead.proofs.Judging.{refuted-stuck}
 use Rattle.aud_ahead.proofs.Outlooking.{may-be-now}
 use Rattle.aud_ahead.proofs.judge.is_stuck.Goals as goal
@@ -24,8 +24,9 @@ returns-then-holds g c = λ closed.
     let nowhere : RunNowhere (MayBe outlook) row.block.executions =
     subst (λ xs. RunNowhere (MayBe outlook) xs) (c.executions.ensures ∙ ap (λ b. b.executions) c.block.ensures) (c.may_run.ensures c.if-may_run.false) in
     let holds : MayBe outlook (reached (objects_of own) h at.path) = may-be-now outlook (objects_of own) h at.path states (c.holds.ensures c.if-holds.true) in
-    let shut : IsClosed outlook (table_of h) c.placed-placed.result.now row = subst (λ rows. IsClosed outlook rows c.placed-placed.result.now row) table (c.is_closed.ensures closed) in
+    let shut : AreClosed (MayBe outlook) (table_of h) c.placed-placed.result.now row (length (table_of h)) =
+    subst (λ rows. AreClosed (MayBe outlook) rows c.placed-placed.result.now row (length rows)) table (c.is_closed.ensures closed) in
     subst (λ s. IsDoomed (record { shape = s; path = at.path })) (sym c.requires.shape)
-    (refuted-stuck (plan_of own) h at.path outlook c.history-sound.ensures.sound c.plan-within.ensures.sound c.args.place row row c.placed-placed.result.now (reached (objects_of own) h at.path)
+    (refuted-stuck (plan_of own) h at.path (MayBe outlook) c.history-sound.ensures.sound c.plan-within.ensures.sound c.args.place row row c.placed-placed.result.now (reached (objects_of own) h at.path)
     c.requires.inside (c.index-rows-place.is ∙ ap (λ rows. slice_index_or rows c.args.place row) table) marks refl (sym c.has.ensures ∙ c.if-has.false) nowhere
     holds shut)

@@ -1,4 +1,3 @@
-use Rattle.std.specs.Prelude.{◌≡◌, false}
 use Rattle.std.proofs.Common.{sym, ◌∙◌}
 use Rattle.aud_base.proofs.Bools.{not_true}
 use Rattle.aud_ahead.proofs.CellLemmas.{leads-lacking}
