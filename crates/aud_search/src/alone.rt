@@ -16,7 +16,7 @@ use std::alloc::Allocator;
 /// How many lists of a history are expanded, beside one for each transaction, before it is searched as its objects see it.
 const LISTS: u64 = 600;
 
-/// How many times as many are expanded of what one object sees.
+/// How many times as many are expanded each time of what one object sees.
 const TIMES: u64 = 4;
 
 /// How many events the histories of all objects may have together. Where they would have more, none is made: that would take longer than
@@ -35,11 +35,12 @@ pub(crate) fn lists_of<A: Allocator + Copy>(shape: &Shape<A>) -> u64 {
     LISTS.saturating_add(shape.table().rows().len() as u64)
 }
 
-/// Whether no list shows the history as the object sees it, as far as a search of so many lists tells.
+/// Whether no list shows the history as the object sees it, as far as a search of so many times its lists tells.
 fn is_refuted_for<A: Allocator + Copy>(
     alloc: A,
     shape: &Shape<A>,
     object: u16,
+    times: u64,
 ) -> Result<bool, OutOfMemory>
     ensures { IfOk result (λ yes. IsTrue yes → Refuted (objects_of shape.now) (history_of shape.now) []) }
 {
@@ -48,20 +49,21 @@ fn is_refuted_for<A: Allocator + Copy>(
     let Some(other) = alone(alloc, shape, object)? else {
         return Ok(false);
     };
-    let lists = lists_of(&other).saturating_mul(TIMES);
+    let lists = lists_of(&other).saturating_mul(TIMES.saturating_mul(times));
     match explore(alloc, &other, &Prefix::empty(alloc), lists)? {
         Outcome::Refuted => Ok(true),
         Outcome::Witness(_) | Outcome::Spent => Ok(false),
     }
 }
 
-/// Whether no list shows the history as some object sees it, as far as short searches tell. Where memory is refused it says no.
-pub(crate) fn is_refuted_alone<A: Allocator + Copy>(alloc: A, shape: &Shape<A>) -> bool
+/// Whether no list shows the history as some object sees it, as far as searches of so many times their lists tell. Where
+/// memory is refused it says no.
+pub(crate) fn is_refuted_alone<A: Allocator + Copy>(alloc: A, shape: &Shape<A>, times: u64) -> bool
     ensures { IsTrue result → Refuted (objects_of shape.now) (history_of shape.now) [] }
 {
     let objects = shape.plan().objects().len();
     for object in 0..objects {
-        match is_refuted_for(alloc, shape, object as u16) {
+        match is_refuted_for(alloc, shape, object as u16, times) {
             Ok(true) => return true,
             Ok(false) => {}
             Err(_) => return false,

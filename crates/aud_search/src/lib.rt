@@ -3,6 +3,7 @@
 
 mod alone;
 mod choice;
+mod deciding;
 mod digests;
 mod index;
 mod kept;
@@ -17,8 +18,9 @@ mod searches;
 mod shared;
 mod spots;
 
+pub use deciding::decide;
 pub use outcome::{Decided, Outcome, Searched};
 pub use recorder::Recorder;
-pub use search::{decide, explore, search_with};
+pub use search::{explore, search_with};
 pub use searches::Memory;
 pub use shared::{Scene, Shared};

@@ -9,17 +9,16 @@ ghost use Rattle.aud_history.specs.FirstFault.{IsWithinLimits};
 ghost use Rattle.aud_order.specs.Shapes.{plan_of, objects_of, history_of};
 ghost use Rattle.aud_search.specs.Choices.{AreChoices, IsOfRow};
 ghost use Rattle.aud_search.specs.Readiness.{IsReady};
-ghost use Rattle.aud_search.specs.Searches.{Reports, ReportsWith, Decides, DecidesByLetter};
+ghost use Rattle.aud_search.specs.Searches.{Reports, ReportsWith};
 ghost use Rattle.aud_order.specs.Cursors.{cursor_back, cursor_with};
 ghost use Rattle.aud_search.specs.Tried.{no_choice, IsTried, IsTriedEnough, IsFound, IsFoundEnough, IsTaken, IsNextPlace, ArePassed, IsWitnessOf, ReportsAt};
 ghost use Rattle.aud_search.specs.Memos.{Names, states_reached, IsReported, IsFurther, IsStep, IsRefutedAt};
 ghost use Rattle.aud_search.specs.Recorders.{HasNote, IsNotedFor, IsReason, AreKept, IsSilentAt, reason_by, IsNotedAfter, HasNoteAfter};
 ghost use Rattle.aud_search.specs.Turns.{IsSought, IsArrived, IsClosed, unnumbered, HasRoomMade};
 
-use crate::alone::{is_refuted_alone, lists_of, may_pay};
 use crate::choice::{Choice, Effect, choices_of};
 use crate::memo::{Memo, Reason};
-use crate::outcome::{Decided, Ended, Outcome, Searched};
+use crate::outcome::{Ended, Outcome, Searched};
 use crate::ready::Ready;
 use crate::recorder::{Recorder, Unnoted, Unrecorded};
 use crate::room::BOUND;
@@ -27,7 +26,6 @@ use crate::rules::Rules;
 use aud_base::spend;
 use aud_event::OutOfMemory;
 use aud_order::{Cursor, Pushed, Shape};
-use aud_witness::laws::letter_is_opaque;
 use aud_witness::{Decision, Fate, Prefix};
 use std::alloc::Allocator;
 
@@ -658,54 +656,6 @@ pub fn explore<A: Allocator + Copy>(
 {
     let mut memo = Memo::new(alloc, shape, Unrecorded, BOUND);
     search(alloc, shape, 0, prefix.decisions(), Some(budget), &mut memo)
-}
-
-/// Whether the history is opaque, with a list that shows it where it is. That is so by lists of decisions, and by the letter of
-/// Guerraoui and Kapałka (PPoPP 2008).
-pub fn decide<A: Allocator + Copy>(alloc: A, shape: &Shape<A>) -> Result<Decided<A>, OutOfMemory>
-    ensures decides { IfOk result (Decides (objects_of shape.now) (history_of shape.now)) }
-    ensures letter { IfOk result (DecidesByLetter (objects_of shape.now) (history_of shape.now)) }
-{
-    letter_is_opaque();
-    let _well_formed = shape.history();
-    decide_by_lists(alloc, shape)
-}
-
-/// The same by lists of decisions: where that may pay by a short search, and then as one that takes long.
-fn decide_by_lists<A: Allocator + Copy>(
-    alloc: A,
-    shape: &Shape<A>,
-) -> Result<Decided<A>, OutOfMemory>
-    ensures { IfOk result (Decides (objects_of shape.now) (history_of shape.now)) }
-{
-    if !may_pay(shape) {
-        return decide_wholly(alloc, shape);
-    }
-    match explore(alloc, shape, &Prefix::empty(alloc), lists_of(shape))? {
-        Outcome::Witness(witness) => Ok(Decided::Opaque(witness)),
-        Outcome::Refuted => Ok(Decided::NotOpaque),
-        Outcome::Spent => decide_late(alloc, shape),
-    }
-}
-
-/// The same of a history that takes long: whether it is refuted as one of its objects sees it, and else wholly.
-fn decide_late<A: Allocator + Copy>(alloc: A, shape: &Shape<A>) -> Result<Decided<A>, OutOfMemory>
-    ensures { IfOk result (Decides (objects_of shape.now) (history_of shape.now)) }
-{
-    if is_refuted_alone(alloc, shape) {
-        return Ok(Decided::NotOpaque);
-    }
-    decide_wholly(alloc, shape)
-}
-
-/// The same by a search of all lists.
-fn decide_wholly<A: Allocator + Copy>(alloc: A, shape: &Shape<A>) -> Result<Decided<A>, OutOfMemory>
-    ensures { IfOk result (Decides (objects_of shape.now) (history_of shape.now)) }
-{
-    match search_with(alloc, shape, Unrecorded)? {
-        Searched::Opaque(witness) => Ok(Decided::Opaque(witness)),
-        Searched::NotOpaque(_, _) => Ok(Decided::NotOpaque),
-    }
 }
 
 /// Searches all lists, of which the empty one is not full. It is expanded first.

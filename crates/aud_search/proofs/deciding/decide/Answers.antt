@@ -1,6 +1,6 @@
 use Rattle.aud_order.specs.Shapes.{objects_of, history_of}
 use Rattle.aud_search.proofs.Lettered.{by-letter}
-use Rattle.aud_search.proofs.search.decide.Goals as goal
+use Rattle.aud_search.proofs.deciding.decide.Goals as goal
 
 pub returns-clause-letter : goal.returns-clause-letter
 returns-clause-letter g c =
