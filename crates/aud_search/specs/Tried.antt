@@ -18,7 +18,7 @@ use Rattle.aud_search.specs.Searches.{SpentBy}
 
 -- no choice in particular
 abbrev pub no_choice : Choice
-no_choice = record { effect = Silent; is_late = false; last = 0; place = 0; decision = record { tx = 0; fate = C } }
+no_choice = record { effect = Silent; is_late = false; rank = 0; place = 0; decision = record { tx = 0; fate = C } }
 
 -- one choice was tried: it is good, and the cursor went on, or it is not, and nothing changed
 abbrev pub IsTried : CursorOf → CursorOf → Decision → Bool → Type 0

@@ -19,16 +19,35 @@ pub(crate) enum Effect {
     Seen,
 }
 
+/// In which order a search tries transactions.
+#[derive(Clone, Copy)]
+pub(crate) enum Order {
+    /// By their last events. Those whose last event stands before this place come after the others: with 0 none does.
+    Last(u32),
+    /// By their first events.
+    First,
+}
+
+impl Order {
+    /// Whether the row's transaction comes after the others, and by which place it is ordered.
+    fn rank<A: Allocator>(self, row: &TxRow<A>) -> (bool, u32) {
+        match self {
+            Order::Last(from) => (row.last() < from, row.last()),
+            Order::First => (false, row.first()),
+        }
+    }
+}
+
 /// A decision that a completion may make, with the place of its transaction's row.
 ///
-/// Choices are ordered as a search tries them: first those of silent transactions, then by when the transaction did its last event, as
-/// most memories let their transactions take effect about when they end, and that it commits before that it aborts. Those of
-/// transactions that did it before the search begins to try come after the others.
+/// Choices are ordered as a search tries them: first those of silent transactions, then by the rank of the transaction, and that it
+/// commits before that it aborts. The rank is most often its last event, as most memories let their transactions take effect about when
+/// they end.
 #[derive(Clone, Copy, PartialEq, Eq, PartialOrd, Ord)]
 pub(crate) struct Choice {
     pub effect: Effect,
     pub is_late: bool,
-    pub last: u32,
+    pub rank: u32,
     pub place: usize,
     pub decision: Decision,
 }
@@ -54,7 +73,7 @@ fn effect_of(silent: Option<Fate>, fate: Fate) -> Effect
 /// Adds the choice of the fate, if a completion may give it to the row's transaction, whose silent fate is known.
 fn add_choice<A: Allocator>(
     choices: &mut Vec<Choice, A>,
-    first: u32,
+    order: Order,
     place: usize,
     row: &TxRow<A>,
     silent: Option<Fate>,
@@ -66,10 +85,11 @@ fn add_choice<A: Allocator>(
     if allows(row.status(), fate) {
         let effect = effect_of(silent, fate);
         let decision = Decision { tx: row.tx(), fate };
+        let (is_late, rank) = order.rank(row);
         choices.push(Choice {
             effect,
-            is_late: row.last() < first,
-            last: row.last(),
+            is_late,
+            rank,
             place,
             decision,
         })?;
@@ -81,7 +101,7 @@ fn add_choice<A: Allocator>(
 fn add_row<A: Allocator + Copy>(
     choices: &mut Vec<Choice, A>,
     shape: &Shape<A>,
-    first: u32,
+    order: Order,
     place: usize,
     row: &TxRow<A>,
 ) -> Result<(), OutOfMemory>
@@ -89,8 +109,8 @@ fn add_row<A: Allocator + Copy>(
     ensures marked { OnOk result (StayMarked (history_of shape.now) choices.old.items choices.new.items) }
 {
     let silent = shape.silent(row.tx());
-    add_choice(choices, first, place, row, silent, Fate::C)?;
-    add_choice(choices, first, place, row, silent, Fate::A)?;
+    add_choice(choices, order, place, row, silent, Fate::C)?;
+    add_choice(choices, order, place, row, silent, Fate::A)?;
     Ok(())
 }
 
@@ -98,7 +118,7 @@ fn add_row<A: Allocator + Copy>(
 fn gather<A: Allocator + Copy>(
     alloc: A,
     shape: &Shape<A>,
-    first: u32,
+    order: Order,
     rows: &[TxRow<A>],
 ) -> Result<Vec<Choice, A>, OutOfMemory>
     ensures all { IfOk result (λ choices. map key_of choices.items ≡ choices_from 0 rows.now) }
@@ -106,22 +126,21 @@ fn gather<A: Allocator + Copy>(
 {
     let mut choices = Vec::new(alloc);
     for (place, row) in rows.iter().enumerate() {
-        add_row(&mut choices, shape, first, place, row)?;
+        add_row(&mut choices, shape, order, place, row)?;
     }
     Ok(choices)
 }
 
-/// All choices of the history, in the order of a search that begins with transactions whose last event has this place or a later
-/// one: with 0 it leaves none for later.
+/// All choices of the history, in the order.
 pub(crate) fn choices_of<A: Allocator + Copy>(
     alloc: A,
     shape: &Shape<A>,
-    first: u32,
+    order: Order,
 ) -> Result<Vec<Choice, A>, OutOfMemory>
     ensures { IfOk result (λ choices. AreChoices (history_of shape.now) choices.items) }
 {
     let _sound = shape.history();
-    let mut choices = gather(alloc, shape, first, shape.table().rows())?;
+    let mut choices = gather(alloc, shape, order, shape.table().rows())?;
     choices.sort()?;
     Ok(choices)
 }

@@ -5,6 +5,7 @@ ghost use Rattle.aud_order.specs.Shapes.{objects_of, history_of};
 ghost use Rattle.aud_search.specs.Searches.{Decides, DecidesByLetter};
 
 use crate::alone::{is_refuted_alone, lists_of, may_pay};
+use crate::choice::Order;
 use crate::memo::Memo;
 use crate::outcome::{Decided, Outcome, Searched};
 use crate::recorder::{Unnoted, Unrecorded};
@@ -27,11 +28,8 @@ pub fn decide<A: Allocator + Copy>(alloc: A, shape: &Shape<A>) -> Result<Decided
     decide_by_lists(alloc, shape)
 }
 
-/// How many times as long the second round takes as the first one.
-const LATER: u64 = 8;
-
-/// The same by lists of decisions: where that may pay by rounds, of which each searches for a while, and then as each object sees the
-/// history, and then by a search of all lists. What a round refuted the next ones remember.
+/// The same by lists of decisions: where that may pay by rounds, and then by a search of all lists. What a round refuted the next ones
+/// remember.
 fn decide_by_lists<A: Allocator + Copy>(
     alloc: A,
     shape: &Shape<A>,
@@ -42,19 +40,59 @@ fn decide_by_lists<A: Allocator + Copy>(
         return decide_wholly(alloc, shape);
     }
     let mut memo = Memo::new(alloc, shape, Unrecorded, BOUND);
-    if let Some(decided) = decide_soon(alloc, shape, 1, &mut memo)? {
-        return Ok(decided);
-    }
-    if let Some(decided) = decide_soon(alloc, shape, LATER, &mut memo)? {
+    if let Some(decided) = decide_by_rounds(alloc, shape, &mut memo)? {
         return Ok(decided);
     }
     decide_on(alloc, shape, &mut memo)
 }
 
-/// The same, as far as a round of so many times the first lists tells.
+/// The same, as far as rounds tell, each eight times as long as the one before it. They try transactions by their last and by their first
+/// events in turn: what one order comes to late the other may come to soon.
+fn decide_by_rounds<'a, A: Allocator + Copy>(
+    alloc: A,
+    shape: &'a Shape<A>,
+    memo: &mut Memo<'a, Unnoted, Unrecorded, A>,
+) -> Result<Option<Decided<A>>, OutOfMemory>
+    requires { memo.old.shape ≡ shape.now }
+    ensures decided { IfOk result (λ o. MatchOption o (Unit {0}) (Decides (objects_of shape.now) (history_of shape.now))) }
+    ensures shape { OnOk result (memo.new.shape ≡ memo.old.shape) }
+{
+    if let Some(decided) = decide_seen(alloc, shape, Order::Last(0), 1, memo)? {
+        return Ok(Some(decided));
+    }
+    if let Some(decided) = decide_seen(alloc, shape, Order::First, 8, memo)? {
+        return Ok(Some(decided));
+    }
+    if let Some(decided) = decide_soon(alloc, shape, Order::Last(0), 64, memo)? {
+        return Ok(Some(decided));
+    }
+    decide_soon(alloc, shape, Order::First, 512, memo)
+}
+
+/// The same, as far as a round of so many times the first lists tells, and then what each object sees of the history.
+fn decide_seen<'a, A: Allocator + Copy>(
+    alloc: A,
+    shape: &'a Shape<A>,
+    order: Order,
+    times: u64,
+    memo: &mut Memo<'a, Unnoted, Unrecorded, A>,
+) -> Result<Option<Decided<A>>, OutOfMemory>
+    requires { memo.old.shape ≡ shape.now }
+    ensures decided { IfOk result (λ o. MatchOption o (Unit {0}) (Decides (objects_of shape.now) (history_of shape.now))) }
+    ensures shape { OnOk result (memo.new.shape ≡ memo.old.shape) }
+{
+    let decided = decide_soon(alloc, shape, order, times, memo)?;
+    if decided.is_none() && is_refuted_alone(alloc, shape, times) {
+        return Ok(Some(Decided::NotOpaque));
+    }
+    Ok(decided)
+}
+
+/// The same, as far as a search of so many times the first lists tells.
 fn decide_soon<'a, A: Allocator + Copy>(
     alloc: A,
     shape: &'a Shape<A>,
+    order: Order,
     times: u64,
     memo: &mut Memo<'a, Unnoted, Unrecorded, A>,
 ) -> Result<Option<Decided<A>>, OutOfMemory>
@@ -65,15 +103,11 @@ fn decide_soon<'a, A: Allocator + Copy>(
     let empty = Prefix::empty(alloc);
     let lists = lists_of(shape).saturating_mul(times);
     memo.move_away();
-    match search(alloc, shape, 0, empty.decisions(), Some(lists), memo)? {
-        Outcome::Witness(witness) => return Ok(Some(Decided::Opaque(witness))),
-        Outcome::Refuted => return Ok(Some(Decided::NotOpaque)),
-        Outcome::Spent => {}
+    match search(alloc, shape, order, empty.decisions(), Some(lists), memo)? {
+        Outcome::Witness(witness) => Ok(Some(Decided::Opaque(witness))),
+        Outcome::Refuted => Ok(Some(Decided::NotOpaque)),
+        Outcome::Spent => Ok(None),
     }
-    if is_refuted_alone(alloc, shape, times) {
-        return Ok(Some(Decided::NotOpaque));
-    }
-    Ok(None)
 }
 
 /// The same by a search of all lists, over what is remembered of the shape.
@@ -87,7 +121,7 @@ fn decide_on<'a, A: Allocator + Copy>(
 {
     let empty = Prefix::empty(alloc);
     memo.move_away();
-    match search(alloc, shape, 0, empty.decisions(), None, memo)? {
+    match search(alloc, shape, Order::Last(0), empty.decisions(), None, memo)? {
         Outcome::Witness(witness) => Ok(Decided::Opaque(witness)),
         Outcome::Refuted => Ok(Decided::NotOpaque),
         // Without a budget none is spent.

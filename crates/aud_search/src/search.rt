@@ -16,7 +16,7 @@ ghost use Rattle.aud_search.specs.Memos.{Names, states_reached, IsReported, IsFu
 ghost use Rattle.aud_search.specs.Recorders.{HasNote, IsNotedFor, IsReason, AreKept, IsSilentAt, reason_by, IsNotedAfter, HasNoteAfter};
 ghost use Rattle.aud_search.specs.Turns.{IsSought, IsArrived, IsClosed, unnumbered, HasRoomMade};
 
-use crate::choice::{Choice, Effect, choices_of};
+use crate::choice::{Choice, Effect, Order, choices_of};
 use crate::memo::{Memo, Reason};
 use crate::outcome::{Ended, Outcome, Searched};
 use crate::ready::Ready;
@@ -594,11 +594,11 @@ fn search_from<'a, N: Copy, R: Recorder<N, A>, A: Allocator + Copy>(
 }
 
 /// Searches the lists that begin with the cursor's, with a budget or without, over what is remembered of the shape. After each list
-/// it tries transactions first whose last event has the place `first` or a later one.
+/// it tries transactions in the order.
 fn search_under<'a, R: Recorder<Unnoted, A>, A: Allocator + Copy>(
     alloc: A,
     shape: &'a Shape<A>,
-    first: u32,
+    order: Order,
     cursor: &mut Cursor<'a, A>,
     budget: Option<u64>,
     memo: &mut Memo<'a, Unnoted, R, A>,
@@ -618,7 +618,7 @@ fn search_under<'a, R: Recorder<Unnoted, A>, A: Allocator + Copy>(
     };
     let _sound = shape.history();
     let _within = shape.plan();
-    let choices = choices_of(alloc, shape, first)?;
+    let choices = choices_of(alloc, shape, order)?;
     let ended = search_from(alloc, shape, cursor, &choices, left, memo)?;
     Ok(ended.outcome())
 }
@@ -628,7 +628,7 @@ fn search_under<'a, R: Recorder<Unnoted, A>, A: Allocator + Copy>(
 pub(crate) fn search<'a, R: Recorder<Unnoted, A>, A: Allocator + Copy>(
     alloc: A,
     shape: &'a Shape<A>,
-    first: u32,
+    order: Order,
     prefix: &[Decision],
     budget: Option<u64>,
     memo: &mut Memo<'a, Unnoted, R, A>,
@@ -640,7 +640,7 @@ pub(crate) fn search<'a, R: Recorder<Unnoted, A>, A: Allocator + Copy>(
     let Some(mut cursor) = Cursor::after(alloc, shape, prefix)? else {
         return Ok(Outcome::Refuted);
     };
-    search_under(alloc, shape, first, &mut cursor, budget, memo)
+    search_under(alloc, shape, order, &mut cursor, budget, memo)
 }
 
 /// Whether some list that begins with the prefix shows the history, as far as the budget goes: exactly so many prefixes
@@ -655,7 +655,14 @@ pub fn explore<A: Allocator + Copy>(
     ensures { IfOk result (Reports (objects_of shape.now) (history_of shape.now) prefix.now (Some budget)) }
 {
     let mut memo = Memo::new(alloc, shape, Unrecorded, BOUND);
-    search(alloc, shape, 0, prefix.decisions(), Some(budget), &mut memo)
+    search(
+        alloc,
+        shape,
+        Order::Last(0),
+        prefix.decisions(),
+        Some(budget),
+        &mut memo,
+    )
 }
 
 /// Searches all lists, of which the empty one is not full. It is expanded first.
@@ -672,7 +679,7 @@ fn search_all<'a, N: Copy, R: Recorder<N, A>, A: Allocator + Copy>(
 {
     let _sound = shape.history();
     let _within = shape.plan();
-    let choices = choices_of(alloc, shape, 0)?;
+    let choices = choices_of(alloc, shape, Order::Last(0))?;
     let mut memo = Memo::new(alloc, shape, recorder, BOUND);
     let ended = search_from(alloc, shape, cursor, &choices, None, &mut memo)?;
     let recorder = memo.into_recorder();

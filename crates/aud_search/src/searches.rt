@@ -4,6 +4,7 @@ ghost use Rattle.std.specs.Prelude.{◌≡◌, Some, IfOk};
 ghost use Rattle.aud_order.specs.Shapes.{objects_of, history_of};
 ghost use Rattle.aud_search.specs.Searches.{Reports};
 
+use crate::choice::Order;
 use crate::memo::{LARGEST_SEEN, Memo};
 use crate::outcome::Outcome;
 use crate::recorder::Unnoted;
@@ -114,15 +115,15 @@ impl<'a, J: Scene, A: Allocator + Copy> Memory<'a, J, A> {
         ensures shape { self.new ≡ self.old }
     {
         self.memo.move_away();
-        let first = match self.shared {
+        let order = Order::Last(match self.shared {
             Some(_) => last_of(self.shape, prefix.decisions()),
             None => 0,
-        };
+        });
         let (alloc, shape, shared, room) = (self.alloc, self.shape, self.shared, self.room);
         match search(
             alloc,
             shape,
-            first,
+            order,
             prefix.decisions(),
             Some(budget),
             &mut self.memo,
