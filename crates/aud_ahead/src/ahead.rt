@@ -22,7 +22,7 @@ struct Urgent {
     place: usize,
 }
 
-/// How many rows are looked at after a list, those that end first.
+/// How many rows are looked at after a list, those that end first, where that is not about a queue.
 const LOOKS: usize = 24;
 
 /// How many rows that need a value of a cell are looked at once the cell changed.
@@ -220,6 +220,14 @@ impl<'a, A: Allocator + Copy> Ahead<'a, A> {
         }
     }
 
+    /// Whether the row at the place is on a queue.
+    fn draws(&self, place: usize) -> bool {
+        match self.briefs.get(place) {
+            Some(brief) => !brief.draws.is_empty(),
+            None => false,
+        }
+    }
+
     fn look_after(&mut self, cursor: &Cursor<A>, placed_last: usize) -> Result<bool, OutOfMemory>
         requires { cursor.now.shape ≡ self.old }
         ensures doomed { IfOk result (λ doomed. IsTrue doomed → IsDoomed cursor.now) }
@@ -227,6 +235,7 @@ impl<'a, A: Allocator + Copy> Ahead<'a, A> {
     {
         match self.find_starving(cursor, placed_last) {
             Some((slot, found)) => self.is_starved(cursor, slot, found),
+            None if self.draws(placed_last) => self.look(cursor, usize::MAX),
             None => Ok(false),
         }
     }
@@ -255,7 +264,8 @@ impl<'a, A: Allocator + Copy> Ahead<'a, A> {
     }
 
     /// Whether it is plain that no list that begins with the cursor's shows the history, though it was not so before the row at the
-    /// place was placed: some transaction reads what no other may write any more. Where memory is refused it says no.
+    /// place was placed: some transaction reads what no other may write any more, or, where the row is on a queue, may run in nothing
+    /// that may be. Where memory is refused it says no.
     pub fn is_doomed_by(&mut self, cursor: &Cursor<A>, placed_last: usize) -> bool
         requires { cursor.now.shape ≡ self.old }
         ensures doomed { IsTrue result → IsDoomed cursor.now }
