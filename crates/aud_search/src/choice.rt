@@ -40,9 +40,9 @@ impl Order {
 
 /// A decision that a completion may make, with the place of its transaction's row.
 ///
-/// Choices are ordered as a search tries them: first those of silent transactions, then by the rank of the transaction, and that it
-/// commits before that it aborts. The rank is most often its last event, as most memories let their transactions take effect about when
-/// they end.
+/// Choices are ordered as a search tries them: first those of silent transactions, and last those of transactions that the order leaves
+/// for later; then by the rank of the transaction, and that it commits before that it aborts. The rank is most often its last event, as
+/// most memories let their transactions take effect about when they end.
 #[derive(Clone, Copy, PartialEq, Eq, PartialOrd, Ord)]
 pub(crate) struct Choice {
     pub effect: Effect,
