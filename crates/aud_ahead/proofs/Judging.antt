@@ -21,13 +21,14 @@ use Rattle.aud_witness.specs.Orders.{is_allowed, is_named, Refuted}
 use Rattle.aud_witness.specs.Spots.{is_ended, status_allows}
 use Rattle.aud_witness.proofs.Bridge.{row-at, named-at, status-allowed, ended-status}
 use Rattle.aud_order.proofs.KidLemmas.{in-transactions}
-use Rattle.aud_ahead.specs.Hulls.{reached, MayComeBefore, MayComeBetween, IsHull, IsHullFrom, StandsBefore}
-use Rattle.aud_ahead.specs.Ranges.{RunNowhere, StayWithin}
-use Rattle.aud_ahead.specs.declared.cells.Lack.{Lack}
-use Rattle.aud_ahead.specs.Cells.{AreProper, lacks, Hold}
+use Rattle.aud_bounds.specs.Hulls.{reached, MayComeBefore, MayComeBetween, IsHull, IsHullFrom, StandsBefore}
+use Rattle.aud_bounds.specs.Ranges.{RunNowhere, StayWithin}
+use Rattle.aud_bounds.specs.declared.cells.Lack.{Lack}
+use Rattle.aud_bounds.specs.Cells.{AreProper, lacks, Hold}
 use Rattle.aud_ahead.specs.Bringers.{MarksBringers, IsNextOpen}
-use Rattle.aud_ahead.specs.Outlooks.{may_come, may_come_between, HasToPrecede, AreClosedBy, AreClosed, AreClosedBetween}
-use Rattle.aud_ahead.proofs.HullLemmas.{refuted-by_hull, refuted-between}
+use Rattle.aud_bounds.specs.Coming.{may_come, may_come_between, HasToPrecede}
+use Rattle.aud_bounds.proofs.HullLemmas.{refuted-by_hull, refuted-between}
+use Rattle.aud_ahead.specs.Outlooks.{AreClosedBy, AreClosed, AreClosedBetween}
 
 -- where a transaction stands among others
 place-among : (ts : List ℕ) (t : ℕ) → list_any (nat_eq t) ts ≡ true → (k : ℕ) × ((k < length ts) × (get_or ts k 0 ≡ t))

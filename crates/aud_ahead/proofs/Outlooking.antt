@@ -1,58 +1,23 @@
 -- What may be of cells, of counters and of queues, together; and that what is now may be.
-use Rattle.std.specs.Prelude.{◌≡◌, ℕ, ℤ, zero, suc, Bool, true, false, ◌||◌, List, [], ◌∷◌, map, Option, Some, None, slice_index_or, refl}
+use Rattle.std.specs.Prelude.{◌≡◌, ℤ, Bool, true, false, ◌||◌, List, [], Option, Some, None, slice_index_or, refl}
 use Rattle.std.specs.List.{list_any}
 use Rattle.std.proofs.Common.{sym, ◌∙◌, ap, subst, arith}
 use Rattle.std.proofs.lemmas.List.{append-nil}
-use Rattle.aud_event.specs.declared.fact.Event.{Event}
-use Rattle.aud_event.specs.declared.fact.Event.TheVariants.{Inv, Ret, TryC, TryA, Commit, Abort}
 use Rattle.aud_event.specs.Meanings.{Declared}
-use Rattle.aud_object.specs.Objects.{ObjState, opening_of, after_op, on_object, items_of}
-use Rattle.aud_object.specs.Executions.{state_after, states_after_from}
+use Rattle.aud_object.specs.Objects.{ObjState, items_of}
 use Rattle.aud_object.specs.declared.execution.Execution.{Execution}
 use Rattle.aud_history.specs.Histories.{History}
 use Rattle.aud_witness.specs.declared.decision.Decision.{Decision}
-use Rattle.aud_witness.specs.Orders.{kept}
-use Rattle.aud_ahead.specs.declared.cell.Key.{Key}
-use Rattle.aud_ahead.specs.declared.cell.Cell.{Cell}
-use Rattle.aud_ahead.specs.Hulls.{reached}
-use Rattle.aud_ahead.specs.Ranges.{RunNowhere, StayWithin}
-use Rattle.aud_ahead.specs.Cells.{cell_of, same_value, is_now, is_cell, may_hold, AreProper, Hold}
-use Rattle.aud_ahead.specs.Spans.{AreWithin}
-use Rattle.aud_ahead.specs.Queues.{QueuesOf, gone_of, come_of, is_among, IsLeft, AreLeft}
+use Rattle.aud_bounds.specs.declared.cell.Key.{Key}
+use Rattle.aud_bounds.specs.declared.cell.Cell.{Cell}
+use Rattle.aud_bounds.specs.Hulls.{reached}
+use Rattle.aud_bounds.specs.Ranges.{RunNowhere, StayWithin}
+use Rattle.aud_bounds.specs.Cells.{cell_of, same_value, is_now, is_cell, may_hold, AreProper, Hold}
+use Rattle.aud_bounds.specs.Spans.{AreWithin}
+use Rattle.aud_bounds.specs.Queues.{QueuesOf, gone_of, come_of, is_among, IsLeft, AreLeft}
+use Rattle.aud_bounds.proofs.CellLemmas.{unsome, same_value-itself}
+use Rattle.aud_bounds.proofs.Reached.{proper-reached}
 use Rattle.aud_ahead.specs.Outlooks.{OutlookOf, MayBe}
-use Rattle.aud_object.specs.Proper.{IsProper}
-use Rattle.aud_object.proofs.Proper.{proper-after, proper-opening}
-use Rattle.aud_ahead.proofs.CellLemmas.{unsome, same_value-itself}
-
--- # States that are reached are proper
-
-proper-events : (s : ObjState) (es : List Event) → IsProper s → IsProper (state_after s es)
-proper-events s [] h = h
-proper-events s (Inv ob op ∷ []) h = h
-proper-events s (Inv ob op ∷ Ret a b c ∷ es) h = proper-events (after_op s op) es (proper-after s op h)
-proper-events s (Inv ob op ∷ Inv a b ∷ es) h = h
-proper-events s (Inv ob op ∷ TryC ∷ es) h = h
-proper-events s (Inv ob op ∷ TryA ∷ es) h = h
-proper-events s (Inv ob op ∷ Commit ∷ es) h = h
-proper-events s (Inv ob op ∷ Abort ∷ es) h = h
-proper-events s (Ret a b c ∷ es) h = h
-proper-events s (TryC ∷ es) h = h
-proper-events s (TryA ∷ es) h = h
-proper-events s (Commit ∷ es) h = h
-proper-events s (Abort ∷ es) h = h
-
-proper-from : (n : ℕ) (states : List ObjState) (es : List Event) → AreProper states → AreProper (states_after_from n states es)
-proper-from n [] es h ob s at = absurd (cc)
-proper-from n (z ∷ states) es h zero s at = subst IsProper (unsome at) (proper-events z (on_object n es) (h 0 z refl))
-proper-from n (z ∷ states) es h (suc ob) s at = proper-from (suc n) states es (λ k q e. h (suc k) q e) ob s at
-
-proper-openings : (objects : List Declared) → AreProper (map opening_of objects)
-proper-openings [] ob s at = absurd (cc)
-proper-openings (d ∷ objects) zero s at = subst IsProper (unsome at) (proper-opening d)
-proper-openings (d ∷ objects) (suc ob) s at = proper-openings objects ob s at
-
-pub proper-reached : (objects : List Declared) (h : History) (p : List Decision) → AreProper (reached objects h p)
-proper-reached objects h p = proper-from 0 (map opening_of objects) (kept h p) (proper-openings objects)
 
 -- # What is now may be
 

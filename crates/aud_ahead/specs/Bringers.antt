@@ -1,9 +1,9 @@
 -- The rows that may bring a cell the one value that it lacks.
 use Rattle.std.specs.Prelude.{◌≡◌, ◌≤◌, ◌<◌, ℕ, Bool, false, List, Option, Some, None, slice_get, slice_index_or}
 use Rattle.aud_history.specs.Table.{RowOf}
-use Rattle.aud_ahead.specs.declared.cells.Lack.{Lack}
-use Rattle.aud_ahead.specs.Cells.{lacks, Hold}
-use Rattle.aud_ahead.specs.Ranges.{StayWithin}
+use Rattle.aud_bounds.specs.declared.cells.Lack.{Lack}
+use Rattle.aud_bounds.specs.Cells.{lacks, Hold}
+use Rattle.aud_bounds.specs.Ranges.{StayWithin}
 
 -- of the rows, each that is not marked leaves the cell lacking the value, where it lacked it before
 abbrev pub MarksBringers : List RowOf → Lack → List Bool → Type 0

@@ -5,11 +5,10 @@ ghost use Rattle.aud_ahead.specs.Outlooks.{IsDoomed};
 
 use crate::brief::{Brief, Slot, Slots, briefs_of};
 use crate::bringers::Supply;
-use crate::cell::Cell;
-use crate::cells::Lack;
 use crate::judge::{is_cut_off, is_starved, is_stuck};
 use crate::sight::{Sight, admit_until};
 use crate::wants::{Starving, Wants};
+use aud_bounds::{Cell, Lack};
 use aud_event::OutOfMemory;
 use aud_order::{Cursor, Shape};
 use std::alloc::{Allocator, Global};

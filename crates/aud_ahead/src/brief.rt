@@ -1,9 +1,8 @@
 //! What a transaction's block needs of cells, counters and queues, and what it leaves there. None of this is proved: it only says where to
 //! look.
 
-use crate::cell::{Cell, Key, seen_by, told_by};
-use crate::judge::has_ended;
 use crate::line::Draw;
+use aud_bounds::{Cell, Key, has_ended, seen_by, told_by};
 use aud_event::{Answer, Op, OutOfMemory};
 use aud_history::TxRow;
 use aud_object::Execution;

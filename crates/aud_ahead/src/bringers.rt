@@ -4,10 +4,10 @@ ghost use Rattle.std.specs.Prelude.{◌≡◌, IfOk, MatchOption, IsTrue};
 ghost use Rattle.aud_history.specs.Table.{table_of};
 ghost use Rattle.aud_order.specs.Shapes.{history_of};
 ghost use Rattle.aud_ahead.specs.Bringers.{MarksBringers};
-ghost use Rattle.aud_ahead.specs.Cells.{lacks, Hold};
-ghost use Rattle.aud_ahead.specs.Ranges.{StayWithin};
+ghost use Rattle.aud_bounds.specs.Cells.{lacks, Hold};
+ghost use Rattle.aud_bounds.specs.Ranges.{StayWithin};
 
-use crate::cells::Lack;
+use aud_bounds::Lack;
 use aud_event::OutOfMemory;
 use aud_history::TxRow;
 use aud_marks::Marks;

@@ -2,40 +2,20 @@
 
 ghost use Rattle.std.specs.Prelude.{◌≡◌, ◌<◌, IsTrue, false, true, length};
 ghost use Rattle.aud_history.specs.Table.{table_of};
-ghost use Rattle.aud_witness.specs.Spots.{is_ended};
 ghost use Rattle.aud_order.specs.Shapes.{history_of};
-ghost use Rattle.aud_ahead.specs.Ranges.{StayWithin};
+ghost use Rattle.aud_bounds.specs.Ranges.{StayWithin};
 ghost use Rattle.aud_ahead.specs.Bringers.{IsNextOpen, MarksBringers};
-ghost use Rattle.aud_ahead.specs.Outlooks.{may_come, may_come_between, AreClosed, AreClosedBetween, HasToPrecede, IsDoomed, MayBe};
-ghost use Rattle.aud_ahead.specs.Cells.{lacks, Hold};
+ghost use Rattle.aud_bounds.specs.Coming.{may_come};
+ghost use Rattle.aud_bounds.specs.Cells.{lacks, Hold};
+ghost use Rattle.aud_ahead.specs.Outlooks.{AreClosed, AreClosedBetween, IsDoomed, MayBe};
 
 use crate::bringers::Bringers;
-use crate::cells::{Loose, may_run};
 use crate::outlook::Outlook;
-use crate::queues::Queues;
-use crate::span::Spans;
-use aud_history::{Status, TxRow};
+use aud_bounds::{Loose, Queues, Spans, has_to_precede, may_come, may_come_between, may_run};
+use aud_history::TxRow;
 use aud_marks::Marks;
 use aud_order::{Cursor, Shape};
-use aud_witness::{Fate, allows};
 use std::alloc::Allocator;
-
-/// Whether a transaction of the status is committed or aborted.
-pub(crate) fn has_ended(status: Status) -> bool
-    ensures { result ≡ is_ended status }
-{
-    match status {
-        Status::Committed | Status::Aborted => true,
-        Status::CommitPending | Status::Live => false,
-    }
-}
-
-/// Whether the other row's transaction may commit before the row's.
-fn may_come<A: Allocator>(row: &TxRow<A>, other: &TxRow<A>) -> bool
-    ensures { result ≡ may_come row.now other.now }
-{
-    allows(other.status(), Fate::C) && !(has_ended(row.status()) && row.last() < other.first())
-}
 
 /// Whether the other row leads from what may be to what may be, where it is not placed and may come before the row.
 fn stays_under<A: Allocator + Copy>(
@@ -95,20 +75,6 @@ pub(crate) fn is_stuck<A: Allocator + Copy>(
         return false;
     }
     outlook.holds() && is_closed(&outlook, rows, placed, row)
-}
-
-/// Whether the first row's transaction commits, and ends before the other one's begins.
-fn has_to_precede<A: Allocator>(row: &TxRow<A>, other: &TxRow<A>) -> bool
-    ensures { IsTrue result → HasToPrecede row.now other.now }
-{
-    !allows(row.status(), Fate::A) && has_ended(row.status()) && row.last() < other.first()
-}
-
-/// Whether the third row's transaction may commit between those of the first and the second one.
-fn may_come_between<A: Allocator>(start: &TxRow<A>, row: &TxRow<A>, other: &TxRow<A>) -> bool
-    ensures { result ≡ may_come_between start.now row.now other.now }
-{
-    may_come(row, other) && !(has_ended(other.status()) && other.last() < start.first())
 }
 
 /// The first from a place on of the rows that may bring the value and are not placed.

@@ -5,15 +5,10 @@
 mod ahead;
 mod brief;
 mod bringers;
-mod cell;
-mod cells;
 mod judge;
-pub mod laws;
 mod line;
 mod outlook;
-mod queues;
 mod sight;
-mod span;
 mod wants;
 
 pub use ahead::Ahead;

@@ -1,13 +1,11 @@
 //! What objects may be in front of a transaction.
 
 ghost use Rattle.std.specs.Prelude.{◌≡◌, IsTrue, false};
+ghost use Rattle.aud_bounds.specs.Ranges.{RunNowhere, StayWithin};
+ghost use Rattle.aud_bounds.specs.Spans.{AreWithin};
 ghost use Rattle.aud_ahead.specs.Outlooks.{MayBe};
-ghost use Rattle.aud_ahead.specs.Ranges.{RunNowhere, StayWithin};
-ghost use Rattle.aud_ahead.specs.Spans.{AreWithin};
 
-use crate::cells::{Listed, Loose, may_run, stays};
-use crate::queues::Queues;
-use crate::span::Spans;
+use aud_bounds::{Listed, Loose, Queues, Spans, may_run, stays};
 use aud_object::{Execution, Store};
 use std::alloc::{Allocator, Global};
 use std::marker::Model;

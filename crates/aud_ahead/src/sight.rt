@@ -1,11 +1,8 @@
 //! What may be, found by going over the rows that may come. None of this is proved: what it finds is judged.
 
 use crate::brief::{Brief, Move, Slot, Touch};
-use crate::cell::{Cell, Key, one_if};
-use crate::cells::Loose;
 use crate::line::{Draw, Line};
-use crate::queues::Queues;
-use crate::span::{Span, Spans};
+use aud_bounds::{Cell, Key, Loose, Queues, Span, Spans, one_if};
 use aud_event::{Answer, Op, OutOfMemory};
 use aud_marks::Marks;
 use aud_object::{Number, Store};

@@ -5,8 +5,8 @@ use Rattle.std.proofs.lemmas.Option.{slice_get_within}
 use Rattle.aud_object.specs.declared.execution.Execution.{Execution}
 use Rattle.std.specs.Prelude.{List}
 use Rattle.aud_history.specs.Table.{RowOf}
-use Rattle.aud_ahead.specs.Cells.{lacks, Hold}
-use Rattle.aud_ahead.specs.Ranges.{StayWithin}
+use Rattle.aud_bounds.specs.Cells.{lacks, Hold}
+use Rattle.aud_bounds.specs.Ranges.{StayWithin}
 use Rattle.aud_ahead.proofs.BringerLemmas.{AreMarked, marked-such, marked-put}
 use Rattle.aud_ahead.proofs.bringers.marks_of.Goals as goal
 use Rattle.aud_ahead.proofs.bringers.marks_of.Goals.{then-not-is_kept, else-not-is_kept}

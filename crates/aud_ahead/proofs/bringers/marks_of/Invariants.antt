@@ -1,6 +1,6 @@
 use Rattle.std.specs.Prelude.{◌≡◌, length}
-use Rattle.aud_ahead.specs.Cells.{lacks, Hold}
-use Rattle.aud_ahead.specs.Ranges.{StayWithin}
+use Rattle.aud_bounds.specs.Cells.{lacks, Hold}
+use Rattle.aud_bounds.specs.Ranges.{StayWithin}
 use Rattle.aud_ahead.proofs.BringerLemmas.{AreMarked}
 use Rattle.aud_ahead.proofs.bringers.marks_of.Given as goal
 

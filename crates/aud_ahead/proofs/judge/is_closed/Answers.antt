@@ -1,4 +1,5 @@
-use Rattle.aud_ahead.specs.Outlooks.{may_come, MayBe}
+use Rattle.aud_bounds.specs.Coming.{may_come}
+use Rattle.aud_ahead.specs.Outlooks.{MayBe}
 use Rattle.aud_ahead.proofs.Judging.{closed-all, closed-more}
 use Rattle.aud_ahead.proofs.judge.is_closed.Goals as goal
 

@@ -3,9 +3,9 @@ use Rattle.std.proofs.Common.{sym, ◌∙◌, ap, subst}
 use Rattle.aud_history.specs.Table.{transactions, table_of}
 use Rattle.aud_witness.specs.Orders.{is_named}
 use Rattle.aud_order.specs.Shapes.{plan_of, history_of}
-use Rattle.aud_ahead.specs.Cells.{lacks, Hold, LeadWithin}
+use Rattle.aud_bounds.specs.Cells.{lacks, Hold, LeadWithin}
 use Rattle.aud_ahead.specs.Bringers.{MarksBringers}
-use Rattle.aud_ahead.specs.Ranges.{RunNowhere}
+use Rattle.aud_bounds.specs.Ranges.{RunNowhere}
 use Rattle.aud_ahead.specs.Outlooks.{IsDoomed, AreClosedBetween}
 use Rattle.aud_ahead.proofs.Judging.{refuted-cut}
 use Rattle.aud_ahead.proofs.judge.is_cut_off.Goals as goal

@@ -5,14 +5,14 @@ use Rattle.std.specs.Prelude.{List, true}
 use Rattle.aud_history.specs.Table.{transactions, table_of}
 use Rattle.aud_witness.specs.Orders.{is_named}
 use Rattle.aud_order.specs.Shapes.{plan_of, objects_of, history_of}
-use Rattle.aud_ahead.specs.Hulls.{reached}
+use Rattle.aud_bounds.specs.Hulls.{reached}
 use Rattle.aud_ahead.specs.Bringers.{MarksBringers}
-use Rattle.aud_ahead.specs.Cells.{lacks, is_lacking, Hold}
-use Rattle.aud_ahead.specs.Ranges.{RunNowhere}
+use Rattle.aud_bounds.specs.Cells.{lacks, is_lacking, Hold}
+use Rattle.aud_bounds.specs.Ranges.{RunNowhere}
+use Rattle.aud_bounds.proofs.CellLemmas.{lacking-holds}
+use Rattle.aud_bounds.proofs.Reached.{proper-reached}
 use Rattle.aud_ahead.specs.Outlooks.{IsDoomed, AreClosed}
-use Rattle.aud_ahead.proofs.CellLemmas.{lacking-holds}
 use Rattle.aud_ahead.proofs.Judging.{refuted-stuck}
-use Rattle.aud_ahead.proofs.Outlooking.{proper-reached}
 use Rattle.aud_ahead.proofs.judge.is_starved.Goals as goal
 
 pub none_brings-requires : goal.none_brings-requires

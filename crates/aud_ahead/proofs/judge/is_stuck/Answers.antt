@@ -3,8 +3,8 @@ use Rattle.std.proofs.Common.{sym, ◌∙◌, ap, subst}
 use Rattle.aud_history.specs.Table.{transactions, table_of}
 use Rattle.aud_witness.specs.Orders.{is_named}
 use Rattle.aud_order.specs.Shapes.{plan_of, objects_of, history_of}
-use Rattle.aud_ahead.specs.Hulls.{reached}
-use Rattle.aud_ahead.specs.Ranges.{RunNowhere}
+use Rattle.aud_bounds.specs.Hulls.{reached}
+use Rattle.aud_bounds.specs.Ranges.{RunNowhere}
 use Rattle.aud_ahead.specs.Outlooks.{IsDoomed, AreClosed, MayBe, OutlookOf}
 use Rattle.aud_ahead.proofs.Judging.{refuted-stuck}
 use Rattle.aud_ahead.proofs.Outlooking.{may-be-now}

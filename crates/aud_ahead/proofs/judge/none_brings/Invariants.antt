@@ -1,5 +1,5 @@
 use Rattle.std.specs.Prelude.{◌-◌, length}
-use Rattle.aud_ahead.specs.Cells.{lacks, Hold}
+use Rattle.aud_bounds.specs.Cells.{lacks, Hold}
 use Rattle.aud_ahead.specs.Outlooks.{AreClosed}
 use Rattle.aud_ahead.proofs.judge.none_brings.Given as goal
 

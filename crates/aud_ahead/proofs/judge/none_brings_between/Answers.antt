@@ -1,5 +1,5 @@
 use Rattle.std.proofs.Common.{sym, ◌∙◌}
-use Rattle.aud_ahead.specs.Outlooks.{may_come_between}
+use Rattle.aud_bounds.specs.Coming.{may_come_between}
 use Rattle.aud_ahead.proofs.Judging.{closed-after, closed-rest}
 use Rattle.aud_ahead.proofs.judge.none_brings_between.Goals as goal
 

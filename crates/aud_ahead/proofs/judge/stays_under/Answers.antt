@@ -1,7 +1,7 @@
 use Rattle.std.specs.Prelude.{List}
 use Rattle.std.proofs.Common.{◌∙◌, ap, subst}
 use Rattle.aud_object.specs.declared.execution.Execution.{Execution}
-use Rattle.aud_ahead.specs.Ranges.{StayWithin}
+use Rattle.aud_bounds.specs.Ranges.{StayWithin}
 use Rattle.aud_ahead.specs.Outlooks.{MayBe}
 use Rattle.aud_ahead.proofs.judge.stays_under.Goals as goal
 

@@ -1,10 +1,10 @@
 use Rattle.std.specs.Prelude.{List}
 use Rattle.std.proofs.Common.{subst}
 use Rattle.aud_object.specs.Objects.{ObjState}
-use Rattle.aud_ahead.specs.declared.cell.Cell.{Cell}
-use Rattle.aud_ahead.specs.Cells.{may_hold, Hold}
+use Rattle.aud_bounds.specs.declared.cell.Cell.{Cell}
+use Rattle.aud_bounds.specs.Cells.{may_hold, Hold}
+use Rattle.aud_bounds.specs.Ranges.{RunNowhere}
 use Rattle.aud_ahead.specs.Outlooks.{OutlookOf, MayBe}
-use Rattle.aud_ahead.specs.Ranges.{RunNowhere}
 use Rattle.aud_ahead.proofs.Outlooking.{nowhere_cells, nowhere_counters, nowhere_queues}
 use Rattle.aud_ahead.proofs.outlook.Outlook.may_run.Goals as goal
 

@@ -1,5 +1,5 @@
+use Rattle.aud_bounds.proofs.CellLemmas.{nowhere-stays_within}
 use Rattle.aud_ahead.specs.Outlooks.{MayBe}
-use Rattle.aud_ahead.proofs.CellLemmas.{nowhere-stays_within}
 use Rattle.aud_ahead.proofs.outlook.Outlook.stays.Goals as goal
 
 pub returns-then-not-may_run : goal.returns-then-not-may_run

@@ -1,0 +1,5 @@
+pub mod HullLemmas
+pub mod CellLemmas
+pub mod SpanLemmas
+pub mod QueueLemmas
+pub mod Reached

@@ -1,0 +1,6 @@
+pub mod Hulls
+pub mod Ranges
+pub mod Cells
+pub mod Spans
+pub mod Queues
+pub mod Coming
