@@ -35,12 +35,13 @@ pub(crate) fn lists_of<A: Allocator + Copy>(shape: &Shape<A>) -> u64 {
     LISTS.saturating_add(shape.table().rows().len() as u64)
 }
 
-/// Whether no list shows the history as the object sees it, as far as a search of so many times its lists tells.
+/// Whether no list shows the history as the object sees it, as far as a search of so many times its lists tells, but of so many at most.
 fn is_refuted_for<A: Allocator + Copy>(
     alloc: A,
     shape: &Shape<A>,
     object: u16,
     times: u64,
+    most: u64,
 ) -> Result<bool, OutOfMemory>
     ensures { IfOk result (λ yes. IsTrue yes → Refuted (objects_of shape.now) (history_of shape.now) []) }
 {
@@ -49,25 +50,40 @@ fn is_refuted_for<A: Allocator + Copy>(
     let Some(other) = alone(alloc, shape, object)? else {
         return Ok(false);
     };
-    let lists = lists_of(&other).saturating_mul(TIMES.saturating_mul(times));
+    let lists = lists_of(&other)
+        .saturating_mul(TIMES.saturating_mul(times))
+        .min(most);
     match explore(alloc, &other, &Prefix::empty(alloc), lists)? {
         Outcome::Refuted => Ok(true),
         Outcome::Witness(_) | Outcome::Spent => Ok(false),
     }
 }
 
-/// Whether no list shows the history as some object sees it, as far as searches of so many times their lists tell. Where
-/// memory is refused it says no.
-pub(crate) fn is_refuted_alone<A: Allocator + Copy>(alloc: A, shape: &Shape<A>, times: u64) -> bool
-    ensures { IsTrue result → Refuted (objects_of shape.now) (history_of shape.now) [] }
+/// Whether no list shows the history as some object sees it, as far as searches of so many times their lists tell, but of so many each at
+/// most.
+pub(crate) fn find_refuted_alone<A: Allocator + Copy>(
+    alloc: A,
+    shape: &Shape<A>,
+    times: u64,
+    most: u64,
+) -> Result<bool, OutOfMemory>
+    ensures { IfOk result (λ yes. IsTrue yes → Refuted (objects_of shape.now) (history_of shape.now) []) }
 {
     let objects = shape.plan().objects().len();
     for object in 0..objects {
-        match is_refuted_for(alloc, shape, object as u16, times) {
-            Ok(true) => return true,
-            Ok(false) => {}
-            Err(_) => return false,
+        if is_refuted_for(alloc, shape, object as u16, times, most)? {
+            return Ok(true);
         }
     }
-    false
+    Ok(false)
+}
+
+/// The same with no other bound. Where memory is refused it says no.
+pub(crate) fn is_refuted_alone<A: Allocator + Copy>(alloc: A, shape: &Shape<A>, times: u64) -> bool
+    ensures { IsTrue result → Refuted (objects_of shape.now) (history_of shape.now) [] }
+{
+    match find_refuted_alone(alloc, shape, times, u64::MAX) {
+        Ok(is_refuted) => is_refuted,
+        Err(_) => false,
+    }
 }

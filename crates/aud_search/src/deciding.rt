@@ -10,6 +10,7 @@ use crate::memo::Memo;
 use crate::outcome::{Decided, Outcome, Searched};
 use crate::recorder::{Unnoted, Unrecorded};
 use crate::room::BOUND;
+use crate::rules::Rules;
 use crate::search::{search, search_with};
 use aud_event::OutOfMemory;
 use aud_order::Shape;
@@ -29,7 +30,7 @@ pub fn decide<A: Allocator + Copy>(alloc: A, shape: &Shape<A>) -> Result<Decided
 }
 
 /// The same by lists of decisions: where that may pay by rounds, and then by a search of all lists. What a round refuted the next ones
-/// remember.
+/// remember, and the rules that came into play in one stay there.
 fn decide_by_lists<A: Allocator + Copy>(
     alloc: A,
     shape: &Shape<A>,
@@ -40,52 +41,43 @@ fn decide_by_lists<A: Allocator + Copy>(
         return decide_wholly(alloc, shape);
     }
     let mut memo = Memo::new(alloc, shape, Unrecorded, BOUND);
-    if let Some(decided) = decide_by_rounds(alloc, shape, &mut memo)? {
+    let mut rules = Rules::new(alloc, shape);
+    if let Some(decided) = decide_by_rounds(alloc, shape, &mut memo, &mut rules)? {
         return Ok(decided);
     }
-    decide_on(alloc, shape, &mut memo)
+    decide_on(alloc, shape, &mut memo, &mut rules)
 }
 
 /// The same, as far as rounds tell, each eight times as long as the one before it. They try transactions by their last and by their first
-/// events in turn: what one order comes to late the other may come to soon.
+/// events in turn: what one order comes to late the other may come to soon. After each of the first two is looked what each object sees.
 fn decide_by_rounds<'a, A: Allocator + Copy>(
     alloc: A,
     shape: &'a Shape<A>,
     memo: &mut Memo<'a, Unnoted, Unrecorded, A>,
+    rules: &mut Rules<'a, A>,
 ) -> Result<Option<Decided<A>>, OutOfMemory>
-    requires { memo.old.shape ≡ shape.now }
+    requires memo { memo.old.shape ≡ shape.now }
+    requires rules { rules.old ≡ shape.now }
     ensures decided { IfOk result (λ o. MatchOption o (Unit {0}) (Decides (objects_of shape.now) (history_of shape.now))) }
     ensures shape { OnOk result (memo.new.shape ≡ memo.old.shape) }
+    ensures same { rules.new ≡ rules.old }
 {
-    if let Some(decided) = decide_seen(alloc, shape, Order::Last(0), 1, memo)? {
+    if let Some(decided) = decide_soon(alloc, shape, Order::Last(0), 1, memo, rules)? {
         return Ok(Some(decided));
     }
-    if let Some(decided) = decide_seen(alloc, shape, Order::First, 8, memo)? {
-        return Ok(Some(decided));
-    }
-    if let Some(decided) = decide_soon(alloc, shape, Order::Last(0), 64, memo)? {
-        return Ok(Some(decided));
-    }
-    decide_soon(alloc, shape, Order::First, 512, memo)
-}
-
-/// The same, as far as a round of so many times the first lists tells, and then what each object sees of the history.
-fn decide_seen<'a, A: Allocator + Copy>(
-    alloc: A,
-    shape: &'a Shape<A>,
-    order: Order,
-    times: u64,
-    memo: &mut Memo<'a, Unnoted, Unrecorded, A>,
-) -> Result<Option<Decided<A>>, OutOfMemory>
-    requires { memo.old.shape ≡ shape.now }
-    ensures decided { IfOk result (λ o. MatchOption o (Unit {0}) (Decides (objects_of shape.now) (history_of shape.now))) }
-    ensures shape { OnOk result (memo.new.shape ≡ memo.old.shape) }
-{
-    let decided = decide_soon(alloc, shape, order, times, memo)?;
-    if decided.is_none() && is_refuted_alone(alloc, shape, times) {
+    if is_refuted_alone(alloc, shape, 1) {
         return Ok(Some(Decided::NotOpaque));
     }
-    Ok(decided)
+    if let Some(decided) = decide_soon(alloc, shape, Order::First, 8, memo, rules)? {
+        return Ok(Some(decided));
+    }
+    if is_refuted_alone(alloc, shape, 8) {
+        return Ok(Some(Decided::NotOpaque));
+    }
+    if let Some(decided) = decide_soon(alloc, shape, Order::Last(0), 64, memo, rules)? {
+        return Ok(Some(decided));
+    }
+    decide_soon(alloc, shape, Order::First, 512, memo, rules)
 }
 
 /// The same, as far as a search of so many times the first lists tells.
@@ -95,15 +87,26 @@ fn decide_soon<'a, A: Allocator + Copy>(
     order: Order,
     times: u64,
     memo: &mut Memo<'a, Unnoted, Unrecorded, A>,
+    rules: &mut Rules<'a, A>,
 ) -> Result<Option<Decided<A>>, OutOfMemory>
-    requires { memo.old.shape ≡ shape.now }
+    requires memo { memo.old.shape ≡ shape.now }
+    requires rules { rules.old ≡ shape.now }
     ensures decided { IfOk result (λ o. MatchOption o (Unit {0}) (Decides (objects_of shape.now) (history_of shape.now))) }
     ensures shape { OnOk result (memo.new.shape ≡ memo.old.shape) }
+    ensures same { rules.new ≡ rules.old }
 {
     let empty = Prefix::empty(alloc);
     let lists = lists_of(shape).saturating_mul(times);
     memo.move_away();
-    match search(alloc, shape, order, empty.decisions(), Some(lists), memo)? {
+    match search(
+        alloc,
+        shape,
+        order,
+        empty.decisions(),
+        Some(lists),
+        memo,
+        rules,
+    )? {
         Outcome::Witness(witness) => Ok(Some(Decided::Opaque(witness))),
         Outcome::Refuted => Ok(Some(Decided::NotOpaque)),
         Outcome::Spent => Ok(None),
@@ -115,13 +118,23 @@ fn decide_on<'a, A: Allocator + Copy>(
     alloc: A,
     shape: &'a Shape<A>,
     memo: &mut Memo<'a, Unnoted, Unrecorded, A>,
+    rules: &mut Rules<'a, A>,
 ) -> Result<Decided<A>, OutOfMemory>
-    requires { memo.old.shape ≡ shape.now }
+    requires memo { memo.old.shape ≡ shape.now }
+    requires rules { rules.old ≡ shape.now }
     ensures { IfOk result (Decides (objects_of shape.now) (history_of shape.now)) }
 {
     let empty = Prefix::empty(alloc);
     memo.move_away();
-    match search(alloc, shape, Order::Last(0), empty.decisions(), None, memo)? {
+    match search(
+        alloc,
+        shape,
+        Order::Last(0),
+        empty.decisions(),
+        None,
+        memo,
+        rules,
+    )? {
         Outcome::Witness(witness) => Ok(Decided::Opaque(witness)),
         Outcome::Refuted => Ok(Decided::NotOpaque),
         // Without a budget none is spent.

@@ -86,6 +86,17 @@ impl<'a, A: Allocator + Copy> Rules<'a, A> {
         }
     }
 
+    /// A search begins with so many decisions. Where the rules are in play already, its first list is looked at.
+    pub(crate) fn restart(&mut self, depth: usize)
+        ensures { self.new ≡ self.old }
+    {
+        self.unseen = if self.are_in_play() {
+            depth.saturating_add(1)
+        } else {
+            0
+        };
+    }
+
     /// Brings the rules into play.
     fn begin(&mut self) -> Result<(), OutOfMemory>
         ensures { self.new ≡ self.old }

@@ -535,6 +535,7 @@ fn search_on<N: Copy, R: Recorder<N, A>, A: Allocator + Copy>(
     requires first { turns.old.items ≡ [] }
     ensures reported { IfOk result (ReportsAt cursor.old (R.noted memo.new.recorder) budget) }
     ensures shape { OnOk result (memo.new.shape ≡ memo.old.shape) }
+    ensures same { rules.new ≡ rules.old }
 {
     let mut left = budget;
     let mut here = Turn::new(None);
@@ -567,7 +568,8 @@ fn search_on<N: Copy, R: Recorder<N, A>, A: Allocator + Copy>(
     }
 }
 
-/// Searches the lists that begin with the cursor's, which is expanded first. What is refuted is remembered.
+/// Searches the lists that begin with the cursor's, which is expanded first. What is refuted is remembered, and rules that come into
+/// play stay there.
 fn search_from<'a, N: Copy, R: Recorder<N, A>, A: Allocator + Copy>(
     alloc: A,
     shape: &'a Shape<A>,
@@ -575,6 +577,7 @@ fn search_from<'a, N: Copy, R: Recorder<N, A>, A: Allocator + Copy>(
     choices: &[Choice],
     budget: Option<u64>,
     memo: &mut Memo<'a, N, R, A>,
+    rules: &mut Rules<'a, A>,
 ) -> Result<Ended<N, A>, OutOfMemory>
     requires memo { memo.old.shape ≡ shape.now }
     requires shape { cursor.old.shape ≡ shape.now }
@@ -582,14 +585,16 @@ fn search_from<'a, N: Copy, R: Recorder<N, A>, A: Allocator + Copy>(
     requires unfull { IsFull (history_of cursor.old.shape) cursor.old.path → ⊥ }
     requires fine { IsWellFormed (history_of cursor.old.shape) }
     requires within { IsWithinLimits (plan_of cursor.old.shape) (history_of cursor.old.shape) }
+    requires rules { rules.old ≡ shape.now }
     ensures reported { IfOk result (ReportsAt cursor.old (R.noted memo.new.recorder) budget) }
     ensures shape { OnOk result (memo.new.shape ≡ memo.old.shape) }
+    ensures same { rules.new ≡ rules.old }
 {
     let mut ready = Ready::at(alloc, shape, choices, cursor)?;
     let mut turns = Vec::new(alloc);
-    let mut rules = Rules::new(alloc, shape);
+    rules.restart(cursor.prefix().len());
     search_on(
-        alloc, cursor, choices, budget, memo, &mut ready, &mut turns, &mut rules,
+        alloc, cursor, choices, budget, memo, &mut ready, &mut turns, rules,
     )
 }
 
@@ -602,11 +607,14 @@ fn search_under<'a, R: Recorder<Unnoted, A>, A: Allocator + Copy>(
     cursor: &mut Cursor<'a, A>,
     budget: Option<u64>,
     memo: &mut Memo<'a, Unnoted, R, A>,
+    rules: &mut Rules<'a, A>,
 ) -> Result<Outcome<A>, OutOfMemory>
     requires memo { memo.old.shape ≡ shape.now }
     requires shape { cursor.old.shape ≡ shape.now }
+    requires rules { rules.old ≡ shape.now }
     ensures reported { IfOk result (Reports (objects_of shape.now) (history_of shape.now) cursor.old.path budget) }
     ensures shape { OnOk result (memo.new.shape ≡ memo.old.shape) }
+    ensures same { rules.new ≡ rules.old }
 {
     let _good = cursor.prefix();
     if cursor.full() {
@@ -619,7 +627,7 @@ fn search_under<'a, R: Recorder<Unnoted, A>, A: Allocator + Copy>(
     let _sound = shape.history();
     let _within = shape.plan();
     let choices = choices_of(alloc, shape, order)?;
-    let ended = search_from(alloc, shape, cursor, &choices, left, memo)?;
+    let ended = search_from(alloc, shape, cursor, &choices, left, memo, rules)?;
     Ok(ended.outcome())
 }
 
@@ -632,15 +640,18 @@ pub(crate) fn search<'a, R: Recorder<Unnoted, A>, A: Allocator + Copy>(
     prefix: &[Decision],
     budget: Option<u64>,
     memo: &mut Memo<'a, Unnoted, R, A>,
+    rules: &mut Rules<'a, A>,
 ) -> Result<Outcome<A>, OutOfMemory>
-    requires { memo.old.shape ≡ shape.now }
+    requires memo { memo.old.shape ≡ shape.now }
+    requires rules { rules.old ≡ shape.now }
     ensures reported { IfOk result (Reports (objects_of shape.now) (history_of shape.now) prefix.now budget) }
     ensures shape { OnOk result (memo.new.shape ≡ memo.old.shape) }
+    ensures same { rules.new ≡ rules.old }
 {
     let Some(mut cursor) = Cursor::after(alloc, shape, prefix)? else {
         return Ok(Outcome::Refuted);
     };
-    search_under(alloc, shape, order, &mut cursor, budget, memo)
+    search_under(alloc, shape, order, &mut cursor, budget, memo, rules)
 }
 
 /// Whether some list that begins with the prefix shows the history, as far as the budget goes: exactly so many prefixes
@@ -655,6 +666,7 @@ pub fn explore<A: Allocator + Copy>(
     ensures { IfOk result (Reports (objects_of shape.now) (history_of shape.now) prefix.now (Some budget)) }
 {
     let mut memo = Memo::new(alloc, shape, Unrecorded, BOUND);
+    let mut rules = Rules::new(alloc, shape);
     search(
         alloc,
         shape,
@@ -662,6 +674,7 @@ pub fn explore<A: Allocator + Copy>(
         prefix.decisions(),
         Some(budget),
         &mut memo,
+        &mut rules,
     )
 }
 
@@ -681,7 +694,8 @@ fn search_all<'a, N: Copy, R: Recorder<N, A>, A: Allocator + Copy>(
     let _within = shape.plan();
     let choices = choices_of(alloc, shape, Order::Last(0))?;
     let mut memo = Memo::new(alloc, shape, recorder, BOUND);
-    let ended = search_from(alloc, shape, cursor, &choices, None, &mut memo)?;
+    let mut rules = Rules::new(alloc, shape);
+    let ended = search_from(alloc, shape, cursor, &choices, None, &mut memo, &mut rules)?;
     let recorder = memo.into_recorder();
     match ended {
         Ended::Refuted(note) => Ok(Searched::NotOpaque(recorder, note)),

@@ -1,14 +1,17 @@
 //! Searches of one history that come one after the other, over what the earlier ones refuted.
 
-ghost use Rattle.std.specs.Prelude.{◌≡◌, Some, IfOk};
+ghost use Rattle.std.specs.Prelude.{◌≡◌, true, Some, IfOk, IsTrue, []};
+ghost use Rattle.aud_witness.specs.Orders.{Refuted};
 ghost use Rattle.aud_order.specs.Shapes.{objects_of, history_of};
 ghost use Rattle.aud_search.specs.Searches.{Reports};
 
+use crate::alone::{find_refuted_alone, may_pay};
 use crate::choice::Order;
 use crate::memo::{LARGEST_SEEN, Memo};
 use crate::outcome::Outcome;
 use crate::recorder::Unnoted;
 use crate::room::BOUND;
+use crate::rules::Rules;
 use crate::search::search;
 use crate::shared::{ROWS_MAX, Scene, Shared, Sharing};
 use aud_event::OutOfMemory;
@@ -16,6 +19,35 @@ use aud_order::Shape;
 use aud_witness::{Decision, Prefix};
 use std::alloc::{Allocator, Global};
 use std::marker::Model;
+
+/// How many times as many lists are searched of what one object sees as before the first round of a whole history.
+const ALONE: u64 = 8;
+
+/// Whether no list shows the history, by what each object sees of it, with so many lists of each at most.
+fn look_alone<A: Allocator + Copy>(
+    alloc: A,
+    shape: &Shape<A>,
+    most: u64,
+) -> Result<bool, OutOfMemory>
+    ensures { IfOk result (λ yes. IsTrue yes → Refuted (objects_of shape.now) (history_of shape.now) []) }
+{
+    if !may_pay(shape) {
+        return Ok(false);
+    }
+    find_refuted_alone(alloc, shape, ALONE, most)
+}
+
+/// Where no list shows the history, none that begins with the prefix does.
+fn is_refuted_below<A: Allocator + Copy>(
+    shape: &Shape<A>,
+    prefix: &Prefix<A>,
+    is_refuted: bool,
+) -> bool
+    requires { is_refuted ≡ true → Refuted (objects_of shape.now) (history_of shape.now) [] }
+    ensures { IsTrue result → Refuted (objects_of shape.now) (history_of shape.now) prefix.now }
+{
+    is_refuted
+}
 
 /// What searches of the shape share of what there is: they share nothing where no one word marks all rows, nor where others may have
 /// no states of so many objects.
@@ -78,17 +110,21 @@ pub struct Memory<'a, J: Scene, A: Allocator + Copy = Global> {
     shared: Option<&'a Shared<J, A>>,
     room: usize,
     memo: Memo<'a, Unnoted, Sharing<'a, J, A>, A>,
+    was_looked_at: bool,
+    is_refuted: bool,
 }
 
 impl<'a, J: Scene, A: Allocator + Copy> Model for Memory<'a, J, A> {
-    ghost use Rattle.std.specs.Prelude.{◌≡◌};
-    ghost use Rattle.aud_order.specs.Shapes.{ShapeOf};
+    ghost use Rattle.std.specs.Prelude.{◌≡◌, true, []};
+    ghost use Rattle.aud_witness.specs.Orders.{Refuted};
+    ghost use Rattle.aud_order.specs.Shapes.{ShapeOf, objects_of, history_of};
 
     ghost Value = { ShapeOf };
 
     ghost view = { λ m. m.shape.now };
 
-    ghost invariant = { λ m. (m.memo.shape ≡ m.shape.now) × (m.shape.now ≡ J.shape) };
+    ghost invariant = { λ m. (m.memo.shape ≡ m.shape.now) × (m.shape.now ≡ J.shape)
+        × (m.is_refuted ≡ true → Refuted (objects_of m.shape.now) (history_of m.shape.now) []) };
 }
 
 impl<'a, J: Scene, A: Allocator + Copy> Memory<'a, J, A> {
@@ -105,12 +141,26 @@ impl<'a, J: Scene, A: Allocator + Copy> Memory<'a, J, A> {
             shared: own,
             room,
             memo: Memo::new(alloc, shape, Sharing { shared: own }, room),
+            was_looked_at: false,
+            is_refuted: false,
         }
     }
 
-    /// Whether some list that begins with the prefix shows the history, as `explore` says it. What it refutes is remembered, and
-    /// what was remembered costs no expansion. Where memory is refused all is forgotten.
-    pub fn explore(&mut self, prefix: &Prefix<A>, budget: u64) -> Result<Outcome<A>, OutOfMemory>
+    /// Whether no list that begins with the prefix shows the history, by what each object sees of it: that is looked for once, with so many
+    /// lists of each at most.
+    fn is_refuted_alone(&mut self, prefix: &Prefix<A>, most: u64) -> Result<bool, OutOfMemory>
+        ensures refuted { IfOk result (λ yes. IsTrue yes → Refuted (objects_of self.old) (history_of self.old) prefix.now) }
+        ensures same { self.new ≡ self.old }
+    {
+        if !self.was_looked_at {
+            self.is_refuted = look_alone(self.alloc, self.shape, most)?;
+            self.was_looked_at = true;
+        }
+        Ok(is_refuted_below(self.shape, prefix, self.is_refuted))
+    }
+
+    /// The same as `explore`, by a search.
+    fn search_below(&mut self, prefix: &Prefix<A>, budget: u64) -> Result<Outcome<A>, OutOfMemory>
         ensures reported { IfOk result (Reports (objects_of self.old) (history_of self.old) prefix.now (Some budget)) }
         ensures shape { self.new ≡ self.old }
     {
@@ -120,6 +170,7 @@ impl<'a, J: Scene, A: Allocator + Copy> Memory<'a, J, A> {
             None => 0,
         });
         let (alloc, shape, shared, room) = (self.alloc, self.shape, self.shared, self.room);
+        let mut rules = Rules::new(alloc, shape);
         match search(
             alloc,
             shape,
@@ -127,11 +178,35 @@ impl<'a, J: Scene, A: Allocator + Copy> Memory<'a, J, A> {
             prefix.decisions(),
             Some(budget),
             &mut self.memo,
+            &mut rules,
         ) {
             Ok(outcome) => Ok(outcome),
             Err(error) => {
                 forget_all(alloc, shape, shared, room, &mut self.memo);
                 Err(error)
+            }
+        }
+    }
+
+    /// Whether some list that begins with the prefix shows the history, as `explore` says it. What it refutes is remembered, and
+    /// what was remembered costs no expansion. Where a budget was spent, what each object sees of the history is searched, once, with as many
+    /// lists of each at most: where that refutes it, so is each later prefix at once. Where memory is refused all is forgotten.
+    pub fn explore(&mut self, prefix: &Prefix<A>, budget: u64) -> Result<Outcome<A>, OutOfMemory>
+        ensures reported { IfOk result (Reports (objects_of self.old) (history_of self.old) prefix.now (Some budget)) }
+        ensures shape { self.new ≡ self.old }
+    {
+        if is_refuted_below(self.shape, prefix, self.is_refuted) {
+            return Ok(Outcome::Refuted);
+        }
+        match self.search_below(prefix, budget)? {
+            Outcome::Witness(witness) => Ok(Outcome::Witness(witness)),
+            Outcome::Refuted => Ok(Outcome::Refuted),
+            Outcome::Spent => {
+                if self.is_refuted_alone(prefix, budget)? {
+                    Ok(Outcome::Refuted)
+                } else {
+                    Ok(Outcome::Spent)
+                }
             }
         }
     }
