@@ -190,7 +190,7 @@ impl<'a, J: Scene, A: Allocator + Copy> Memory<'a, J, A> {
 
     /// Whether some list that begins with the prefix shows the history, as `explore` says it. What it refutes is remembered, and
     /// what was remembered costs no expansion. Where a budget was spent, what each object sees of the history is searched, once, with as many
-    /// lists of each at most: where that refutes it, so is each later prefix at once. Where memory is refused all is forgotten.
+    /// lists of each at most: where that refutes it, so is each later prefix at once. Where a search is refused memory all is forgotten.
     pub fn explore(&mut self, prefix: &Prefix<A>, budget: u64) -> Result<Outcome<A>, OutOfMemory>
         ensures reported { IfOk result (Reports (objects_of self.old) (history_of self.old) prefix.now (Some budget)) }
         ensures shape { self.new ≡ self.old }
