@@ -1,13 +1,10 @@
--- The last line of a certificate, and members of lists.
-use Rattle.std.specs.Prelude.{◌≡◌, ◌↔◌, ℕ, ◌+◌, ◌-◌, ◌<◌, ◌≤◌, Bool, false, IsTrue, nat_eq, List, [], ◌∷◌, ◌++◌, map, length}
-use Rattle.std.specs.List.{Contains}
-use Rattle.std.proofs.Common.{sym, ◌∙◌, ap, subst, inl, inr, arith, get_or, take}
+-- The last line of a certificate.
+use Rattle.std.specs.Prelude.{◌≡◌, ◌↔◌, ℕ, ◌+◌, ◌-◌, ◌<◌, Bool, false, IsTrue, nat_eq, List, [], ◌∷◌, ◌++◌, map, length}
+use Rattle.std.proofs.Common.{sym, ◌∙◌, ap, arith, get_or, take}
 use Rattle.std.proofs.lemmas.List.{map-append}
 use Rattle.std.proofs.lemmas.List.{take_more, take_all, nil_from_length}
-use Rattle.std.proofs.lemmas.List.Elements.{Contains-push_cases, Contains-get_or}
 use Rattle.std.proofs.lemmas.Bool.{eqb-true, eq-eqb}
 use Rattle.aud_witness.specs.declared.decision.Decision.{Decision}
-use Rattle.aud_accept.proofs.Placing.{no_decision}
 use Rattle.aud_accept.specs.declared.cert.CertLine.{CertLine}
 use Rattle.aud_accept.specs.Acceptance.{prefix_in, EndsEmpty}
 
@@ -50,19 +47,3 @@ empty-reported p b is = (
 
 pub no-last : IsTrue false ↔ EndsEmpty []
 no-last = ((λ e. absurd (cc)), λ (before, ends). absurd (no-end before [] ends))
-
--- # Some first elements of a list
-
-pub first-more : (P : Decision → Type 0) (ks : List Decision) (n : ℕ) → n < length ks → ((d : Decision) → Contains (take n ks) d → P d) → P (get_or ks n no_decision) →
-    (d : Decision) → Contains (take (n + 1) ks) d → P d
-first-more P ks n inside before here d member =
-    elim (Contains-push_cases (take n ks) (get_or ks n no_decision) d (subst (λ (l : List Decision). Contains l d) (take_more ks n no_decision inside) member)) [
-      | inl old ↦ before d old
-      | inr same ↦ subst P same here
-    ]
-
-pub first-all : (P : Decision → Type 0) (ks : List Decision) (n : ℕ) → length ks ≤ n → ((d : Decision) → Contains (take n ks) d → P d) → (d : Decision) → Contains ks d → P d
-first-all P ks n past all d member = all d (subst (λ (l : List Decision). Contains l d) (sym (take_all n ks past)) member)
-
-pub here-in : (ks : List Decision) (n : ℕ) → n < length ks → Contains ks (get_or ks n no_decision)
-here-in ks n inside = Contains-get_or ks n no_decision inside

@@ -1,58 +1,17 @@
 -- What is reported of the lines of a certificate, one after the other.
-use Rattle.std.specs.Prelude.{◌≡◌, ◌↔◌, ◌⊎◌, ℕ, ◌+◌, ◌<◌, ◌≤◌, Bool, true, false, IsTrue, List, [], ◌∷◌, ◌++◌, map, length, refl}
-use Rattle.std.specs.List.{Contains, All}
-use Rattle.std.proofs.Common.{sym, ◌∙◌, ap, subst, inl, inr, arith, get_or, take, drop}
+use Rattle.std.specs.Prelude.{◌≡◌, ◌↔◌, ◌⊎◌, ℕ, ◌+◌, ◌<◌, ◌≤◌, Bool, true, false, List, [], ◌∷◌, ◌++◌, map, length, refl}
+use Rattle.std.specs.List.{Contains}
+use Rattle.std.proofs.Common.{sym, ◌∙◌, ap, subst, inl, inr, arith, get_or, drop}
 use Rattle.std.proofs.lemmas.List.{drop_more, drop_all}
 use Rattle.std.proofs.lemmas.List.Elements.{Contains-push, Contains-push_cases, Contains-append_left, All-get_or}
 use Rattle.aud_event.specs.Meanings.{Declared}
 use Rattle.aud_history.specs.Histories.{History}
 use Rattle.aud_witness.specs.declared.decision.Decision.{Decision}
-use Rattle.aud_witness.specs.Orders.{IsFull, IsGood, IsGoodNext}
+use Rattle.aud_witness.specs.Orders.{IsGood}
 use Rattle.aud_order.specs.Shapes.{ShapeOf, objects_of, history_of}
-use Rattle.aud_order.specs.Kids.{AreKids}
-use Rattle.aud_accept.proofs.Placing.{no_decision}
 use Rattle.aud_accept.specs.declared.cert.CertLine.{CertLine}
 use Rattle.aud_accept.specs.declared.cert.CertLine.TheVariants.{Kids, Silent, Same, Ahead, First}
-use Rattle.aud_accept.specs.Acceptance.{prefix_in, HasKids, HasSame, Rests, IsPlain, IsAcceptedLine, AreAccepted, EndsEmpty, IsAccepted, JudgesLine, JudgesLines}
-use Rattle.aud_accept.specs.OfShapes.{HasLines}
-use Rattle.aud_accept.proofs.Ends.{first-more, here-in}
-
--- # Kids
-
-pub all-not : (seen : List (List Decision)) (p ks : List Decision) (n : ℕ) (next : List Decision) (b : Bool) → n < length ks → next ≡ p ++ get_or ks n no_decision ∷ [] →
-    (IsTrue b ↔ Contains seen next) → b ≡ false → IsTrue false ↔ HasLines seen p ks
-all-not seen p ks n next b inside is reported fails = (
-  (λ e. absurd (cc)),
-  λ all. let clash : b ≡ true = reported.1 (subst (λ (l : List Decision). Contains seen l) (sym is) (all (get_or ks n no_decision) (here-in ks n inside))) in absurd (cc),
-)
-
-pub all-more : (seen : List (List Decision)) (p ks : List Decision) (n : ℕ) (next : List Decision) (b : Bool) → n < length ks → next ≡ p ++ get_or ks n no_decision ∷ [] →
-    (IsTrue b ↔ Contains seen next) → b ≡ true → HasLines seen p (take n ks) → HasLines seen p (take (n + 1) ks)
-all-more seen p ks n next b inside is reported holds before =
-    first-more (λ d. Contains seen (p ++ d ∷ [])) ks n inside before (subst (λ (l : List Decision). Contains seen l) is (reported.0 holds))
-
-pub kids-reported : (objects : List Declared) (h : History) (seen : List (List Decision)) (path p kids ks : List Decision) (full has : Bool) → path ≡ p →
-    (IsTrue full ↔ IsFull h path) → full ≡ false → AreKids objects h path kids → ks ≡ kids → (IsTrue has ↔ HasLines seen p ks) → IsTrue has ↔ HasKids objects h seen p
-kids-reported objects h seen path p kids ks full has here is_full unfull are same reported = (
-  (λ holds. record {
-    unfull = λ whole. let clash : full ≡ true = is_full.1 (subst (λ l. IsFull h l) (sym here) whole) in absurd (cc);
-    kids = λ d next. reported.0 holds d (subst (λ (l : List Decision). Contains l d) (sym same) ((are.each d).1 (subst (λ l. IsGoodNext objects h l d) (sym here) next)));
-  }),
-  λ holds. reported.1 (λ d member. holds.kids d (subst (λ l. IsGoodNext objects h l d) here ((are.each d).0 (subst (λ (l : List Decision). Contains l d) same member)))),
-)
-
--- # Other lists
-
-pub not-placed : (shape other : ShapeOf) (seen : List (List Decision)) (path p q : List Decision) (b : Bool) → other ≡ shape →
-    ((l : List Decision) → Contains seen l → IsGood (objects_of shape) (history_of shape) l) → q ≡ p → (IsTrue b ↔ IsGood (objects_of other) (history_of other) q) → b ≡ false →
-    IsTrue false ↔ HasSame (objects_of shape) (history_of shape) seen path p
-not-placed shape other seen path p q b same goods is reported fails = (
-  (λ e. absurd (cc)),
-  λ has.
-      let good : IsGood (objects_of other) (history_of other) q =
-      subst (λ (s : ShapeOf). IsGood (objects_of s) (history_of s) q) (sym same) (subst (IsGood (objects_of shape) (history_of shape)) (sym is) (goods p has.line)) in
-      let clash : b ≡ true = reported.1 good in absurd (cc),
-)
+use Rattle.aud_accept.specs.Acceptance.{prefix_in, Rests, IsPlain, IsAcceptedLine, AreAccepted, EndsEmpty, JudgesLine, JudgesLines}
 
 pub good-at : (shape other : ShapeOf) (p : List Decision) → other ≡ shape → IsGood (objects_of shape) (history_of shape) p → IsGood (objects_of other) (history_of other) p
 good-at shape other p same good = subst (λ (s : ShapeOf). IsGood (objects_of s) (history_of s) p) (sym same) good

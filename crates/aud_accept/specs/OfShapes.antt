@@ -1,33 +1,14 @@
 -- The words of acceptance over the objects and the history of one shape.
-use Rattle.std.specs.Prelude.{◌≡◌, Bool, List, ◌++◌, ◌∷◌, []}
-use Rattle.std.specs.List.{Contains}
+use Rattle.std.specs.Prelude.{◌≡◌, Bool, List}
 use Rattle.aud_witness.specs.declared.decision.Decision.{Decision}
 use Rattle.aud_witness.specs.declared.decision.Fate.TheVariants.{C}
-use Rattle.aud_witness.specs.Orders.{IsGood, IsGoodNext}
+use Rattle.aud_witness.specs.Orders.{IsGoodNext}
 use Rattle.aud_order.specs.Cursors.{CursorOf}
 use Rattle.aud_order.specs.Shapes.{ShapeOf, objects_of, history_of}
 use Rattle.aud_first.specs.Exchanges.{IsEnough}
 use Rattle.aud_accept.specs.declared.cert.CertLine.{CertLine}
 use Rattle.aud_accept.specs.declared.cert.CertLine.TheVariants.{Kids, Silent, Same, Ahead, First}
-use Rattle.aud_accept.specs.Acceptance.{HasKids, HasSilent, HasSame, HasFirst, IsAcceptedLine, JudgesLine}
-use Rattle.aud_accept.specs.Moves.{StaysBefore}
-
--- each of the lists is good
-abbrev pub AreGoodFor : ShapeOf → List (List Decision) → Type 0
-AreGoodFor s ps = (p : List Decision) → Contains ps p → IsGood (objects_of s) (history_of s) p
-
--- p followed by each of the decisions is the prefix of an earlier line
-abbrev pub HasLines : List (List Decision) → List Decision → List Decision → Type 0
-HasLines earlier p ds = (d : Decision) → Contains ds d → Contains earlier (p ++ d ∷ [])
-
-abbrev pub HasKidsFor : ShapeOf → List (List Decision) → List Decision → Type 0
-HasKidsFor s earlier p = HasKids (objects_of s) (history_of s) earlier p
-
-abbrev pub HasSilentFor : ShapeOf → List (List Decision) → List Decision → Decision → Type 0
-HasSilentFor s earlier p d = HasSilent (objects_of s) (history_of s) earlier p d
-
-abbrev pub HasSameFor : ShapeOf → List (List Decision) → List Decision → List Decision → Type 0
-HasSameFor s earlier p q = HasSame (objects_of s) (history_of s) earlier p q
+use Rattle.aud_accept.specs.Acceptance.{HasFirst, IsAcceptedLine, JudgesLine}
 
 abbrev pub HasFirstFor : ShapeOf → List (List Decision) → List Decision → Decision → Type 0
 HasFirstFor s earlier p d = HasFirst (objects_of s) (history_of s) earlier p d
@@ -43,9 +24,6 @@ JudgesLineFor s earlier line told = JudgesLine (objects_of s) (history_of s) ear
 
 abbrev pub IsAcceptedFor : {X : Type 0} → ShapeOf → List (List Decision) → CertLine X → Type 0
 IsAcceptedFor s earlier line = IsAcceptedLine (objects_of s) (history_of s) earlier line
-
-abbrev pub StaysBeforeFor : ShapeOf → List Decision → List Decision → Type 0
-StaysBeforeFor s ds path = StaysBefore (objects_of s) (history_of s) ds path
 
 -- of a line whose kids refute its prefix, the path is that prefix
 abbrev pub StaysAtKids : {X : Type 0} → CertLine X → List Decision → Type 0

@@ -3,12 +3,8 @@
 
 mod cert;
 mod checking;
-mod earlier;
-mod landing;
 pub mod laws;
 mod lookout;
-mod moving;
-mod place;
 
 pub use cert::{Cert, CertLine, Rules};
 pub use checking::check_cert;

@@ -13,8 +13,9 @@ use Rattle.aud_search.specs.Recorders.{HasNote, IsHearable, IsNotedAlike}
 use Rattle.aud_search.specs.Recorders as heard
 use Rattle.aud_accept.specs.declared.cert.CertLine.{CertLine}
 use Rattle.aud_accept.specs.declared.cert.CertLine.TheVariants.{Kids, Silent, Same}
-use Rattle.aud_accept.specs.Acceptance.{prefix_in, LeadAlike, IsAcceptedLine, AreAccepted, EndsEmpty, IsAccepted}
-use Rattle.aud_accept.proofs.Alike.{placed_at, are-alike}
+use Rattle.aud_accept.specs.Acceptance.{prefix_in, IsAcceptedLine, AreAccepted, EndsEmpty, IsAccepted}
+use Rattle.aud_earlier.specs.Resting.{LeadAlike}
+use Rattle.aud_earlier.proofs.Alike.{placed_at, are-alike}
 use Rattle.aud_cert.specs.Recorded.{LinesOf}
 use Rattle.aud_search.proofs.MemoLemmas.{last-there}
 

@@ -4,8 +4,8 @@ use Rattle.std.proofs.Common.{◌∙◌, ap, sym, subst, get_or}
 use Rattle.aud_witness.specs.declared.decision.Decision.{Decision}
 use Rattle.aud_order.specs.Shapes.{ShapeOf, objects_of, history_of}
 use Rattle.aud_accept.specs.Acceptance.{prefix_in, EndsEmpty}
-use Rattle.aud_accept.specs.Beginnings.{EarlierOf}
-use Rattle.aud_accept.specs.Landings.{IsLandingOf}
+use Rattle.aud_earlier.specs.Beginnings.{EarlierOf}
+use Rattle.aud_earlier.specs.Landings.{IsLandingOf}
 use Rattle.aud_order.specs.Cursors.{CursorOf}
 use Rattle.aud_accept.proofs.Lines.{passed-none, passed-more, passed-bad, passed-all}
 use Rattle.aud_accept.proofs.checking.is_accepted.Goals as goal

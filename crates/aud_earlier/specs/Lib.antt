@@ -1,0 +1,6 @@
+pub mod Beginnings
+pub mod Landings
+pub mod Moves
+pub mod OfShapes
+pub mod Places
+pub mod Resting
