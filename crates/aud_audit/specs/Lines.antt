@@ -2,7 +2,7 @@
 use Rattle.std.specs.Prelude.{◌≡◌, ℕ, List, Option, ⊤}
 use Rattle.aud_report.specs.Lines.{line_of}
 use Rattle.aud_report.specs.declared.said.Said.{Said}
-use Rattle.aud_cli.specs.Inputs.{input_read}
+use Rattle.aud_input.specs.Inputs.{input_read}
 use Rattle.aud_cli.specs.Line.{InputSays}
 use Rattle.aud_cli.specs.Outcomes.{Nothing, RunOutcome, Seen, ended_by}
 use Rattle.aud_cli.specs.declared.ended.Cause.{Cause}

@@ -1,5 +1,3 @@
-pub mod Checked
-pub mod Read
 pub mod Bounds
 pub mod Splitting
 pub mod FactLines

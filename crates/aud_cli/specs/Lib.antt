@@ -1,5 +1,4 @@
 pub mod Jobs
-pub mod Inputs
 pub mod Certificates
 pub mod Outcomes
 pub mod Line

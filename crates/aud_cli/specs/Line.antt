@@ -24,10 +24,10 @@ use Rattle.aud_cert.specs.CertText.{cert_read}
 use Rattle.aud_cert.specs.declared.fault.CertTextFault.{CertTextFault}
 use Rattle.aud_report.specs.declared.said.Said.{Said}
 use Rattle.aud_report.specs.declared.said.Said.TheVariants as said
-use Rattle.aud_cli.specs.Inputs.{InputOf, input_read}
+use Rattle.aud_input.specs.Inputs.{InputOf, input_read}
 use Rattle.aud_cli.specs.Certificates.{certificate_place, text_before, text_from}
-use Rattle.aud_cli.specs.declared.input.InputFault.{InputFault}
-use Rattle.aud_cli.specs.declared.input.InputFault.TheVariants as fault
+use Rattle.aud_input.specs.declared.input.InputFault.{InputFault}
+use Rattle.aud_input.specs.declared.input.InputFault.TheVariants as fault
 use Rattle.aud_cli.specs.declared.question.Question.{Question}
 use Rattle.aud_cli.specs.declared.question.Question.TheVariants as question
 use Rattle.aud_cli.specs.declared.job.Job.{Job}

@@ -3,7 +3,6 @@
 
 mod certificate;
 mod ended;
-mod input;
 mod job;
 mod question;
 mod reading;
@@ -11,7 +10,6 @@ mod run;
 
 pub use aud_cert::Rules;
 pub use ended::{Cause, Ended, end_of};
-pub use input::{Input, InputFault, read_input, take_input};
 pub use job::{AuditJob, Command, Job};
 pub use question::Question;
 pub use reading::read_whole;

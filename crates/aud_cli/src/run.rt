@@ -3,17 +3,17 @@
 ghost use Rattle.std.specs.Prelude.{◌≡◌, ◌⊎◌, ◌+◌, ◌<◌, ◌^◌, Ok, IfOk, length};
 ghost use Rattle.aud_cert.specs.CertText.{cert_read};
 ghost use Rattle.aud_cli.specs.Line.{CertifiedSays, FactsSay, InputSays, Line, QuestionSays, RefusesInput, RefusesLine, SetSays};
-ghost use Rattle.aud_cli.specs.Inputs.{input_read};
+ghost use Rattle.aud_input.specs.Inputs.{input_read};
 ghost use Rattle.aud_cli.specs.Outcomes.{IsLine, RunOutcome};
 
 use crate::certificate::split_input;
 use crate::ended::{Cause, Ended, end_of};
-use crate::input::{Input, InputFault, read_input, take_input};
 use crate::job::Job;
 use crate::question::Question;
 use aud_cert::{CertTextFault, read_cert_into};
 use aud_event::OutOfMemory;
 use aud_facts::Facts;
+use aud_input::{Input, InputFault, read_input, take_input};
 use aud_know::well_formed_history;
 use aud_report::{ReadFault, Said, Sink, Source, take_all, write_all, write_line};
 use aud_text::{TextFault, count_lines, read_order};

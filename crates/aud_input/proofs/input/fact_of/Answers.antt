@@ -1,7 +1,7 @@
 use Rattle.std.proofs.Common.{◌≡◌, Ok, rules}
-use Rattle.aud_cli.specs.Inputs.{fact_at}
-use Rattle.aud_cli.proofs.Checked.{read_passes}
-use Rattle.aud_cli.proofs.input.fact_of.Goals as goal
+use Rattle.aud_input.specs.Inputs.{fact_at}
+use Rattle.aud_input.proofs.Checked.{read_passes}
+use Rattle.aud_input.proofs.input.fact_of.Goals as goal
 
 pub returns-in-Ok-clause-sound : goal.returns-in-Ok-clause-sound
 returns-in-Ok-clause-sound c =

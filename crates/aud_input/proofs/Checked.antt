@@ -9,7 +9,7 @@ use Rattle.aud_event.specs.declared.fact.FactFault.{FactFault}
 use Rattle.aud_text.specs.declared.fault.TextFault.{TextFault}
 use Rattle.aud_text.specs.Json.{json_read, has_all, has_only}
 use Rattle.aud_text.specs.FactText.{fact_read, judged_json, judged_members, fact_or_word, fact_of, checked, shape_of, required, allowed, types_fit}
-use Rattle.aud_cli.specs.Inputs.{reported_at, fact_at}
+use Rattle.aud_input.specs.Inputs.{reported_at, fact_at}
 use Rattle.aud_text.specs.Limits.{longest_line}
 
 module _ (plan : PlanOf) (g : Fact) where

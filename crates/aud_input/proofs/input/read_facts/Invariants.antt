@@ -2,9 +2,9 @@ use Rattle.std.proofs.Common.{◌≡◌, ◌+◌, ◌≤◌, length, nat_lt, All
 use Rattle.std.specs.List.{filter}
 use Rattle.aud_event.specs.Facts.{first_fact_fault}
 use Rattle.aud_text.specs.Lines.{filled_left}
-use Rattle.aud_cli.specs.Inputs.{facts_read, lines_after}
-use Rattle.aud_cli.proofs.Read.{onto}
-use Rattle.aud_cli.proofs.input.read_facts.Given as goal
+use Rattle.aud_input.specs.Inputs.{facts_read, lines_after}
+use Rattle.aud_input.proofs.Read.{onto}
+use Rattle.aud_input.proofs.input.read_facts.Given as goal
 
 abbrev pub invariant-loop-next : goal.invariant-loop-next
 invariant-loop-next l = record {

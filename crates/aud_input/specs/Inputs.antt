@@ -7,8 +7,8 @@ use Rattle.aud_text.specs.FactText.{fact_read}
 use Rattle.aud_text.specs.PlanText.{plan_read}
 use Rattle.aud_text.specs.declared.fault.TextFault.{TextFault}
 use Rattle.aud_text.specs.declared.fault.PlanTextFault.{PlanTextFault}
-use Rattle.aud_cli.specs.declared.input.InputFault.{InputFault}
-use Rattle.aud_cli.specs.declared.input.InputFault.TheVariants.{Plan, Record}
+use Rattle.aud_input.specs.declared.input.InputFault.{InputFault}
+use Rattle.aud_input.specs.declared.input.InputFault.TheVariants.{Plan, Record}
 
 pub record InputOf : Type 0 where
   pub plan : PlanOf

@@ -2,7 +2,7 @@
 
 ghost use Rattle.std.specs.Prelude.{◌≡◌, ◌⊎◌, All, None, Ok, Err, IfOk, MatchResult};
 ghost use Rattle.aud_event.specs.Facts.{first_fact_fault};
-ghost use Rattle.aud_cli.specs.Inputs.{fact_at, facts_read, input_read, lines_after};
+ghost use Rattle.aud_input.specs.Inputs.{fact_at, facts_read, input_read, lines_after};
 
 use aud_event::{Fact, Plan};
 use aud_text::{PlanTextFault, TextFault, next_filled, read_fact, read_plan};
@@ -19,7 +19,7 @@ pub struct Input {
 impl Model for Input {
     ghost use Rattle.std.specs.Prelude.{◌≡◌, All, None};
     ghost use Rattle.aud_event.specs.Facts.{first_fact_fault};
-    ghost use Rattle.aud_cli.specs.Inputs.{InputOf};
+    ghost use Rattle.aud_input.specs.Inputs.{InputOf};
 
     ghost Value = { InputOf };
 

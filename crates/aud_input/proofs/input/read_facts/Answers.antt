@@ -4,9 +4,9 @@ use Rattle.std.proofs.lemmas.List.Elements.{All-push}
 use Rattle.std.specs.List.{filter}
 use Rattle.aud_event.specs.Facts.{first_fact_fault}
 use Rattle.aud_text.specs.Lines.{filled_left, filled_at}
-use Rattle.aud_cli.specs.Inputs.{facts_read}
-use Rattle.aud_cli.proofs.Read.{onto, one_more}
-use Rattle.aud_cli.proofs.input.read_facts.Goals as goal
+use Rattle.aud_input.specs.Inputs.{facts_read}
+use Rattle.aud_input.proofs.Read.{onto, one_more}
+use Rattle.aud_input.proofs.input.read_facts.Goals as goal
 
 pub loop-next-preserved-else-is_err : goal.loop-next-preserved-else-is_err
 loop-next-preserved-else-is_err c =

@@ -4,8 +4,8 @@ use Rattle.std.specs.List.{filter}
 use Rattle.aud_event.specs.Meanings.{PlanOf}
 use Rattle.aud_event.specs.declared.fact.Fact.{Fact}
 use Rattle.aud_text.specs.Lines.{Filled}
-use Rattle.aud_cli.specs.Inputs.{fact_at, facts_read, with_fact}
-use Rattle.aud_cli.specs.declared.input.InputFault.{InputFault}
+use Rattle.aud_input.specs.Inputs.{fact_at, facts_read, with_fact}
+use Rattle.aud_input.specs.declared.input.InputFault.{InputFault}
 
 -- the facts so far before the later ones
 abbrev pub onto : List Fact → Result (List Fact) InputFault → Result (List Fact) InputFault
