@@ -1,7 +1,7 @@
 //! The program's words, with the texts that explain them.
 
 ghost use Rattle.std.specs.Prelude.{◌≡◌, IfOk, false};
-ghost use Rattle.clap.specs.Words.{app_of, rule_of};
+ghost use Rattle.clap.specs.Words.{app_of, new_app, rule_of, with_rule, with_subcommand};
 ghost use Rattle.clap.specs.declared.builder.command.Command.TheViews.{out-Command as fields_of};
 ghost use Rattle.aud_words.specs.CommandLine.{audit_app, bare_app, check_app, decide_app, verify_app, flag_rule, lines_app, needed_rule, opaq_app, value_rule};
 
@@ -160,67 +160,77 @@ fn needed_arg<'a>(alloc: Global, name: &'a str, value_name: &'a str, help: &'a s
         .action(ArgAction::Set)
 }
 
+/// A subcommand without options, with its texts.
+fn named<'a>(alloc: Global, name: &'a str, about: &'a str, after: &'a str) -> Command<'a>
+    ensures app { app_of result ≡ new_app name.entry.now }
+    ensures local { (fields_of result).has_globals ≡ false }
+{
+    Command::new(alloc, name).about(about).after_help(after)
+}
+
+/// The subcommand with an option more.
+fn with_arg<'a>(command: Command<'a>, arg: Arg<'a>) -> Result<Command<'a>, AllocError>
+    requires { arg.global ≡ false }
+    ensures app { IfOk result (λ c. app_of c ≡ with_rule (app_of command.entry) (rule_of arg.entry)) }
+    ensures local { IfOk result (λ c. (fields_of c).has_globals ≡ (fields_of command.entry).has_globals) }
+{
+    command.arg(arg)
+}
+
 fn check_command<'a>(alloc: Global) -> Result<Command<'a>, AllocError>
     ensures app { IfOk result (λ c. app_of c ≡ check_app) }
     ensures local { IfOk result (λ c. (fields_of c).has_globals ≡ false) }
 {
     let order = needed_arg(alloc, "order", "TEXT", "The order, as in '1c 2a'");
-    Command::new(alloc, "check")
-        .about(CHECK_ABOUT)
-        .after_help(CHECK_AFTER)
-        .arg(order)
+    with_arg(named(alloc, "check", CHECK_ABOUT, CHECK_AFTER), order)
 }
 
 fn decide_command<'a>(alloc: Global) -> Result<Command<'a>, AllocError>
     ensures app { IfOk result (λ c. app_of c ≡ decide_app) }
     ensures local { IfOk result (λ c. (fields_of c).has_globals ≡ false) }
 {
+    let command = named(alloc, "decide", DECIDE_ABOUT, DECIDE_AFTER);
     let budget = value_arg(
         alloc,
         "budget",
         "N",
         "How many beginnings of orders are expanded at most",
     );
-    Command::new(alloc, "decide")
-        .about(DECIDE_ABOUT)
-        .after_help(DECIDE_AFTER)
-        .arg(budget)?
-        .arg(flag_arg(alloc, "cert", "Where no order does, adds a certificate"))?
-        .arg(value_arg(
-            alloc,
-            "rules",
-            "N",
-            "With --cert: 2 for a certificate of a run of many threads",
-        ))
+    let command = with_arg(command, budget)?;
+    let cert = flag_arg(alloc, "cert", "Where no order does, adds a certificate");
+    let command = with_arg(command, cert)?;
+    let rules = value_arg(
+        alloc,
+        "rules",
+        "N",
+        "With --cert: 2 for a certificate of a run of many threads",
+    );
+    with_arg(command, rules)
 }
 
 fn verify_command<'a>(alloc: Global) -> Command<'a>
     ensures app { app_of result ≡ verify_app }
     ensures local { (fields_of result).has_globals ≡ false }
 {
-    Command::new(alloc, "verify")
-        .about(VERIFY_ABOUT)
-        .after_help(VERIFY_AFTER)
+    named(alloc, "verify", VERIFY_ABOUT, VERIFY_AFTER)
 }
 
 fn audit_command<'a>(alloc: Global) -> Result<Command<'a>, AllocError>
     ensures app { IfOk result (λ c. app_of c ≡ audit_app) }
     ensures local { IfOk result (λ c. (fields_of c).has_globals ≡ false) }
 {
+    let command = named(alloc, "audit", AUDIT_ABOUT, AUDIT_AFTER);
     let nodes = needed_arg(alloc, "nodes", "N", "How many nodes there are");
+    let command = with_arg(command, nodes)?;
     let workers = needed_arg(alloc, "workers", "W", "How many workers each node has");
+    let command = with_arg(command, workers)?;
     let budget = value_arg(
         alloc,
         "budget",
         "B",
         "How many beginnings of orders each search expands at most",
     );
-    Command::new(alloc, "audit")
-        .about(AUDIT_ABOUT)
-        .after_help(AUDIT_AFTER)
-        .arg(nodes)?
-        .arg(workers)?
-        .arg(budget)
+    with_arg(command, budget)
 }
 
 fn bare_command<'a>(alloc: Global) -> Command<'a>
@@ -234,16 +244,27 @@ fn bare_command<'a>(alloc: Global) -> Command<'a>
         .arg_required_else_help(true)
 }
 
+/// The command line with `check` alone.
+fn check_alone<'a>(alloc: Global) -> Result<Command<'a>, AllocError>
+    ensures { IfOk result (λ c. app_of c ≡ with_subcommand bare_app check_app.top) }
+{
+    let check = check_command(alloc)?;
+    bare_command(alloc).subcommand(check)
+}
+
+/// The same with `decide`.
+fn check_and_decide<'a>(alloc: Global) -> Result<Command<'a>, AllocError>
+    ensures { IfOk result (λ c. app_of c ≡ with_subcommand (with_subcommand bare_app check_app.top) decide_app.top) }
+{
+    let decide = decide_command(alloc)?;
+    check_alone(alloc)?.subcommand(decide)
+}
+
 /// The command line without `audit`.
 fn lines_commands<'a>(alloc: Global) -> Result<Command<'a>, AllocError>
     ensures { IfOk result (λ c. app_of c ≡ lines_app) }
 {
-    let check = check_command(alloc)?;
-    let decide = decide_command(alloc)?;
-    bare_command(alloc)
-        .subcommand(check)?
-        .subcommand(decide)?
-        .subcommand(verify_command(alloc))
+    check_and_decide(alloc)?.subcommand(verify_command(alloc))
 }
 
 /// The program's command line.
