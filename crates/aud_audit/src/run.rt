@@ -55,6 +55,36 @@ fn workers_of(job: &AuditJob) -> usize {
     (job.nodes as usize).saturating_mul(job.workers as usize)
 }
 
+/// Has all orders searched as one task, with the budget of one, and says whether the first node knows an order that shows the facts
+/// then: what is decided soon is so before it is divided. Where all are refuted, each task is found refuted at once.
+fn search_whole<
+    H: Scene + Send + Sync,
+    J: Fleet + Send + Sync,
+    S: Wait + Drop + Send,
+    G: Gate<Prefix> + Sync,
+    R: Threads + Wait + Sync,
+>(
+    rt: &R,
+    alloc: Global,
+    mesh: &mut Mesh<J, S>,
+    facts: &Facts,
+    search: &Search,
+    shared: Option<&Shared<H>>,
+    gate: &G,
+) -> Result<bool, OutOfMemory>
+    requires named { search.now.shape.value ≡ H.shape }
+    requires mesh { IsMesh facts.now.plan mesh.old.nodes.items mesh.old.collectors.items mesh.old.crews.items }
+    requires few { length mesh.old.nodes.items ≤ 8 }
+    requires some { 0 < length mesh.old.nodes.items }
+    requires search { IsSearchOf facts.now search.now.shape.value search.now.tasks.items }
+    ensures nodes { mesh.new.nodes ≡ mesh.old.nodes }
+    ensures mesh { OnOk result (IsMesh facts.now.plan mesh.new.nodes.items mesh.new.collectors.items mesh.new.crews.items) }
+{
+    let whole = search.whole(alloc)?;
+    mesh.search(rt, alloc, &whole, shared, gate)?;
+    mesh.first_shows(facts)
+}
+
 /// Has the first tasks searched, one for each worker, where there are more, and says whether the first node knows an order that
 /// shows the facts then. Such an order is less than any that begins with another task.
 fn search_first<
@@ -150,6 +180,9 @@ fn search_all<
     let mut search = search;
     let shared = Shared::<H>::among(alloc, workers_of(job));
     let shared = shared.as_ref();
+    if job.budget.is_none() && search_whole(rt, alloc, mesh, facts, &search, shared, gate)? {
+        return Ok(None);
+    }
     if search_first(rt, alloc, mesh, facts, &search, shared, job, gate)? {
         return Ok(None);
     }

@@ -1,5 +1,5 @@
 -- The search of a history by tasks, and what is known of the ends of its tasks.
-use Rattle.std.specs.Prelude.{◌≡◌, ◌⊎◌, ℕ, List, [], Option, Some, None, ⊤, ◌<◌, take, length}
+use Rattle.std.specs.Prelude.{◌≡◌, ◌⊎◌, ℕ, List, [], ◌∷◌, Option, Some, None, ⊤, ◌<◌, take, length}
 use Rattle.std.specs.List.{Contains}
 use Rattle.std.specs.declared.alloc.Global.{Global}
 use Rattle.aud_facts.specs.Sets.{FactsOf, IsSealedWith}
@@ -47,6 +47,12 @@ pub record IsFirstOf (whole : Search) (count : ℕ) (s : Search) : Type 0 where
   pub budget : s.budget ≡ whole.budget
   pub tasks : s.tasks.items ≡ take count whole.tasks.items
   pub more : count < length whole.tasks.items
+
+-- the search of all orders of the same history as one task
+pub record IsWholeOf (split : Search) (s : Search) : Type 0 where
+  pub shape : s.shape.value ≡ split.shape.value
+  pub budget : s.budget ≡ split.budget
+  pub tasks : s.tasks.items ≡ [] ∷ []
 
 -- # Their ends
 

@@ -1,7 +1,7 @@
 //! What the workers of all nodes search: the tasks of one history.
 
 ghost use Rattle.std.specs.Prelude.{◌≡◌, ◌≤◌, ◌<◌, None, IfOk, IfSome, length};
-ghost use Rattle.aud_findings.specs.Searches.{IsReportedAtOnce, task_budget, IsSearchWith, IsFirstOf};
+ghost use Rattle.aud_findings.specs.Searches.{IsReportedAtOnce, task_budget, IsSearchWith, IsFirstOf, IsWholeOf};
 
 use aud_event::{Dup, OutOfMemory};
 use aud_facts::Facts;
@@ -58,6 +58,19 @@ pub fn search_of(
 }
 
 impl Search {
+    /// The search of all orders as one task. It shares the history.
+    pub fn whole(&self, alloc: Global) -> Result<Search, OutOfMemory>
+        ensures { IfOk result (IsWholeOf self.now) }
+    {
+        let mut tasks = Vec::with_capacity(alloc, 1)?;
+        tasks.push(Prefix::empty(alloc))?;
+        Ok(Search {
+            shape: Arc::try_clone(&self.shape)?,
+            tasks,
+            budget: self.budget,
+        })
+    }
+
     /// The search of the first tasks alone, so many, where there are more. It shares the history.
     pub fn first(&self, alloc: Global, count: usize) -> Result<Option<Search>, OutOfMemory>
         ensures some { IfOk result (λ found. IfSome found (IsFirstOf self.now count)) }

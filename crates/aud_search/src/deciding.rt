@@ -7,16 +7,22 @@ ghost use Rattle.aud_search.specs.Searches.{Decides, DecidesByLetter};
 use crate::alone::{is_refuted_alone, lists_of, may_pay};
 use crate::choice::Order;
 use crate::memo::Memo;
-use crate::outcome::{Decided, Outcome, Searched};
+use crate::outcome::{Decided, Outcome};
 use crate::recorder::{Unnoted, Unrecorded};
 use crate::room::BOUND;
 use crate::rules::Rules;
-use crate::search::{search, search_with};
+use crate::search::search;
+use aud_broad::find_broadly;
 use aud_event::OutOfMemory;
 use aud_order::Shape;
 use aud_witness::Prefix;
 use aud_witness::laws::letter_is_opaque;
 use std::alloc::Allocator;
+
+/// How many lists a broad search has side by side, and how many one that comes later.
+const WIDTH: usize = 100;
+
+const LATER_WIDTH: usize = 200;
 
 /// Whether the history is opaque, with a list that shows it where it is. That is so by lists of decisions, and by the letter of
 /// Guerraoui and Kapałka (PPoPP 2008).
@@ -37,15 +43,17 @@ fn decide_by_lists<A: Allocator + Copy>(
 ) -> Result<Decided<A>, OutOfMemory>
     ensures { IfOk result (Decides (objects_of shape.now) (history_of shape.now)) }
 {
-    if !may_pay(shape) {
-        return decide_wholly(alloc, shape);
-    }
     let mut memo = Memo::new(alloc, shape, Unrecorded, BOUND);
     let mut rules = Rules::new(alloc, shape);
-    if let Some(decided) = decide_by_rounds(alloc, shape, &mut memo, &mut rules)? {
-        return Ok(decided);
+    let decided = if may_pay(shape) {
+        decide_by_rounds(alloc, shape, &mut memo, &mut rules)?
+    } else {
+        decide_by_one_round(alloc, shape, &mut memo, &mut rules)?
+    };
+    match decided {
+        Some(decided) => Ok(decided),
+        None => decide_on(alloc, shape, &mut memo, &mut rules),
     }
-    decide_on(alloc, shape, &mut memo, &mut rules)
 }
 
 /// The same, as far as rounds tell, each eight times as long as the one before it. They try transactions by their last and by their first
@@ -74,10 +82,52 @@ fn decide_by_rounds<'a, A: Allocator + Copy>(
     if is_refuted_alone(alloc, shape, 8) {
         return Ok(Some(Decided::NotOpaque));
     }
+    if let Some(decided) = decide_broadly(alloc, shape, WIDTH)? {
+        return Ok(Some(decided));
+    }
     if let Some(decided) = decide_soon(alloc, shape, Order::Last(0), 64, memo, rules)? {
         return Ok(Some(decided));
     }
+    if let Some(decided) = decide_broadly(alloc, shape, LATER_WIDTH)? {
+        return Ok(Some(decided));
+    }
     decide_soon(alloc, shape, Order::First, 512, memo, rules)
+}
+
+/// The same of a history of one object, or of which what each object sees would be too much.
+fn decide_by_one_round<'a, A: Allocator + Copy>(
+    alloc: A,
+    shape: &'a Shape<A>,
+    memo: &mut Memo<'a, Unnoted, Unrecorded, A>,
+    rules: &mut Rules<'a, A>,
+) -> Result<Option<Decided<A>>, OutOfMemory>
+    requires memo { memo.old.shape ≡ shape.now }
+    requires rules { rules.old ≡ shape.now }
+    ensures decided { IfOk result (λ o. MatchOption o (Unit {0}) (Decides (objects_of shape.now) (history_of shape.now))) }
+    ensures shape { OnOk result (memo.new.shape ≡ memo.old.shape) }
+    ensures same { rules.new ≡ rules.old }
+{
+    if let Some(decided) = decide_soon(alloc, shape, Order::Last(0), 16, memo, rules)? {
+        return Ok(Some(decided));
+    }
+    if let Some(decided) = decide_broadly(alloc, shape, WIDTH)? {
+        return Ok(Some(decided));
+    }
+    decide_broadly(alloc, shape, LATER_WIDTH)
+}
+
+/// The same, as far as a broad search finds an order.
+fn decide_broadly<A: Allocator + Copy>(
+    alloc: A,
+    shape: &Shape<A>,
+    width: usize,
+) -> Result<Option<Decided<A>>, OutOfMemory>
+    ensures { IfOk result (λ o. MatchOption o (Unit {0}) (Decides (objects_of shape.now) (history_of shape.now))) }
+{
+    match find_broadly(alloc, shape, width)? {
+        Some(order) => Ok(Some(Decided::Opaque(order))),
+        None => Ok(None),
+    }
 }
 
 /// The same, as far as a search of so many times the first lists tells.
@@ -139,15 +189,5 @@ fn decide_on<'a, A: Allocator + Copy>(
         Outcome::Refuted => Ok(Decided::NotOpaque),
         // Without a budget none is spent.
         Outcome::Spent => unreachable!(),
-    }
-}
-
-/// The same by a search of all lists.
-fn decide_wholly<A: Allocator + Copy>(alloc: A, shape: &Shape<A>) -> Result<Decided<A>, OutOfMemory>
-    ensures { IfOk result (Decides (objects_of shape.now) (history_of shape.now)) }
-{
-    match search_with(alloc, shape, Unrecorded)? {
-        Searched::Opaque(witness) => Ok(Decided::Opaque(witness)),
-        Searched::NotOpaque(_, _) => Ok(Decided::NotOpaque),
     }
 }

@@ -1,11 +1,11 @@
 //! Searches of one history that come one after the other, over what the earlier ones refuted.
 
-ghost use Rattle.std.specs.Prelude.{◌≡◌, true, Some, IfOk, IsTrue, []};
+ghost use Rattle.std.specs.Prelude.{◌≡◌, true, Some, IfOk, IsTrue, MatchOption, []};
 ghost use Rattle.aud_witness.specs.Orders.{Refuted};
 ghost use Rattle.aud_order.specs.Shapes.{objects_of, history_of};
 ghost use Rattle.aud_search.specs.Searches.{Reports};
 
-use crate::alone::{find_refuted_alone, may_pay};
+use crate::alone::{find_refuted_alone, lists_of, may_pay};
 use crate::choice::Order;
 use crate::memo::{LARGEST_SEEN, Memo};
 use crate::outcome::Outcome;
@@ -20,13 +20,14 @@ use aud_witness::{Decision, Prefix};
 use std::alloc::{Allocator, Global};
 use std::marker::Model;
 
-/// How many times as many lists are searched of what one object sees as before the first round of a whole history.
-const ALONE: u64 = 8;
+/// How many times as long as the first round the second one is, and as long as at first what objects see is searched after it.
+const LONGER: u64 = 8;
 
-/// Whether no list shows the history, by what each object sees of it, with so many lists of each at most.
+/// Whether no list shows the history, by what each object sees of it, with so many times its lists of each, but so many at most.
 fn look_alone<A: Allocator + Copy>(
     alloc: A,
     shape: &Shape<A>,
+    times: u64,
     most: u64,
 ) -> Result<bool, OutOfMemory>
     ensures { IfOk result (λ yes. IsTrue yes → Refuted (objects_of shape.now) (history_of shape.now) []) }
@@ -34,7 +35,7 @@ fn look_alone<A: Allocator + Copy>(
     if !may_pay(shape) {
         return Ok(false);
     }
-    find_refuted_alone(alloc, shape, ALONE, most)
+    find_refuted_alone(alloc, shape, times, most)
 }
 
 /// Where no list shows the history, none that begins with the prefix does.
@@ -110,7 +111,7 @@ pub struct Memory<'a, J: Scene, A: Allocator + Copy = Global> {
     shared: Option<&'a Shared<J, A>>,
     room: usize,
     memo: Memo<'a, Unnoted, Sharing<'a, J, A>, A>,
-    was_looked_at: bool,
+    looked: u64,
     is_refuted: bool,
 }
 
@@ -141,34 +142,48 @@ impl<'a, J: Scene, A: Allocator + Copy> Memory<'a, J, A> {
             shared: own,
             room,
             memo: Memo::new(alloc, shape, Sharing { shared: own }, room),
-            was_looked_at: false,
+            looked: 0,
             is_refuted: false,
         }
     }
 
-    /// Whether no list that begins with the prefix shows the history, by what each object sees of it: that is looked for once, with so many
-    /// lists of each at most.
-    fn is_refuted_alone(&mut self, prefix: &Prefix<A>, most: u64) -> Result<bool, OutOfMemory>
+    /// Whether no list that begins with the prefix shows the history, by what each object sees of it. That is looked for so many times as
+    /// long as at first, with so many lists of each object at most, unless it was looked for so long before.
+    fn is_refuted_alone(
+        &mut self,
+        prefix: &Prefix<A>,
+        times: u64,
+        most: u64,
+    ) -> Result<bool, OutOfMemory>
         ensures refuted { IfOk result (λ yes. IsTrue yes → Refuted (objects_of self.old) (history_of self.old) prefix.now) }
         ensures same { self.new ≡ self.old }
     {
-        if !self.was_looked_at {
-            self.is_refuted = look_alone(self.alloc, self.shape, most)?;
-            self.was_looked_at = true;
+        if self.looked < times {
+            self.is_refuted = look_alone(self.alloc, self.shape, times, most)?;
+            self.looked = times;
         }
         Ok(is_refuted_below(self.shape, prefix, self.is_refuted))
     }
 
-    /// The same as `explore`, by a search.
-    fn search_below(&mut self, prefix: &Prefix<A>, budget: u64) -> Result<Outcome<A>, OutOfMemory>
+    /// By last events. Where others search too, those come after the others that ended before the last of the list did.
+    fn by_last(&self, list: &[Decision]) -> Order {
+        Order::Last(match self.shared {
+            Some(_) => last_of(self.shape, list),
+            None => 0,
+        })
+    }
+
+    /// The same as `explore`, by one search in the order.
+    fn search_below(
+        &mut self,
+        order: Order,
+        prefix: &Prefix<A>,
+        budget: u64,
+    ) -> Result<Outcome<A>, OutOfMemory>
         ensures reported { IfOk result (Reports (objects_of self.old) (history_of self.old) prefix.now (Some budget)) }
         ensures shape { self.new ≡ self.old }
     {
         self.memo.move_away();
-        let order = Order::Last(match self.shared {
-            Some(_) => last_of(self.shape, prefix.decisions()),
-            None => 0,
-        });
         let (alloc, shape, shared, room) = (self.alloc, self.shape, self.shared, self.room);
         let mut rules = Rules::new(alloc, shape);
         match search(
@@ -188,9 +203,80 @@ impl<'a, J: Scene, A: Allocator + Copy> Memory<'a, J, A> {
         }
     }
 
+    /// What a round tells, in the order and of so many times the first lists: what the search of them comes to, or that what an object
+    /// sees refutes all. There is no round where it would take the budget.
+    fn explore_soon(
+        &mut self,
+        order: Order,
+        prefix: &Prefix<A>,
+        times: u64,
+        budget: u64,
+    ) -> Result<Option<Outcome<A>>, OutOfMemory>
+        ensures told { IfOk result (λ o. MatchOption o (Unit {0}) (Reports (objects_of self.old) (history_of self.old) prefix.now (Some budget))) }
+        ensures shape { self.new ≡ self.old }
+    {
+        let lists = lists_of(self.shape).saturating_mul(times);
+        if lists >= budget {
+            return Ok(None);
+        }
+        match self.search_below(order, prefix, lists)? {
+            Outcome::Witness(witness) => return Ok(Some(Outcome::Witness(witness))),
+            Outcome::Refuted => return Ok(Some(Outcome::Refuted)),
+            Outcome::Spent => {}
+        }
+        if self.is_refuted_alone(prefix, times, budget)? {
+            return Ok(Some(Outcome::Refuted));
+        }
+        Ok(None)
+    }
+
+    /// What rounds tell, if they may pay: one by last events, and a longer one by first events.
+    fn explore_by_rounds(
+        &mut self,
+        prefix: &Prefix<A>,
+        budget: u64,
+    ) -> Result<Option<Outcome<A>>, OutOfMemory>
+        ensures told { IfOk result (λ o. MatchOption o (Unit {0}) (Reports (objects_of self.old) (history_of self.old) prefix.now (Some budget))) }
+        ensures shape { self.new ≡ self.old }
+    {
+        if !may_pay(self.shape) {
+            return Ok(None);
+        }
+        let by_last = self.by_last(prefix.decisions());
+        if let Some(told) = self.explore_soon(by_last, prefix, 1, budget)? {
+            return Ok(Some(told));
+        }
+        self.explore_soon(Order::First, prefix, LONGER, budget)
+    }
+
+    /// What one search tells that may take the budget, or what an object sees alone, where it is spent.
+    fn explore_at_length(
+        &mut self,
+        prefix: &Prefix<A>,
+        budget: u64,
+    ) -> Result<Outcome<A>, OutOfMemory>
+        ensures reported { IfOk result (Reports (objects_of self.old) (history_of self.old) prefix.now (Some budget)) }
+        ensures shape { self.new ≡ self.old }
+    {
+        let by_last = self.by_last(prefix.decisions());
+        match self.search_below(by_last, prefix, budget)? {
+            Outcome::Witness(witness) => Ok(Outcome::Witness(witness)),
+            Outcome::Refuted => Ok(Outcome::Refuted),
+            Outcome::Spent => {
+                if self.is_refuted_alone(prefix, LONGER, budget)? {
+                    Ok(Outcome::Refuted)
+                } else {
+                    Ok(Outcome::Spent)
+                }
+            }
+        }
+    }
+
     /// Whether some list that begins with the prefix shows the history, as `explore` says it. What it refutes is remembered, and
-    /// what was remembered costs no expansion. Where a budget was spent, what each object sees of the history is searched, once, with as many
-    /// lists of each at most: where that refutes it, so is each later prefix at once. Where a search is refused memory all is forgotten.
+    /// what was remembered costs no expansion. Where the budget has room for them, two short rounds come first, as in `decide`: by last
+    /// and by first events. After each, and where the budget was spent, what each object sees of the history is searched, with as many
+    /// lists of each at most, but never as long as before: where that refutes it, so is each later prefix at once. Where a search is
+    /// refused memory all is forgotten.
     pub fn explore(&mut self, prefix: &Prefix<A>, budget: u64) -> Result<Outcome<A>, OutOfMemory>
         ensures reported { IfOk result (Reports (objects_of self.old) (history_of self.old) prefix.now (Some budget)) }
         ensures shape { self.new ≡ self.old }
@@ -198,16 +284,9 @@ impl<'a, J: Scene, A: Allocator + Copy> Memory<'a, J, A> {
         if is_refuted_below(self.shape, prefix, self.is_refuted) {
             return Ok(Outcome::Refuted);
         }
-        match self.search_below(prefix, budget)? {
-            Outcome::Witness(witness) => Ok(Outcome::Witness(witness)),
-            Outcome::Refuted => Ok(Outcome::Refuted),
-            Outcome::Spent => {
-                if self.is_refuted_alone(prefix, budget)? {
-                    Ok(Outcome::Refuted)
-                } else {
-                    Ok(Outcome::Spent)
-                }
-            }
+        if let Some(told) = self.explore_by_rounds(prefix, budget)? {
+            return Ok(told);
         }
+        self.explore_at_length(prefix, budget)
     }
 }

@@ -1,0 +1,124 @@
+//! The search, a step of all lists at a time.
+
+ghost use Rattle.std.specs.Prelude.{◌≡◌, IfOk, IfSome, OnOk, IsTrue};
+ghost use Rattle.aud_witness.specs.Orders.{IsFull, Shows};
+ghost use Rattle.aud_order.specs.Shapes.{objects_of, history_of};
+
+use crate::entry::{Entry, entries_of};
+use crate::line::{Line, Step};
+use aud_event::OutOfMemory;
+use aud_order::{Cursor, Shape};
+use aud_witness::{Decision, Prefix};
+use std::alloc::Allocator;
+
+/// How many decisions the list begins with as the cursor's does.
+fn in_common(path: &[Decision], list: &[Decision]) -> usize {
+    path.iter()
+        .zip(list.iter())
+        .take_while(|pair| pair.0 == pair.1)
+        .count()
+}
+
+/// Takes the cursor to the list, over what both begin with, and says whether it is good.
+fn go_to<A: Allocator + Copy>(
+    cursor: &mut Cursor<A>,
+    list: &[Decision],
+) -> Result<bool, OutOfMemory>
+    ensures { OnOk result (cursor.new.shape ≡ cursor.old.shape) }
+{
+    let common = in_common(cursor.prefix(), list);
+    'back: while cursor.prefix().len() > common {
+        let _ = cursor.pop();
+    }
+    for decision in list.iter().skip(common) {
+        if !cursor.push(*decision)?.is_good() {
+            return Ok(false);
+        }
+    }
+    Ok(true)
+}
+
+/// Goes to each of the lists, and adds what it may go on to. It ends with true where one is full: there the cursor stands.
+fn look_at_all<A: Allocator + Copy>(
+    cursor: &mut Cursor<A>,
+    entries: &[Entry],
+    lines: &mut [Line<A>],
+    steps: &mut Vec<Step, A>,
+) -> Result<bool, OutOfMemory>
+    ensures shape { OnOk result (cursor.new.shape ≡ cursor.old.shape) }
+    ensures full { IfOk result (λ full. IsTrue full → IsFull (history_of cursor.old.shape) cursor.new.path) }
+{
+    for number in 0..lines.len() {
+        let line = &mut lines[number];
+        if go_to(cursor, &line.decisions)? {
+            line.settle(cursor, entries)?;
+            if cursor.full() {
+                return Ok(true);
+            }
+            line.add_steps(cursor, entries, number, steps)?;
+        }
+    }
+    Ok(false)
+}
+
+/// The most hopeful steps, so many at most, no two of which lead to the same.
+fn best_of<A: Allocator + Copy>(
+    alloc: A,
+    steps: &[Step],
+    width: usize,
+) -> Result<Vec<Step, A>, OutOfMemory> {
+    let mut best: Vec<Step, A> = Vec::new(alloc);
+    for step in steps {
+        if best.len() >= width {
+            break;
+        }
+        if !best.iter().any(|other| other.mark == step.mark) {
+            best.push(*step)?;
+        }
+    }
+    Ok(best)
+}
+
+/// The lists that the steps lead to.
+fn lines_after<A: Allocator + Copy>(
+    alloc: A,
+    lines: &[Line<A>],
+    steps: &[Step],
+) -> Result<Vec<Line<A>, A>, OutOfMemory> {
+    let mut after = Vec::new(alloc);
+    for (number, line) in lines.iter().enumerate() {
+        for step in steps {
+            if step.line == number {
+                after.push(line.longer(alloc, step)?)?;
+            }
+        }
+    }
+    Ok(after)
+}
+
+/// An order that shows the shape's history, if a broad search of so many lists at a time finds one.
+///
+/// It takes a step for each transaction; a step costs up to some hundreds of blocks for each list. Of two lists that placed the same
+/// transactions with the same fates and left states with the same digests one is kept.
+pub fn find_broadly<A: Allocator + Copy>(
+    alloc: A,
+    shape: &Shape<A>,
+    width: usize,
+) -> Result<Option<Prefix<A>>, OutOfMemory>
+    ensures { IfOk result (λ found. IfSome found (Shows (objects_of shape.now) (history_of shape.now))) }
+{
+    let entries = entries_of(alloc, shape)?;
+    let mut cursor = Cursor::root(alloc, shape)?;
+    let mut lines = Vec::new(alloc);
+    lines.push(Line::empty(alloc))?;
+    for _ in 0..entries.len().saturating_add(1) {
+        let mut steps = Vec::new(alloc);
+        if look_at_all(&mut cursor, &entries, lines.as_mut_slice(), &mut steps)? {
+            return Ok(Some(Prefix::copy_of(alloc, cursor.prefix())?));
+        }
+        steps.sort()?;
+        let best = best_of(alloc, &steps, width)?;
+        lines = lines_after(alloc, &lines, &best)?;
+    }
+    Ok(None)
+}
