@@ -4,7 +4,7 @@ use crate::certs::{is_cert_written, is_found_by_lines};
 use crate::cover::{closes, leaves_open};
 use crate::fixtures::{Input, order, shape_from, text_of};
 use crate::report::{is_long_line, is_read, is_reported};
-use crate::search::is_decided;
+use crate::search::{is_decided, is_found_broadly};
 use crate::splits::splits_into;
 use crate::text::{are_decisions, is_written};
 use aud_facts::Facts;
@@ -62,6 +62,8 @@ enum OfShape {
     IsSplit,
     /// Whether the search finds this order, or says `not opaque`.
     IsDecided(&'static str),
+    /// Whether a broad search finds this order, or `nothing`.
+    IsFoundBroadly(&'static str),
 }
 
 fn of_text<A: Allocator + Copy>(alloc: A, outside: Global, asked: OfText) -> Result<bool, Unread> {
@@ -130,6 +132,7 @@ fn of_shape<A: Allocator + Copy>(
             splits_into(alloc, shape, "none", 2, &["1c", "1a 2c", "2c 1c", "2c 1a"])
         }
         OfShape::IsDecided(text) => is_decided(alloc, shape, text),
+        OfShape::IsFoundBroadly(text) => is_found_broadly(alloc, shape, text),
     }
 }
 
@@ -201,7 +204,7 @@ fn outcomes(alloc: Global, input: Input, question: Question) -> Result<Option<(u
 type Row = (Question, Input, u64, u64, u64);
 
 /// All is reported, but where the search goes on without a memo that is out of memory: no answer is wrong then.
-const ROWS: [Row; 13] = [
+const ROWS: [Row; 16] = [
     (
         Question::OfText(OfText::OrderIsRead),
         Input::Nothing,
@@ -273,6 +276,27 @@ const ROWS: [Row; 13] = [
         0,
         11,
         1999,
+    ),
+    (
+        Question::OfShape(OfShape::IsFoundBroadly("1c 2c")),
+        Input::Reader,
+        21,
+        0,
+        0,
+    ),
+    (
+        Question::OfShape(OfShape::IsFoundBroadly("nothing")),
+        Input::Torn,
+        21,
+        0,
+        0,
+    ),
+    (
+        Question::OfShape(OfShape::IsFoundBroadly("nothing")),
+        Input::Five,
+        21,
+        0,
+        0,
     ),
     (
         Question::OfFacts(OfFacts::AreFound),
