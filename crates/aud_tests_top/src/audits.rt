@@ -14,13 +14,14 @@ use std::sync::Wait;
 use std::test::Fail;
 use std::thread::Threads;
 
-/// An audit by so many nodes with so many workers, if their numbers are in range, and with that budget for each task.
-fn audit_by(nodes: u32, workers: u32, budget: Option<u64>) -> Option<AuditJob>
+/// An audit by so many nodes with so many workers, if their numbers are in range, and with a budget for each task or none.
+fn audit_by(nodes: u32, workers: u32, has_budget: bool) -> Option<AuditJob>
     ensures { IfSome result IsAuditJob }
 {
     if nodes < 1 || nodes > 8 || workers < 1 || workers > 16 {
         return None;
     }
+    let budget = if has_budget { Some(65_536) } else { None };
     Some(AuditJob {
         nodes,
         workers,
@@ -38,7 +39,7 @@ fn met<R: Threads + Wait + Sync>(
     input: Input,
 ) -> Option<(Ended, u64, u64)> {
     let gate = Watch::new(2);
-    let job = audit_by(nodes, workers, Some(65_536))?;
+    let job = audit_by(nodes, workers, true)?;
     let mut source = MemorySource::new(Vec::from_slice(alloc, text_of(input).as_bytes()).ok()?);
     let mut sink = MemorySink::new(alloc);
     let ended = run_audit(rt, alloc, &job, &gate, &mut source, &mut sink);
@@ -109,7 +110,7 @@ fn ended<R: Threads + Wait + Sync>(
         failures: 0,
     };
     let ended = if is_audit {
-        let job = audit_by(2, 2, None)?;
+        let job = audit_by(2, 2, false)?;
         run_audit(rt, alloc, &job, &NoGate, &mut source, &mut sink)
     } else {
         run_lines(alloc, &job(alloc)?, &mut source, &mut sink)
