@@ -1,6 +1,6 @@
 #![tactic(auto)]
 //! The tests of the crates up to histories, orders and facts. They stand here, over the public calls, so that each of those
-//! crates is proved once.
+//! crates is proved once. Those in which growths of memory are refused are unproved: `bench/refused` runs them.
 
 #[cfg(test)]
 mod events;
@@ -9,14 +9,8 @@ mod facts;
 #[cfg(test)]
 mod fixtures;
 #[cfg(test)]
-mod histories;
-#[cfg(test)]
 mod joins;
 #[cfg(test)]
 mod objects;
 #[cfg(test)]
 mod orders;
-#[cfg(test)]
-mod refusals;
-#[cfg(test)]
-mod refused_pool;

@@ -1,25 +1,16 @@
 //! Certificates as findings, and headers that are none. What is said of certificates after their records `tests/certificates` asks.
 
-use crate::fixtures::{Input, shape_from, shape_of};
+use crate::fixtures::{Input, shape_of};
 use aud_accept::laws::accepted_is_refuted;
-use aud_cert::{CertTextFault, check_cert, finding_of, make_cert, read_cert, write_cert};
+use aud_cert::{CertTextFault, finding_of, read_cert};
 use aud_event::Dup;
-use aud_facts::Facts;
 use aud_know::{Item, Knowledge, Verdict};
 use aud_worked::Unread;
-use std::alloc::{Allocator, Global};
+use std::alloc::Global;
 use std::sync::Arc;
 
 const TORN: &str = r#"{"cert":2}
 {"by":"kids","p":"1c"}
-{"by":"kids","p":"none"}
-"#;
-
-const COUNTED: &str = r#"{"cert":5}
-{"by":"kids","p":"1c 2c"}
-{"by":"kids","p":"1c"}
-{"as":"1c 2c","by":"same","p":"2c 1c"}
-{"by":"kids","p":"2c"}
 {"by":"kids","p":"none"}
 "#;
 
@@ -64,31 +55,4 @@ fn an_accepted_certificate_is_a_finding(rt: HostRuntime) {
     assert!(rt; refutes(rt.alloc(), TORN) == Ok(Some(true)));
     assert!(rt; refutes(rt.alloc(), "{\"cert\":0}") == Ok(None));
     accepted_is_refuted::<Global>();
-}
-
-/// Whether a certificate is made of the facts, accepted, and a finding.
-pub(crate) fn is_found_by_lines<A: Allocator + Copy>(
-    alloc: A,
-    facts: &Facts<A>,
-) -> Result<bool, Unread> {
-    let shape = Arc::new(alloc, shape_from(alloc, facts)?)?;
-    match make_cert(alloc, &shape)? {
-        None => Ok(false),
-        Some(cert) => {
-            let is_accepted = check_cert(alloc, &shape, &cert)?;
-            Ok(is_accepted && finding_of(alloc, shape, &cert)?.is_some())
-        }
-    }
-}
-
-/// Whether a certificate that was read outside is written as it was.
-pub(crate) fn is_cert_written<A: Allocator + Copy>(
-    alloc: A,
-    outside: Global,
-) -> Result<bool, Unread> {
-    let Ok(cert) = read_cert(outside, COUNTED.as_bytes()) else {
-        return Ok(false);
-    };
-    let text = write_cert(alloc, &cert)?;
-    Ok(text.as_slice() == COUNTED.as_bytes())
 }

@@ -5,8 +5,7 @@ use aud_order::Shape;
 use aud_text::{TextFault, read_order};
 use aud_witness::{Decision, Fate, Prefix};
 use aud_worked::{
-    FIVE_COUNTERS, NINE_COUNTERS, NOTHING_HAPPENED, PENDING_COMMIT_IS_UNSEEN, READER_AFTER_COMMIT,
-    TORN_READ_THEN_ABORT, Unread, facts_of, sealed_from,
+    NINE_COUNTERS, PENDING_COMMIT_IS_UNSEEN, TORN_READ_THEN_ABORT, Unread, facts_of, sealed_from,
 };
 use std::alloc::{Allocator, Global};
 use std::sync::Arc;
@@ -26,15 +25,6 @@ pub fn order<A: Allocator + Copy>(alloc: A, text: &str) -> Result<Prefix<A>, Tex
     read_order(alloc, text.as_bytes())
 }
 
-/// Whether the order is that of the text.
-pub fn is_order<A: Allocator + Copy>(
-    alloc: A,
-    found: &Prefix<A>,
-    text: &str,
-) -> Result<bool, Unread> {
-    Ok(*found == order(alloc, text)?)
-}
-
 /// The shape of a sealed set, where its history is well-formed.
 fn shape_of_sealed<A: Allocator + Copy>(
     alloc: A,
@@ -47,7 +37,7 @@ fn shape_of_sealed<A: Allocator + Copy>(
 }
 
 /// The shape of facts that are sealed and have a well-formed history.
-pub fn shape_from<A: Allocator + Copy>(alloc: A, facts: &Facts<A>) -> Result<Shape<A>, Unread> {
+fn shape_from<A: Allocator + Copy>(alloc: A, facts: &Facts<A>) -> Result<Shape<A>, Unread> {
     shape_of_sealed(alloc, sealed_from(facts)?)?.ok_or(Unread::Unsealed)
 }
 
@@ -63,21 +53,14 @@ pub enum Input {
     Torn,
     /// Transaction 2 does not see what 1 wrote, which asks to commit.
     Pending,
-    Nothing,
-    /// Transaction 2 reads what 1 wrote and committed.
-    Reader,
-    /// Five transactions count at once, and nine.
-    Five,
+    /// Nine transactions count at once.
     Nine,
 }
 
-pub fn text_of(input: Input) -> &'static str {
+fn text_of(input: Input) -> &'static str {
     match input {
         Input::Torn => TORN_READ_THEN_ABORT,
         Input::Pending => PENDING_COMMIT_IS_UNSEEN,
-        Input::Nothing => NOTHING_HAPPENED,
-        Input::Reader => READER_AFTER_COMMIT,
-        Input::Five => FIVE_COUNTERS,
         Input::Nine => NINE_COUNTERS,
     }
 }

@@ -1,14 +1,11 @@
 #![tactic(auto)]
-//! The tests of the crates between the facts and knowledge.
+//! The tests of the crates between the facts and knowledge. Those in which growths of memory are refused are unproved: `bench/refused`
+//! runs them.
 
 #[cfg(test)]
 mod certs;
 #[cfg(test)]
-mod cover;
-#[cfg(test)]
 mod fixtures;
-#[cfg(test)]
-mod refusals;
 #[cfg(test)]
 mod report;
 #[cfg(test)]

@@ -2,37 +2,12 @@
 
 ghost use Rattle.std.specs.Prelude.{◌≡◌};
 
-use crate::fixtures::{Input, is_order, order, shape_of};
-use aud_broad::find_broadly;
+use crate::fixtures::{Input, order, shape_of};
 use aud_order::Shape;
-use aud_search::{Decided, Memory, Outcome, Scene, Shared, decide, explore};
+use aud_search::{Memory, Outcome, Scene, Shared, explore};
 use aud_worked::Unread;
-use std::alloc::{Allocator, Global};
+use std::alloc::Global;
 use std::marker::Brand;
-
-/// Whether the history is decided as the text says: it is an order, or `not opaque`.
-pub(crate) fn is_decided<A: Allocator + Copy>(
-    alloc: A,
-    shape: &Shape<A>,
-    text: &str,
-) -> Result<bool, Unread> {
-    match decide(alloc, shape)? {
-        Decided::Opaque(found) => is_order(alloc, &found, text),
-        Decided::NotOpaque => Ok(text == "not opaque"),
-    }
-}
-
-/// Whether a broad search of two lists at a time finds the order that the text says, or `nothing`.
-pub(crate) fn is_found_broadly<A: Allocator + Copy>(
-    alloc: A,
-    shape: &Shape<A>,
-    text: &str,
-) -> Result<bool, Unread> {
-    match find_broadly(alloc, shape, 2)? {
-        Some(found) => is_order(alloc, &found, text),
-        None => Ok(text == "nothing"),
-    }
-}
 
 /// What a search with a budget reported, the order aside.
 #[derive(Clone, Copy, PartialEq, Eq)]

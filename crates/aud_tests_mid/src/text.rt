@@ -11,8 +11,8 @@ use aud_text::{
     read_fact, read_plan, write_fact, write_order,
 };
 use aud_witness::{Decision, Prefix};
-use aud_worked::{TORN_READ_THEN_ABORT, Unread};
-use std::alloc::{Allocator, Global};
+use aud_worked::TORN_READ_THEN_ABORT;
+use std::alloc::Global;
 use std::test::Fail;
 
 /// The plan that a text begins with.
@@ -220,26 +220,6 @@ fn orders_are_written_and_read(rt: HostRuntime) -> Result<(), Fail> {
         assert!(rt; are_read(rt.alloc(), decisions, text), "of {text}");
     }
     Ok(())
-}
-
-/// Whether the text is read as an order of so many decisions.
-pub(crate) fn are_decisions<A: Allocator + Copy>(
-    alloc: A,
-    text: &str,
-    count: usize,
-) -> Result<bool, Unread> {
-    Ok(order(alloc, text)?.decisions().len() == count)
-}
-
-/// Whether the order of the text has so many decisions, and is written as the text.
-pub(crate) fn is_written<A: Allocator + Copy>(
-    alloc: A,
-    text: &str,
-    count: usize,
-) -> Result<bool, Unread> {
-    let order = order(alloc, text)?;
-    let written = write_order(alloc, &order)?;
-    Ok(written.as_slice() == text.as_bytes() && order.decisions().len() == count)
 }
 
 /// Whether the first line of the text is this one, with this after it.
