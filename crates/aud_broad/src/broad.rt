@@ -5,18 +5,25 @@ ghost use Rattle.aud_witness.specs.Orders.{IsFull, Shows};
 ghost use Rattle.aud_order.specs.Shapes.{objects_of, history_of};
 
 use crate::entry::{Entry, entries_of};
+use crate::hope::Breadth;
 use crate::line::{Line, Step};
+use crate::lookout::Lookout;
 use aud_event::OutOfMemory;
 use aud_order::{Cursor, Shape};
+use aud_witness::laws::shows_is_full_and_good;
 use aud_witness::{Decision, Prefix};
 use std::alloc::Allocator;
 
 /// How many decisions the list begins with as the cursor's does.
 fn in_common(path: &[Decision], list: &[Decision]) -> usize {
-    path.iter()
-        .zip(list.iter())
-        .take_while(|pair| pair.0 == pair.1)
-        .count()
+    let mut common: usize = 0;
+    for (one, other) in path.iter().zip(list.iter()) {
+        if one != other {
+            break;
+        }
+        common = common.saturating_add(1);
+    }
+    common
 }
 
 /// Takes the cursor to the list, over what both begin with, and says whether it is good.
@@ -38,24 +45,31 @@ fn go_to<A: Allocator + Copy>(
     Ok(true)
 }
 
-/// Goes to each of the lists, and adds what it may go on to. It ends with true where one is full: there the cursor stands.
+/// Goes to each of the lists, and adds what it may go on to, but where it is plain that nothing comes of it. It ends with true where one
+/// is full: there the cursor stands.
 fn look_at_all<A: Allocator + Copy>(
     cursor: &mut Cursor<A>,
+    lookout: &mut Lookout<A>,
     entries: &[Entry],
+    breadth: Breadth,
     lines: &mut [Line<A>],
     steps: &mut Vec<Step, A>,
 ) -> Result<bool, OutOfMemory>
+    requires { cursor.old.shape ≡ lookout.old }
     ensures shape { OnOk result (cursor.new.shape ≡ cursor.old.shape) }
+    ensures lookout { OnOk result (lookout.new ≡ lookout.old) }
     ensures full { IfOk result (λ full. IsTrue full → IsFull (history_of cursor.old.shape) cursor.new.path) }
 {
     for number in 0..lines.len() {
         let line = &mut lines[number];
         if go_to(cursor, &line.decisions)? {
-            line.settle(cursor, entries)?;
+            line.settle(cursor, lookout, entries)?;
             if cursor.full() {
                 return Ok(true);
             }
-            line.add_steps(cursor, entries, number, steps)?;
+            if !lookout.is_doomed(cursor) {
+                line.add_steps(cursor, entries, breadth, number, steps)?;
+            }
         }
     }
     Ok(false)
@@ -96,29 +110,51 @@ fn lines_after<A: Allocator + Copy>(
     Ok(after)
 }
 
-/// An order that shows the shape's history, if a broad search of so many lists at a time finds one.
-///
-/// It takes a step for each transaction; a step costs up to some hundreds of blocks for each list. Of two lists that placed the same
-/// transactions with the same fates and left states with the same digests one is kept.
-pub fn find_broadly<A: Allocator + Copy>(
+/// The same as `find_broadly`, with what it asks of lists.
+fn find_with<A: Allocator + Copy>(
     alloc: A,
     shape: &Shape<A>,
-    width: usize,
+    lookout: &mut Lookout<A>,
+    breadth: Breadth,
 ) -> Result<Option<Prefix<A>>, OutOfMemory>
+    requires { lookout.old ≡ shape.now }
     ensures { IfOk result (λ found. IfSome found (Shows (objects_of shape.now) (history_of shape.now))) }
 {
+    shows_is_full_and_good();
     let entries = entries_of(alloc, shape)?;
     let mut cursor = Cursor::root(alloc, shape)?;
     let mut lines = Vec::new(alloc);
     lines.push(Line::empty(alloc))?;
     for _ in 0..entries.len().saturating_add(1) {
         let mut steps = Vec::new(alloc);
-        if look_at_all(&mut cursor, &entries, lines.as_mut_slice(), &mut steps)? {
+        if look_at_all(
+            &mut cursor,
+            lookout,
+            &entries,
+            breadth,
+            lines.as_mut_slice(),
+            &mut steps,
+        )? {
             return Ok(Some(Prefix::copy_of(alloc, cursor.prefix())?));
         }
         steps.sort()?;
-        let best = best_of(alloc, &steps, width)?;
+        let best = best_of(alloc, &steps, breadth.lists)?;
         lines = lines_after(alloc, &lines, &best)?;
     }
     Ok(None)
+}
+
+/// An order that shows the shape's history, if a broad search of that breadth finds one.
+///
+/// It takes a step for each transaction; a step costs up to some hundreds of blocks and a look ahead for each list. Of two lists that placed
+/// the same transactions with the same fates and left states with the same digests one is kept.
+pub fn find_broadly<A: Allocator + Copy>(
+    alloc: A,
+    shape: &Shape<A>,
+    breadth: Breadth,
+) -> Result<Option<Prefix<A>>, OutOfMemory>
+    ensures { IfOk result (λ found. IfSome found (Shows (objects_of shape.now) (history_of shape.now))) }
+{
+    let mut lookout = Lookout::of(alloc, shape)?;
+    find_with(alloc, shape, &mut lookout, breadth)
 }

@@ -9,17 +9,22 @@ use aud_order::{Cursor, Pushed};
 use aud_witness::{Decision, Fate};
 use std::alloc::Allocator;
 
-/// How many of the transactions that end first are asked whether they are right.
-const ASKED: u64 = 4;
+/// How a broad search goes.
+#[derive(Clone, Copy)]
+pub struct Breadth {
+    /// How many lists go on side by side.
+    pub lists: usize,
+    /// How many of the transactions that end first, of those that may come next, are asked whether they are right.
+    pub asked: u64,
+    /// How much it weighs to place a transaction before one that ends sooner, where it weighs 12 that the first of those is not right.
+    pub early: u64,
+}
 
 /// What weighs against a list that the first of them is not right after it; the second weighs half as much, the third a third.
 const WRONG: u64 = 12;
 
-/// How much it weighs to place a transaction before one that ends sooner.
-pub(crate) const EARLY: u64 = 6;
-
 /// How many transactions are looked at from the first on that is not placed. Those that end later can wait.
-const WINDOW: usize = 128;
+const WINDOW: usize = 64;
 
 /// Where the look from a place on ends.
 pub(crate) fn window_end(entries: &[Entry], from: usize) -> usize
@@ -29,18 +34,19 @@ pub(crate) fn window_end(entries: &[Entry], from: usize) -> usize
 }
 
 /// What weighs against the cursor's list: that the transactions that end first, of those from a place on that may come next, are not right
-/// there. The cursor comes back.
+/// there, so many at most. The cursor comes back.
 pub(crate) fn weight_of<A: Allocator + Copy>(
     cursor: &mut Cursor<A>,
     entries: &[Entry],
     from: usize,
+    most: u64,
 ) -> Result<u64, OutOfMemory>
     ensures { OnOk result (cursor.new.shape ≡ cursor.old.shape) }
 {
     let mut weight: u64 = 0;
     let mut asked: u64 = 0;
     for entry in entries.iter().skip(from) {
-        if asked >= ASKED {
+        if asked >= most {
             break;
         }
         match cursor.push(entry.decision)? {

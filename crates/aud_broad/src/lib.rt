@@ -6,5 +6,7 @@ mod broad;
 mod entry;
 mod hope;
 mod line;
+mod lookout;
 
 pub use broad::find_broadly;
+pub use hope::Breadth;

@@ -3,7 +3,8 @@
 ghost use Rattle.std.specs.Prelude.{◌≡◌, OnOk};
 
 use crate::entry::Entry;
-use crate::hope::{EARLY, mark_of, mark_of_states, weight_of, window_end};
+use crate::hope::{Breadth, mark_of, mark_of_states, weight_of, window_end};
+use crate::lookout::Lookout;
 use aud_event::OutOfMemory;
 use aud_order::{Cursor, Pushed};
 use aud_witness::{Decision, Fate};
@@ -27,6 +28,28 @@ pub(crate) struct Step {
     pub mark: u64,
 }
 
+/// Places the transaction, if that is good and nobody notices.
+fn is_placed_at_once<A: Allocator + Copy>(
+    cursor: &mut Cursor<A>,
+    lookout: &Lookout<A>,
+    entry: &Entry,
+) -> Result<bool, OutOfMemory>
+    requires { cursor.old.shape ≡ lookout.now }
+    ensures { OnOk result (cursor.new.shape ≡ cursor.old.shape) }
+{
+    if !cursor.push(entry.decision)?.is_good() {
+        return Ok(false);
+    }
+    if entry.is_silent {
+        return Ok(true);
+    }
+    let _ = cursor.pop();
+    if !lookout.is_enough(cursor, entry.place) {
+        return Ok(false);
+    }
+    Ok(cursor.push(entry.decision)?.is_good())
+}
+
 impl<A: Allocator + Copy> Line<A> {
     /// The empty list. It does not allocate.
     pub(crate) fn empty(alloc: A) -> Line<A> {
@@ -48,18 +71,21 @@ impl<A: Allocator + Copy> Line<A> {
         })
     }
 
-    /// Places each transaction that nobody sees where the cursor stands, which is at the list, and passes over those that are placed.
+    /// Places each transaction of which nobody notices anything where the cursor stands, which is at the list, and passes over those
+    /// that are placed.
     pub(crate) fn settle(
         &mut self,
         cursor: &mut Cursor<A>,
+        lookout: &Lookout<A>,
         entries: &[Entry],
     ) -> Result<(), OutOfMemory>
+        requires { cursor.old.shape ≡ lookout.now }
         ensures { OnOk result (cursor.new.shape ≡ cursor.old.shape) }
     {
         let end = window_end(entries, self.from);
         for place in self.from..end {
             let entry = entries[place];
-            if entry.is_silent && cursor.push(entry.decision)?.is_good() {
+            if is_placed_at_once(cursor, lookout, &entry)? {
                 self.decisions.push(entry.decision)?;
                 self.mark = self.mark.wrapping_add(mark_of(entry.decision));
             }
@@ -76,6 +102,7 @@ impl<A: Allocator + Copy> Line<A> {
         &self,
         cursor: &mut Cursor<A>,
         entries: &[Entry],
+        breadth: Breadth,
         line: usize,
         decision: Decision,
         passed: u64,
@@ -88,12 +115,12 @@ impl<A: Allocator + Copy> Line<A> {
             Pushed::NotAChoice => return Ok(true),
             Pushed::NotEnabled | Pushed::Illegal => return Ok(false),
         }
-        let weight = weight_of(cursor, entries, self.from)?;
+        let weight = weight_of(cursor, entries, self.from, breadth.asked)?;
         let placed = self.mark.wrapping_add(mark_of(decision));
         let mark = placed.wrapping_add(mark_of_states(cursor.store()));
         let _ = cursor.pop();
         steps.push(Step {
-            weight: weight.saturating_add(EARLY.saturating_mul(passed)),
+            weight: weight.saturating_add(breadth.early.saturating_mul(passed)),
             line,
             decision,
             placed,
@@ -107,6 +134,7 @@ impl<A: Allocator + Copy> Line<A> {
         &self,
         cursor: &mut Cursor<A>,
         entries: &[Entry],
+        breadth: Breadth,
         line: usize,
         steps: &mut Vec<Step, A>,
     ) -> Result<(), OutOfMemory>
@@ -115,13 +143,21 @@ impl<A: Allocator + Copy> Line<A> {
         let mut passed: u64 = 0;
         for place in self.from..window_end(entries, self.from) {
             let entry = entries[place];
-            let is_placed = self.add_step(cursor, entries, line, entry.decision, passed, steps)?;
+            let is_placed = self.add_step(
+                cursor,
+                entries,
+                breadth,
+                line,
+                entry.decision,
+                passed,
+                steps,
+            )?;
             if entry.may_abort && !is_placed {
                 let abort = Decision {
                     tx: entry.decision.tx,
                     fate: Fate::A,
                 };
-                let _ = self.add_step(cursor, entries, line, abort, passed, steps)?;
+                let _ = self.add_step(cursor, entries, breadth, line, abort, passed, steps)?;
             }
             if !is_placed {
                 passed = passed.saturating_add(1);

@@ -12,17 +12,64 @@ use crate::recorder::{Unnoted, Unrecorded};
 use crate::room::BOUND;
 use crate::rules::Rules;
 use crate::search::search;
-use aud_broad::find_broadly;
+use aud_broad::{Breadth, find_broadly};
 use aud_event::OutOfMemory;
 use aud_order::Shape;
 use aud_witness::Prefix;
 use aud_witness::laws::letter_is_opaque;
 use std::alloc::Allocator;
 
-/// How many lists a broad search has side by side, and how many one that comes later.
-const WIDTH: usize = 100;
+/// How broad searches go, one after the other: what one passes over another finds.
+pub(crate) const NARROW: Breadth = Breadth {
+    lists: 50,
+    asked: 3,
+    early: 4,
+};
 
-const LATER_WIDTH: usize = 200;
+pub(crate) const BROAD: Breadth = Breadth {
+    lists: 100,
+    asked: 2,
+    early: 3,
+};
+
+const BROADEST: Breadth = Breadth {
+    lists: 200,
+    asked: 4,
+    early: 6,
+};
+
+/// What is tried for a decision before the search of all lists.
+#[derive(Clone, Copy)]
+enum Round {
+    /// A search in the order of so many times the first lists.
+    Soon(Order, u64),
+    /// What each object sees, with so many times as many lists of each as at first.
+    Alone(u64),
+    /// A broad search.
+    Broadly(Breadth),
+}
+
+/// Searches try transactions by their last and by their first events in turn, each eight times as long as the one before it: what one order
+/// comes to late the other may come to soon.
+const ROUNDS: [Round; 9] = [
+    Round::Soon(Order::Last(0), 1),
+    Round::Alone(1),
+    Round::Soon(Order::First, 8),
+    Round::Broadly(NARROW),
+    Round::Alone(8),
+    Round::Broadly(BROAD),
+    Round::Soon(Order::Last(0), 64),
+    Round::Broadly(BROADEST),
+    Round::Soon(Order::First, 512),
+];
+
+/// Those of a history of one object, or of which what each object sees would be too much.
+const FEW_ROUNDS: [Round; 4] = [
+    Round::Soon(Order::Last(0), 16),
+    Round::Broadly(NARROW),
+    Round::Broadly(BROAD),
+    Round::Broadly(BROADEST),
+];
 
 /// Whether the history is opaque, with a list that shows it where it is. That is so by lists of decisions, and by the letter of
 /// Guerraoui and Kapałka (PPoPP 2008).
@@ -35,8 +82,8 @@ pub fn decide<A: Allocator + Copy>(alloc: A, shape: &Shape<A>) -> Result<Decided
     decide_by_lists(alloc, shape)
 }
 
-/// The same by lists of decisions: where that may pay by rounds, and then by a search of all lists. What a round refuted the next ones
-/// remember, and the rules that came into play in one stay there.
+/// The same by lists of decisions: by rounds, and then by a search of all lists. What a round refuted the next ones remember, and the
+/// rules that came into play in one stay there.
 fn decide_by_lists<A: Allocator + Copy>(
     alloc: A,
     shape: &Shape<A>,
@@ -46,9 +93,9 @@ fn decide_by_lists<A: Allocator + Copy>(
     let mut memo = Memo::new(alloc, shape, Unrecorded, BOUND);
     let mut rules = Rules::new(alloc, shape);
     let decided = if may_pay(shape) {
-        decide_by_rounds(alloc, shape, &mut memo, &mut rules)?
+        decide_by_rounds(alloc, shape, &ROUNDS, &mut memo, &mut rules)?
     } else {
-        decide_by_one_round(alloc, shape, &mut memo, &mut rules)?
+        decide_by_rounds(alloc, shape, &FEW_ROUNDS, &mut memo, &mut rules)?
     };
     match decided {
         Some(decided) => Ok(decided),
@@ -56,11 +103,11 @@ fn decide_by_lists<A: Allocator + Copy>(
     }
 }
 
-/// The same, as far as rounds tell, each eight times as long as the one before it. They try transactions by their last and by their first
-/// events in turn: what one order comes to late the other may come to soon. After each of the first two is looked what each object sees.
+/// The same, as far as one of the rounds tells.
 fn decide_by_rounds<'a, A: Allocator + Copy>(
     alloc: A,
     shape: &'a Shape<A>,
+    rounds: &[Round],
     memo: &mut Memo<'a, Unnoted, Unrecorded, A>,
     rules: &mut Rules<'a, A>,
 ) -> Result<Option<Decided<A>>, OutOfMemory>
@@ -70,34 +117,19 @@ fn decide_by_rounds<'a, A: Allocator + Copy>(
     ensures shape { OnOk result (memo.new.shape ≡ memo.old.shape) }
     ensures same { rules.new ≡ rules.old }
 {
-    if let Some(decided) = decide_soon(alloc, shape, Order::Last(0), 1, memo, rules)? {
-        return Ok(Some(decided));
+    for round in rounds {
+        if let Some(decided) = decide_in(alloc, shape, *round, memo, rules)? {
+            return Ok(Some(decided));
+        }
     }
-    if is_refuted_alone(alloc, shape, 1) {
-        return Ok(Some(Decided::NotOpaque));
-    }
-    if let Some(decided) = decide_soon(alloc, shape, Order::First, 8, memo, rules)? {
-        return Ok(Some(decided));
-    }
-    if is_refuted_alone(alloc, shape, 8) {
-        return Ok(Some(Decided::NotOpaque));
-    }
-    if let Some(decided) = decide_broadly(alloc, shape, WIDTH)? {
-        return Ok(Some(decided));
-    }
-    if let Some(decided) = decide_soon(alloc, shape, Order::Last(0), 64, memo, rules)? {
-        return Ok(Some(decided));
-    }
-    if let Some(decided) = decide_broadly(alloc, shape, LATER_WIDTH)? {
-        return Ok(Some(decided));
-    }
-    decide_soon(alloc, shape, Order::First, 512, memo, rules)
+    Ok(None)
 }
 
-/// The same of a history of one object, or of which what each object sees would be too much.
-fn decide_by_one_round<'a, A: Allocator + Copy>(
+/// The same, as far as the round tells.
+fn decide_in<'a, A: Allocator + Copy>(
     alloc: A,
     shape: &'a Shape<A>,
+    round: Round,
     memo: &mut Memo<'a, Unnoted, Unrecorded, A>,
     rules: &mut Rules<'a, A>,
 ) -> Result<Option<Decided<A>>, OutOfMemory>
@@ -107,24 +139,33 @@ fn decide_by_one_round<'a, A: Allocator + Copy>(
     ensures shape { OnOk result (memo.new.shape ≡ memo.old.shape) }
     ensures same { rules.new ≡ rules.old }
 {
-    if let Some(decided) = decide_soon(alloc, shape, Order::Last(0), 16, memo, rules)? {
-        return Ok(Some(decided));
+    match round {
+        Round::Soon(order, times) => decide_soon(alloc, shape, order, times, memo, rules),
+        Round::Alone(times) => Ok(decide_alone(alloc, shape, times)),
+        Round::Broadly(breadth) => decide_broadly(alloc, shape, breadth),
     }
-    if let Some(decided) = decide_broadly(alloc, shape, WIDTH)? {
-        return Ok(Some(decided));
+}
+
+/// The same, as far as what each object sees refutes it.
+fn decide_alone<A: Allocator + Copy>(alloc: A, shape: &Shape<A>, times: u64) -> Option<Decided<A>>
+    ensures { MatchOption result (Unit {0}) (Decides (objects_of shape.now) (history_of shape.now)) }
+{
+    if is_refuted_alone(alloc, shape, times) {
+        Some(Decided::NotOpaque)
+    } else {
+        None
     }
-    decide_broadly(alloc, shape, LATER_WIDTH)
 }
 
 /// The same, as far as a broad search finds an order.
 fn decide_broadly<A: Allocator + Copy>(
     alloc: A,
     shape: &Shape<A>,
-    width: usize,
+    breadth: Breadth,
 ) -> Result<Option<Decided<A>>, OutOfMemory>
     ensures { IfOk result (λ o. MatchOption o (Unit {0}) (Decides (objects_of shape.now) (history_of shape.now))) }
 {
-    match find_broadly(alloc, shape, width)? {
+    match find_broadly(alloc, shape, breadth)? {
         Some(order) => Ok(Some(Decided::Opaque(order))),
         None => Ok(None),
     }

@@ -7,6 +7,7 @@ ghost use Rattle.aud_search.specs.Searches.{Reports};
 
 use crate::alone::{find_refuted_alone, lists_of, may_pay};
 use crate::choice::Order;
+use crate::deciding::{BROAD, NARROW};
 use crate::memo::{LARGEST_SEEN, Memo};
 use crate::outcome::Outcome;
 use crate::recorder::Unnoted;
@@ -14,6 +15,7 @@ use crate::room::BOUND;
 use crate::rules::Rules;
 use crate::search::search;
 use crate::shared::{ROWS_MAX, Scene, Shared, Sharing};
+use aud_broad::{Breadth, find_broadly};
 use aud_event::OutOfMemory;
 use aud_order::Shape;
 use aud_witness::{Decision, Prefix};
@@ -22,6 +24,9 @@ use std::marker::Model;
 
 /// How many times as long as the first round the second one is, and as long as at first what objects see is searched after it.
 const LONGER: u64 = 8;
+
+/// The same of the one round where what objects see may not pay.
+const LONG: u64 = 16;
 
 /// Whether no list shows the history, by what each object sees of it, with so many times its lists of each, but so many at most.
 fn look_alone<A: Allocator + Copy>(
@@ -230,7 +235,26 @@ impl<'a, J: Scene, A: Allocator + Copy> Memory<'a, J, A> {
         Ok(None)
     }
 
-    /// What rounds tell, if they may pay: one by last events, and a longer one by first events.
+    /// What a broad search of all lists tells, where the prefix is empty and the budget is no less than the lists that it goes over.
+    fn explore_broadly(
+        &self,
+        breadth: Breadth,
+        prefix: &Prefix<A>,
+        budget: u64,
+    ) -> Result<Option<Outcome<A>>, OutOfMemory>
+        ensures { IfOk result (λ o. MatchOption o (Unit {0}) (Reports (objects_of self.now) (history_of self.now) prefix.now (Some budget))) }
+    {
+        let steps = self.shape.table().rows().len();
+        if !prefix.decisions().is_empty() || steps.saturating_mul(breadth.lists) as u64 > budget {
+            return Ok(None);
+        }
+        match find_broadly(self.alloc, self.shape, breadth)? {
+            Some(order) => Ok(Some(Outcome::Witness(order))),
+            None => Ok(None),
+        }
+    }
+
+    /// What rounds tell: one by last events and, where what each object sees may pay, a longer one by first events; then broad searches.
     fn explore_by_rounds(
         &mut self,
         prefix: &Prefix<A>,
@@ -239,14 +263,21 @@ impl<'a, J: Scene, A: Allocator + Copy> Memory<'a, J, A> {
         ensures told { IfOk result (λ o. MatchOption o (Unit {0}) (Reports (objects_of self.old) (history_of self.old) prefix.now (Some budget))) }
         ensures shape { self.new ≡ self.old }
     {
-        if !may_pay(self.shape) {
-            return Ok(None);
-        }
         let by_last = self.by_last(prefix.decisions());
-        if let Some(told) = self.explore_soon(by_last, prefix, 1, budget)? {
+        if may_pay(self.shape) {
+            if let Some(told) = self.explore_soon(by_last, prefix, 1, budget)? {
+                return Ok(Some(told));
+            }
+            if let Some(told) = self.explore_soon(Order::First, prefix, LONGER, budget)? {
+                return Ok(Some(told));
+            }
+        } else if let Some(told) = self.explore_soon(by_last, prefix, LONG, budget)? {
             return Ok(Some(told));
         }
-        self.explore_soon(Order::First, prefix, LONGER, budget)
+        if let Some(told) = self.explore_broadly(NARROW, prefix, budget)? {
+            return Ok(Some(told));
+        }
+        self.explore_broadly(BROAD, prefix, budget)
     }
 
     /// What one search tells that may take the budget, or what an object sees alone, where it is spent.
@@ -273,8 +304,8 @@ impl<'a, J: Scene, A: Allocator + Copy> Memory<'a, J, A> {
     }
 
     /// Whether some list that begins with the prefix shows the history, as `explore` says it. What it refutes is remembered, and
-    /// what was remembered costs no expansion. Where the budget has room for them, two short rounds come first, as in `decide`: by last
-    /// and by first events. After each, and where the budget was spent, what each object sees of the history is searched, with as many
+    /// what was remembered costs no expansion. Where the budget has room for them, short rounds come first, as in `decide`: by last
+    /// and by first events, and below the empty prefix two broad searches. After each of the first two, and where the budget was spent, what each object sees of the history is searched, with as many
     /// lists of each at most, but never as long as before: where that refutes it, so is each later prefix at once. Where a search is
     /// refused memory all is forgotten.
     pub fn explore(&mut self, prefix: &Prefix<A>, budget: u64) -> Result<Outcome<A>, OutOfMemory>
