@@ -12,7 +12,8 @@ use Rattle.aud_witness.specs.declared.decision.Decision.{Decision}
 use Rattle.aud_witness.specs.declared.decision.Fate.{Fate}
 use Rattle.aud_witness.specs.declared.decision.Fate.TheVariants.{C}
 use Rattle.aud_witness.specs.Orders.{IsGood, IsGoodNext, Refuted}
-use Rattle.aud_order.proofs.Moves.{refuted-by_silent, spots-decide}
+use Rattle.aud_witness.specs.Laws.{ShowsIsFullAndGood}
+use Rattle.aud_order.specs.Moves.{without, SilentMovesForward, SpotsDecide}
 use Rattle.aud_accept.proofs.Kids.{refuted-by_kids}
 use Rattle.aud_accept.specs.declared.cert.CertLine.{CertLine}
 use Rattle.aud_accept.specs.declared.cert.CertLine.TheVariants.{Kids, Silent, Same, Ahead, First}
@@ -23,7 +24,8 @@ use Rattle.aud_accept.specs.Laws.{AcceptedIsRefuted}
 decision-with : (d : Decision) (f : Fate) → d.fate ≡ f → d ≡ record { tx = d.tx; fate = f }
 decision-with d f same = λ i. record { tx = d.tx; fate = same i }
 
-module _ (plan : PlanOf) (h : History) (fine : IsWellFormed h) (within : IsWithinLimits plan h) where
+module _ (goods-law : ShowsIsFullAndGood) (silent-law : SilentMovesForward) (spots-law : SpotsDecide)
+    (plan : PlanOf) (h : History) (fine : IsWellFormed h) (within : IsWithinLimits plan h) where
   abbrev AreRefuted : List (List Decision) → Type 0
   AreRefuted ps = (p : List Decision) → Contains ps p → Refuted plan.objects h p
 
@@ -34,11 +36,11 @@ module _ (plan : PlanOf) (h : History) (fine : IsWellFormed h) (within : IsWithi
   rests-refuted : {X : Type 0} (earlier : List (List Decision)) (line : CertLine X) → AreGood earlier → AreRefuted earlier → IsGood plan.objects h (prefix_in line) →
       Rests plan.objects h earlier line → Refuted plan.objects h (prefix_in line)
   rests-refuted earlier (Kids p) goods dead good has =
-      refuted-by_kids plan.objects h p has.unfull (λ d next. dead (p ++ d ∷ []) (has.kids d next))
+      refuted-by_kids goods-law plan.objects h p has.unfull (λ d next. dead (p ++ d ∷ []) (has.kids d next))
   rests-refuted earlier (Silent p d) goods dead good has =
-      refuted-by_silent plan h p d fine within has.silent has.good (dead (p ++ d ∷ []) has.line)
+      λ q shown. dead (p ++ d ∷ []) has.line (without d.tx q) (silent-law plan h p q d fine within has.silent has.good shown)
   rests-refuted earlier (Same p q) goods dead good has =
-      λ rest shown. dead q has.line rest (spots-decide plan h p q rest fine within good (goods q has.line) has.alike.placed has.alike.states shown)
+      λ rest shown. dead q has.line rest (spots-law plan h p q rest fine within good (goods q has.line) has.alike.placed has.alike.states shown)
   rests-refuted earlier (Ahead p) goods dead good has = has
   rests-refuted earlier (First p d) goods dead good has =
       let same : d ≡ record { tx = d.tx; fate = C } = decision-with d C has.commits in
@@ -58,14 +60,14 @@ module _ (plan : PlanOf) (h : History) (fine : IsWellFormed h) (within : IsWithi
 none-there : {X : Type 0} (x : X) → Contains [] x → ⊥
 none-there x (k, inside, is) = absurd (omega arith)
 
-pub accepted-refuted : {X : Type 0} → AcceptedIsRefuted X
-accepted-refuted plan h lines fine within accepted =
+pub accepted-refuted : {X : Type 0} → ShowsIsFullAndGood → SilentMovesForward → SpotsDecide → AcceptedIsRefuted X
+accepted-refuted goods silents spots plan h lines fine within accepted =
     let (before, ends) = accepted.last in
-    lines-refuted plan h fine within lines [] (λ p there. absurd (none-there p there)) (λ p there. absurd (none-there p there)) accepted.each []
+    lines-refuted goods silents spots plan h fine within lines [] (λ p there. absurd (none-there p there)) (λ p there. absurd (none-there p there)) accepted.each []
     (subst (λ (ps : List (List Decision)). Contains ps []) (sym ends) (Contains-push before []))
 
 -- what judges the lines says true of refuted ones alone
-pub refuted-if_ok : {X E : Type 0} (plan : PlanOf) (h : History) (lines : List (CertLine X)) (r : Result Bool E) → IsWellFormed h → IsWithinLimits plan h →
+pub refuted-if_ok : {X E : Type 0} → AcceptedIsRefuted X → (plan : PlanOf) (h : History) (lines : List (CertLine X)) (r : Result Bool E) → IsWellFormed h → IsWithinLimits plan h →
     IfOk r (JudgesLines plan.objects h lines) → IfOk r (λ good. IsTrue good → Refuted plan.objects h [])
-refuted-if_ok plan h lines (Ok good) fine within judged = λ yes. accepted-refuted plan h lines fine within (judged.0 yes)
-refuted-if_ok plan h lines (Err e) fine within exact = exact
+refuted-if_ok law plan h lines (Ok good) fine within judged = λ yes. law plan h lines fine within (judged.0 yes)
+refuted-if_ok law plan h lines (Err e) fine within exact = exact

@@ -10,6 +10,7 @@ ghost use Rattle.aud_accept.specs.Acceptance.{prefix_in, EndsEmpty, JudgesLines}
 ghost use Rattle.aud_accept.specs.OfShapes.{HasFirstFor, IsSeenEnough, JudgesLineFor, StaysAtKids};
 
 use crate::cert::{Cert, CertLine};
+use crate::laws::accepted_is_refuted;
 use crate::lookout::Lookout;
 use aud_earlier::{Earlier, Landing, go_to, has_kids, has_same, has_silent};
 use aud_event::OutOfMemory;
@@ -147,6 +148,61 @@ fn is_last_empty<A: Allocator>(lines: &[CertLine<A>]) -> bool
     }
 }
 
+/// Whether each of the lines, of which the last has an empty prefix, is seen to be accepted after those before it.
+fn are_accepted<'c, A: Allocator + Copy, B: Allocator>(
+    alloc: A,
+    shape: &Shape<A>,
+    cursor: &mut Cursor<A>,
+    other: &mut Cursor<A>,
+    lookout: &mut Lookout<A>,
+    earlier: &mut Earlier<'c, A>,
+    lines: &'c [CertLine<B>],
+) -> Result<bool, OutOfMemory>
+    requires cursor { cursor.old.shape ≡ shape.now }
+    requires other { other.old.shape ≡ shape.now }
+    requires lookout { lookout.old ≡ shape.now }
+    requires earlier { earlier.old.shape ≡ shape.now }
+    requires none { earlier.old.prefixes ≡ [] }
+    requires last { EndsEmpty (map prefix_in lines.now) }
+    ensures { IfOk result (JudgesLines (objects_of shape.now) (history_of shape.now) lines.now) }
+{
+    for line in lines {
+        if !accepts(alloc, shape, cursor, other, lookout, earlier, line)? {
+            return Ok(false);
+        }
+        let landing = landing_of(cursor, line);
+        earlier.add(line.prefix().decisions(), landing)?;
+    }
+    Ok(true)
+}
+
+/// The same of lines, from the empty prefix on.
+fn are_accepted_from_none<A: Allocator + Copy, B: Allocator>(
+    alloc: A,
+    shape: &Shape<A>,
+    cursor: &mut Cursor<A>,
+    other: &mut Cursor<A>,
+    lines: &[CertLine<B>],
+) -> Result<bool, OutOfMemory>
+    requires cursor { cursor.old.shape ≡ shape.now }
+    requires other { other.old.shape ≡ shape.now }
+    requires last { EndsEmpty (map prefix_in lines.now) }
+    ensures { IfOk result (JudgesLines (objects_of shape.now) (history_of shape.now) lines.now) }
+{
+    let mut lookout = Lookout::new(alloc, shape);
+    let lists = Bump::new(alloc);
+    let mut earlier = Earlier::none(alloc, shape, &lists);
+    are_accepted(
+        alloc,
+        shape,
+        cursor,
+        other,
+        &mut lookout,
+        &mut earlier,
+        lines,
+    )
+}
+
 /// Whether the certificate has lines, each is seen to be accepted after those before it, and the last refutes the empty prefix.
 fn is_accepted<A: Allocator + Copy, B: Allocator>(
     alloc: A,
@@ -160,25 +216,7 @@ fn is_accepted<A: Allocator + Copy, B: Allocator>(
     }
     let mut cursor = Cursor::root(alloc, shape)?;
     let mut other = Cursor::root(alloc, shape)?;
-    let mut lookout = Lookout::new(alloc, shape);
-    let lists = Bump::new(alloc);
-    let mut earlier = Earlier::none(alloc, shape, &lists);
-    for line in &cert.lines {
-        if !accepts(
-            alloc,
-            shape,
-            &mut cursor,
-            &mut other,
-            &mut lookout,
-            &earlier,
-            line,
-        )? {
-            return Ok(false);
-        }
-        let landing = landing_of(&cursor, line);
-        earlier.add(line.prefix().decisions(), landing)?;
-    }
-    Ok(true)
+    are_accepted_from_none(alloc, shape, &mut cursor, &mut other, &cert.lines)
 }
 
 /// Whether the certificate is accepted: it has lines, each is accepted after those before it, and the last refutes the empty
@@ -197,6 +235,7 @@ pub fn check_cert<A: Allocator + Copy, B: Allocator>(
     ensures accepted { IfOk result (JudgesLines (objects_of shape.now) (history_of shape.now) cert.now.lines.items) }
     ensures refuted { IfOk result (λ good. IsTrue good → Refuted (objects_of shape.now) (history_of shape.now) []) }
 {
+    accepted_is_refuted::<B>();
     let _within = shape.plan();
     let _sound = shape.history();
     is_accepted(alloc, shape, cert)

@@ -110,36 +110,60 @@ fn lines_after<A: Allocator + Copy>(
     Ok(after)
 }
 
+/// The lists that the most hopeful of the steps lead to.
+fn best_lines<A: Allocator + Copy>(
+    alloc: A,
+    lines: &[Line<A>],
+    steps: &mut Vec<Step, A>,
+    most: usize,
+) -> Result<Vec<Line<A>, A>, OutOfMemory> {
+    steps.sort()?;
+    let best = best_of(alloc, steps, most)?;
+    lines_after(alloc, lines, &best)
+}
+
+/// Puts in place of the lists those that the most hopeful of them go on to. It ends with true where one is full: there the cursor stands.
+fn go_on<A: Allocator + Copy>(
+    alloc: A,
+    cursor: &mut Cursor<A>,
+    lookout: &mut Lookout<A>,
+    entries: &[Entry],
+    breadth: Breadth,
+    lines: &mut Vec<Line<A>, A>,
+) -> Result<bool, OutOfMemory>
+    requires { cursor.old.shape ≡ lookout.old }
+    ensures shape { OnOk result (cursor.new.shape ≡ cursor.old.shape) }
+    ensures lookout { OnOk result (lookout.new ≡ lookout.old) }
+    ensures full { IfOk result (λ full. IsTrue full → IsFull (history_of cursor.old.shape) cursor.new.path) }
+{
+    let mut steps = Vec::new(alloc);
+    let open = lines.as_mut_slice();
+    if look_at_all(cursor, lookout, entries, breadth, open, &mut steps)? {
+        return Ok(true);
+    }
+    *lines = best_lines(alloc, lines, &mut steps, breadth.lists)?;
+    Ok(false)
+}
+
 /// The same as `find_broadly`, with what it asks of lists.
 fn find_with<A: Allocator + Copy>(
     alloc: A,
     shape: &Shape<A>,
     lookout: &mut Lookout<A>,
+    entries: &[Entry],
     breadth: Breadth,
 ) -> Result<Option<Prefix<A>>, OutOfMemory>
     requires { lookout.old ≡ shape.now }
     ensures { IfOk result (λ found. IfSome found (Shows (objects_of shape.now) (history_of shape.now))) }
 {
     shows_is_full_and_good();
-    let entries = entries_of(alloc, shape)?;
     let mut cursor = Cursor::root(alloc, shape)?;
     let mut lines = Vec::new(alloc);
     lines.push(Line::empty(alloc))?;
     for _ in 0..entries.len().saturating_add(1) {
-        let mut steps = Vec::new(alloc);
-        if look_at_all(
-            &mut cursor,
-            lookout,
-            &entries,
-            breadth,
-            lines.as_mut_slice(),
-            &mut steps,
-        )? {
+        if go_on(alloc, &mut cursor, lookout, entries, breadth, &mut lines)? {
             return Ok(Some(Prefix::copy_of(alloc, cursor.prefix())?));
         }
-        steps.sort()?;
-        let best = best_of(alloc, &steps, breadth.lists)?;
-        lines = lines_after(alloc, &lines, &best)?;
     }
     Ok(None)
 }
@@ -155,6 +179,7 @@ pub fn find_broadly<A: Allocator + Copy>(
 ) -> Result<Option<Prefix<A>>, OutOfMemory>
     ensures { IfOk result (λ found. IfSome found (Shows (objects_of shape.now) (history_of shape.now))) }
 {
+    let entries = entries_of(alloc, shape)?;
     let mut lookout = Lookout::of(alloc, shape)?;
-    find_with(alloc, shape, &mut lookout, breadth)
+    find_with(alloc, shape, &mut lookout, &entries, breadth)
 }

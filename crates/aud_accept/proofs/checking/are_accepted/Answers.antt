@@ -8,27 +8,27 @@ use Rattle.aud_earlier.specs.Beginnings.{EarlierOf}
 use Rattle.aud_earlier.specs.Landings.{IsLandingOf}
 use Rattle.aud_order.specs.Cursors.{CursorOf}
 use Rattle.aud_accept.proofs.Lines.{passed-none, passed-more, passed-bad, passed-all}
-use Rattle.aud_accept.proofs.checking.is_accepted.Goals as goal
+use Rattle.aud_accept.proofs.checking.are_accepted.Goals as goal
 
 pub returns-then-not-branch : goal.returns-then-not-branch
 returns-then-not-branch g c =
     let shape = c.args.shape.now in
-    let lines = c.args.cert.now.lines.items in
+    let lines = c.args.lines.now in
     let at = c.loop-line in
     let line = c.line-item.result in
     passed-bad (objects_of shape) (history_of shape) lines at.line-index line at.earlier.prefixes c.in_ok-accepts.field-0 at.invariant.passed
-    (subst (λ l. at.line-index < length l) c.deref-line-items.ensures.value c.loop-line-test.true)
-    (c.line-item.is ∙ ap (λ l. get_or l at.line-index line) c.deref-line-items.ensures.value)
+    c.loop-line-test.true
+    c.line-item.is
     c.in_ok-accepts.ensures.judged c.if-not-branch.true
 
 pub loop-line-init : goal.loop-line-init
 loop-line-init g c =
     let shape = c.args.shape.now in record {
-      cursor = ap (λ (u : CursorOf). u.shape) c.in_ok-cursor.ensures;
-      other = ap (λ (u : CursorOf). u.shape) c.in_ok-other.ensures;
-      lookout = c.new-lookout.ensures;
-      kept = ap (λ (e : EarlierOf). e.shape) c.none-earlier.ensures;
-      passed = passed-none (objects_of shape) (history_of shape) c.args.cert.now.lines.items c.none-earlier.result.prefixes (ap (λ (e : EarlierOf). e.prefixes) c.none-earlier.ensures);
+      cursor = c.requires.cursor;
+      other = c.requires.other;
+      lookout = c.requires.lookout;
+      kept = c.requires.earlier;
+      passed = passed-none (objects_of shape) (history_of shape) c.args.lines.now c.args.earlier.now.prefixes c.requires.none;
     }
 
 pub add-requires : goal.add-requires
@@ -40,7 +40,7 @@ add-requires g c =
 pub loop-line-preserved : goal.loop-line-preserved
 loop-line-preserved g c =
     let shape = c.args.shape.now in
-    let lines = c.args.cert.now.lines.items in
+    let lines = c.args.lines.now in
     let at = c.loop-line in
     let line = c.line-item.result in
     let item = c.decisions.ensures ∙ c.prefix.ensures in record {
@@ -49,8 +49,8 @@ loop-line-preserved g c =
       lookout = c.in_ok-accepts.ensures.lookout ∙ at.invariant.lookout;
       kept = c.in_ok-add.ensures.shape ∙ at.invariant.kept;
       passed = passed-more (objects_of shape) (history_of shape) lines at.line-index line at.earlier.prefixes c.add.new.self.prefixes at.invariant.passed
-          (subst (λ l. at.line-index < length l) c.deref-line-items.ensures.value c.loop-line-test.true)
-          (c.line-item.is ∙ ap (λ l. get_or l at.line-index line) c.deref-line-items.ensures.value)
+          c.loop-line-test.true
+          c.line-item.is
           (c.in_ok-accepts.ensures.judged.0 c.if-not-branch.false)
           (subst (λ (q : List Decision). (p : List Decision) → Contains c.add.new.self.prefixes p ↔ (Contains at.earlier.prefixes p ⊎ (p ≡ q))) item c.in_ok-add.ensures.prefixes);
     }
@@ -58,8 +58,8 @@ loop-line-preserved g c =
 pub returns : goal.returns
 returns g c =
     let shape = c.args.shape.now in
-    let lines = c.args.cert.now.lines.items in
+    let lines = c.args.lines.now in
     let at = c.loop-line in
     passed-all (objects_of shape) (history_of shape) lines at.line-index at.earlier.prefixes at.invariant.passed
-    (subst (λ l. length l ≤ at.line-index) c.deref-line-items.ensures.value c.loop-line-test.false)
-    (subst (λ l. EndsEmpty (map prefix_in l)) c.deref.ensures.value (c.is_last_empty.ensures.0 c.if-not-is_last_empty.false))
+    c.loop-line-test.false
+    c.requires.last

@@ -1,7 +1,7 @@
 use Rattle.std.specs.Prelude.{◌≡◌}
 use Rattle.aud_order.specs.Shapes.{objects_of, history_of}
 use Rattle.aud_accept.proofs.Lines.{Passed}
-use Rattle.aud_accept.proofs.checking.is_accepted.Given as goal
+use Rattle.aud_accept.proofs.checking.are_accepted.Given as goal
 
 abbrev pub invariant-loop-line : goal.invariant-loop-line
 invariant-loop-line g l = record {
@@ -9,5 +9,5 @@ invariant-loop-line g l = record {
   other : l.other.shape ≡ l.shape;
   lookout : l.lookout ≡ l.shape;
   kept : l.earlier.shape ≡ l.shape;
-  passed : Passed (objects_of l.shape) (history_of l.shape) l.cert.lines.items l.line-index l.earlier.prefixes;
+  passed : Passed (objects_of l.shape) (history_of l.shape) l.lines l.line-index l.earlier.prefixes;
 }
