@@ -19,23 +19,30 @@ use aud_witness::Prefix;
 use aud_witness::laws::letter_is_opaque;
 use std::alloc::Allocator;
 
-/// How broad searches go, one after the other: what one passes over another finds.
-pub(crate) const NARROW: Breadth = Breadth {
+/// How broad searches go: they ask four, six and one of the transactions that end first, since what one passes over another finds, and
+/// the last has more lists.
+pub(crate) const MIDDLE: Breadth = Breadth {
     lists: 50,
-    asked: 3,
-    early: 4,
-};
-
-pub(crate) const BROAD: Breadth = Breadth {
-    lists: 100,
-    asked: 2,
+    asked: 4,
     early: 3,
 };
 
-const BROADEST: Breadth = Breadth {
-    lists: 200,
-    asked: 4,
+pub(crate) const FAR: Breadth = Breadth {
+    lists: 50,
+    asked: 6,
     early: 6,
+};
+
+const NEAR: Breadth = Breadth {
+    lists: 50,
+    asked: 1,
+    early: 2,
+};
+
+const WIDE: Breadth = Breadth {
+    lists: 200,
+    asked: 2,
+    early: 3,
 };
 
 /// What is tried for a decision before the search of all lists.
@@ -51,24 +58,26 @@ enum Round {
 
 /// Searches try transactions by their last and by their first events in turn, each eight times as long as the one before it: what one order
 /// comes to late the other may come to soon.
-const ROUNDS: [Round; 9] = [
+const ROUNDS: [Round; 10] = [
     Round::Soon(Order::Last(0), 1),
     Round::Alone(1),
     Round::Soon(Order::First, 8),
-    Round::Broadly(NARROW),
+    Round::Broadly(MIDDLE),
     Round::Alone(8),
-    Round::Broadly(BROAD),
+    Round::Broadly(FAR),
+    Round::Broadly(NEAR),
     Round::Soon(Order::Last(0), 64),
-    Round::Broadly(BROADEST),
+    Round::Broadly(WIDE),
     Round::Soon(Order::First, 512),
 ];
 
 /// Those of a history of one object, or of which what each object sees would be too much.
-const FEW_ROUNDS: [Round; 4] = [
+const FEW_ROUNDS: [Round; 5] = [
     Round::Soon(Order::Last(0), 16),
-    Round::Broadly(NARROW),
-    Round::Broadly(BROAD),
-    Round::Broadly(BROADEST),
+    Round::Broadly(MIDDLE),
+    Round::Broadly(FAR),
+    Round::Broadly(NEAR),
+    Round::Broadly(WIDE),
 ];
 
 /// Whether the history is opaque, with a list that shows it where it is. That is so by lists of decisions, and by the letter of

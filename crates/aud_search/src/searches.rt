@@ -7,7 +7,7 @@ ghost use Rattle.aud_search.specs.Searches.{Reports};
 
 use crate::alone::{find_refuted_alone, lists_of, may_pay};
 use crate::choice::Order;
-use crate::deciding::{BROAD, NARROW};
+use crate::deciding::{FAR, MIDDLE};
 use crate::memo::{LARGEST_SEEN, Memo};
 use crate::outcome::Outcome;
 use crate::recorder::Unnoted;
@@ -274,10 +274,10 @@ impl<'a, J: Scene, A: Allocator + Copy> Memory<'a, J, A> {
         } else if let Some(told) = self.explore_soon(by_last, prefix, LONG, budget)? {
             return Ok(Some(told));
         }
-        if let Some(told) = self.explore_broadly(NARROW, prefix, budget)? {
+        if let Some(told) = self.explore_broadly(MIDDLE, prefix, budget)? {
             return Ok(Some(told));
         }
-        self.explore_broadly(BROAD, prefix, budget)
+        self.explore_broadly(FAR, prefix, budget)
     }
 
     /// What one search tells that may take the budget, or what an object sees alone, where it is spent.
@@ -305,9 +305,9 @@ impl<'a, J: Scene, A: Allocator + Copy> Memory<'a, J, A> {
 
     /// Whether some list that begins with the prefix shows the history, as `explore` says it. What it refutes is remembered, and
     /// what was remembered costs no expansion. Where the budget has room for them, short rounds come first, as in `decide`: by last
-    /// and by first events, and below the empty prefix two broad searches. After each of the first two, and where the budget was spent, what each object sees of the history is searched, with as many
-    /// lists of each at most, but never as long as before: where that refutes it, so is each later prefix at once. Where a search is
-    /// refused memory all is forgotten.
+    /// and by first events, and below the empty prefix two broad searches. After each of the rounds, and where the budget was spent, what
+    /// each object sees of the history is searched, with as many lists of each at most, but never as long as before: where that refutes
+    /// it, so is each later prefix at once. Where a search is refused memory all is forgotten.
     pub fn explore(&mut self, prefix: &Prefix<A>, budget: u64) -> Result<Outcome<A>, OutOfMemory>
         ensures reported { IfOk result (Reports (objects_of self.old) (history_of self.old) prefix.now (Some budget)) }
         ensures shape { self.new ≡ self.old }
