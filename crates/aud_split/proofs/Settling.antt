@@ -14,7 +14,8 @@ use Rattle.aud_node.specs.Logs.{Entry, atoms_in, IsKnownIn, Offered}
 use Rattle.aud_node.specs.Meanings.{PassOf, GoesOn, mine}
 use Rattle.aud_node.proofs.Own.{atoms_snoc}
 use Rattle.aud_split.proofs.Keeping.{known_kept}
-use Rattle.aud_split.specs.Pools.{SaysOf, IsFindingOf, IsSettled, HasSearched}
+use Rattle.aud_task.specs.Found.{SaysOf}
+use Rattle.aud_split.specs.Pools.{IsFindingOf, IsSettled, HasSearched}
 
 -- what the node knows to be refuted is settled
 pub known_settles : (s : ShapeOf) (budget : ℕ) (plan : PlanOf) (view : List Entry) (t : List Decision) → IsKnownIn plan view t → IsSettled s budget view t

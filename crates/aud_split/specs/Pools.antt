@@ -1,5 +1,5 @@
 -- What a pool of searching workers does for its tasks and with its passes, and when it does not begin.
-use Rattle.std.specs.Prelude.{◌≡◌, ◌≢◌, ◌⊎◌, ℕ, ◌<◌, ◌+◌, ◌++◌, List, [], ◌∷◌, length, map, All, Option, Some, None, slice_index_or, true}
+use Rattle.std.specs.Prelude.{◌≡◌, ◌≢◌, ◌⊎◌, ℕ, ◌<◌, ◌+◌, ◌++◌, List, [], ◌∷◌, length, map, All, slice_index_or, true}
 use Rattle.std.specs.List.{Contains}
 use Rattle.std.specs.List.Sorted.{IsPermutation}
 use Rattle.std.specs.declared.alloc.Global.{Global}
@@ -23,15 +23,6 @@ use Rattle.aud_split.specs.declared.fault.PoolFault.{PoolFault}
 use Rattle.aud_split.specs.declared.fault.PoolFault.TheVariants as fault
 
 -- # One task
-
--- what is said of the history by a search below t: t is refuted, or an order shows the history that begins with t
-abbrev pub SaysOf : List Decision → KnownAtom → Type 0
-SaysOf t atom = (atom ≡ refuted t) ⊎ ((q : List Decision) × ((atom ≡ shown q) × BeginsWith t q))
-
--- what the search below t found: a finding of the shape's history; or nothing, and the budget is spent
-abbrev pub IsFound : ShapeOf → ℕ → List Decision → Option FindingOf → Type 0
-IsFound s budget t None = SpentBy (objects_of s) (history_of s) t budget
-IsFound s budget t (Some f) = (f.facts ≡ s.sealed.facts) × SaysOf t f.claim
 
 -- an atom is a witness that begins with t
 abbrev pub HasWitnessFrom : List KnownAtom → List Decision → Type 0

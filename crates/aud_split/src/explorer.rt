@@ -1,45 +1,20 @@
 //! The search below one task, by a worker with a pass of a node.
 
-ghost use Rattle.std.specs.Prelude.{◌≡◌, IfOk};
+ghost use Rattle.std.specs.Prelude.{◌≡◌};
 ghost use Rattle.aud_order.specs.Shapes.{plan_of};
 ghost use Rattle.aud_node.specs.Meanings.{IsAt};
-ghost use Rattle.aud_split.specs.Pools.{HasSearched, IsFound, IsSettled};
+ghost use Rattle.aud_split.specs.Pools.{HasSearched, IsSettled};
 
-use aud_event::{Dup, OutOfMemory};
-use aud_know::{Finding, Item};
+use aud_event::OutOfMemory;
+use aud_know::Item;
 use aud_node::{Fleet, OfferFault, Pass, Running};
 use aud_order::Shape;
 use aud_pool::Work;
-use aud_search::{Memory, Outcome, Scene, Shared};
+use aud_search::{Memory, Scene, Shared};
+use aud_task::find;
 use aud_witness::Prefix;
 use std::alloc::Global;
 use std::sync::{Arc, Wait};
-
-/// What the search below the task finds of the shape's history: that the task is refuted, or an order that shows the history;
-/// nothing where the budget is spent before either is found.
-fn find<'a, H: Scene>(
-    memory: &mut Memory<'a, H>,
-    shape: &Arc<Shape>,
-    task: &Prefix,
-    budget: u64,
-) -> Result<Option<Finding>, OutOfMemory>
-    requires { memory.old ≡ shape.now.value }
-    ensures found { IfOk result (IsFound shape.now.value budget task.now) }
-    ensures memory { memory.new ≡ memory.old }
-{
-    match memory.explore(task, budget)? {
-        Outcome::Refuted => {
-            let shared = Arc::try_clone(shape)?;
-            let list = task.dup()?;
-            Ok(Some(Finding::refuted(shared, list)))
-        }
-        Outcome::Witness(order) => {
-            let shared = Arc::try_clone(shape)?;
-            Ok(Some(Finding::witness(shared, order)))
-        }
-        Outcome::Spent => Ok(None),
-    }
-}
 
 /// The search below tasks of one history, for a node of its plan.
 #[derive(Drop)]
