@@ -273,6 +273,23 @@ impl<'s, A: Allocator + Copy> Finder<'s, A> {
             }
         }
     }
+
+    /// Goes on from the empty list as far as it may, and says whether that is refuted by the lines then.
+    fn refutes_all(&mut self) -> Result<bool, OutOfMemory> {
+        if self.is_doomed(Because::Kids)? {
+            return Ok(true);
+        }
+        let first = self.open()?;
+        self.lists.push(first)?;
+        for _ in 0..MOST_STEPS {
+            match self.take_step()? {
+                Step::On => {}
+                Step::Refuted => return Ok(true),
+                Step::Shown => return Ok(false),
+            }
+        }
+        Ok(false)
+    }
 }
 
 /// The lines that it has.
@@ -288,17 +305,9 @@ pub(crate) fn find_lines<A: Allocator + Copy>(
     shape: &Shape<A>,
 ) -> Result<Option<Vec<CertLine<A>, A>>, OutOfMemory> {
     let mut finder = Finder::new(alloc, shape)?;
-    if finder.is_doomed(Because::Kids)? {
-        return Ok(Some(lines_of(finder)));
+    if finder.refutes_all()? {
+        Ok(Some(lines_of(finder)))
+    } else {
+        Ok(None)
     }
-    let first = finder.open()?;
-    finder.lists.push(first)?;
-    for _ in 0..MOST_STEPS {
-        match finder.take_step()? {
-            Step::On => {}
-            Step::Refuted => return Ok(Some(lines_of(finder))),
-            Step::Shown => return Ok(None),
-        }
-    }
-    Ok(None)
 }
