@@ -1,3 +1,2 @@
 pub mod BringerLemmas
-pub mod Outlooking
 pub mod Judging

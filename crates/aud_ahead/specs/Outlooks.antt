@@ -5,26 +5,8 @@ use Rattle.aud_history.specs.Table.{RowOf}
 use Rattle.aud_witness.specs.Orders.{Refuted}
 use Rattle.aud_order.specs.Shapes.{objects_of, history_of}
 use Rattle.aud_order.specs.Cursors.{CursorOf}
-use Rattle.aud_bounds.specs.declared.cell.Cell.{Cell}
-use Rattle.aud_bounds.specs.declared.span.Span.{Span}
-use Rattle.aud_bounds.specs.Cells.{may_hold, Hold}
 use Rattle.aud_bounds.specs.Ranges.{StayWithin}
-use Rattle.aud_bounds.specs.Spans.{AreWithin}
-use Rattle.aud_bounds.specs.Queues.{QueuesOf, AreLeft}
 use Rattle.aud_bounds.specs.Coming.{may_come, may_come_between}
-
--- what may be: the values that cells may have beside those of now, the spans of counters, and what queues may have lost and got
-pub record OutlookOf : Type 0 where
-  pub now : List ObjState
-  pub loose : List (List Cell)
-  pub spans : List Span
-  pub queues : QueuesOf
-
--- the states may be
-pub record MayBe (outlook : OutlookOf) (states : List ObjState) : Type 0 where
-  pub cells : Hold (may_hold outlook.now outlook.loose) states
-  pub counters : AreWithin outlook.spans states
-  pub lines : AreLeft outlook.now outlook.queues states
 
 -- of the first rows, each that is not placed and may come leads from what may be to what may be
 abbrev pub AreClosedBy : (List ObjState → Type 0) → (RowOf → Bool) → List RowOf → List Bool → ℕ → Type 0

@@ -6,6 +6,7 @@ ghost use Rattle.aud_ahead.specs.Outlooks.{IsDoomed};
 use crate::brief::{Brief, Slot, Slots, briefs_of};
 use crate::bringers::Supply;
 use crate::judge::{is_cut_off, is_starved, is_stuck};
+use crate::outlook::outlook_of;
 use crate::sight::{Sight, admit_until};
 use crate::wants::{Starving, Wants};
 use aud_bounds::{Cell, Lack};
@@ -135,14 +136,11 @@ impl<'a, A: Allocator + Copy> Ahead<'a, A> {
         requires { cursor.now.shape ≡ self.now }
         ensures { IfOk result (λ shown. IsTrue shown → IsDoomed cursor.now) }
     {
-        let objects = cursor.store().len();
-        let loose = self.sight.loose(self.alloc, objects, &self.slots.list)?;
-        let spans = self.sight.spans(self.alloc, cursor.store())?;
-        let queues = self.sight.queues(self.alloc)?;
+        let outlook = outlook_of(self.alloc, &self.sight, cursor.store(), &self.slots.list)?;
         if place >= self.shape.table().rows().len() {
             return Ok(false);
         }
-        Ok(is_stuck(self.shape, cursor, &loose, &spans, &queues, place))
+        Ok(is_stuck(self.shape, cursor, &outlook, place))
     }
 
     /// A row that needs what no row that is not placed may bring any more, once the row at the place was placed, with the cell's place.

@@ -7,39 +7,41 @@ ghost use Rattle.aud_bounds.specs.Ranges.{StayWithin};
 ghost use Rattle.aud_ahead.specs.Bringers.{IsNextOpen, MarksBringers};
 ghost use Rattle.aud_bounds.specs.Coming.{may_come};
 ghost use Rattle.aud_bounds.specs.Cells.{lacks, Hold};
-ghost use Rattle.aud_ahead.specs.Outlooks.{AreClosed, AreClosedBetween, IsDoomed, MayBe};
+ghost use Rattle.aud_ahead.specs.Outlooks.{AreClosed, AreClosedBetween, IsDoomed};
 
 use crate::bringers::Bringers;
-use crate::outlook::Outlook;
-use aud_bounds::{Loose, Queues, Spans, has_to_precede, may_come, may_come_between, may_run};
+use aud_bounds::{Abstraction, has_to_precede, may_come, may_come_between, stays_within};
 use aud_history::TxRow;
 use aud_marks::Marks;
+use aud_object::Store;
 use aud_order::{Cursor, Shape};
 use std::alloc::Allocator;
 
 /// Whether the other row leads from what may be to what may be, where it is not placed and may come before the row.
-fn stays_under<A: Allocator + Copy>(
-    outlook: &Outlook<A>,
+fn stays_under<A: Allocator + Copy, O: Abstraction<A>>(
+    outlook: &O,
+    store: &Store<A>,
     row: &TxRow<A>,
     other: &TxRow<A>,
     is_placed: bool,
 ) -> bool
-    ensures { IsTrue result → is_placed ≡ false → may_come row.now other.now ≡ true → StayWithin (MayBe outlook.now) other.now.block.executions }
+    ensures { IsTrue result → is_placed ≡ false → may_come row.now other.now ≡ true → StayWithin (O.may_be outlook.now store.now.now) other.now.block.executions }
 {
-    is_placed || !may_come(row, other) || outlook.stays(other.block().executions())
+    is_placed || !may_come(row, other) || stays_within(outlook, store, other.block().executions())
 }
 
 /// Whether all rows do.
-fn is_closed<A: Allocator + Copy>(
-    outlook: &Outlook<A>,
+fn is_closed<A: Allocator + Copy, O: Abstraction<A>>(
+    outlook: &O,
+    store: &Store<A>,
     rows: &[TxRow<A>],
     placed: &Marks<A>,
     row: &TxRow<A>,
 ) -> bool
-    ensures { IsTrue result → AreClosed (MayBe outlook.now) rows.now placed.now row.now (length rows.now) }
+    ensures { IsTrue result → AreClosed (O.may_be outlook.now store.now.now) rows.now placed.now row.now (length rows.now) }
 {
     for (place, other) in rows.iter().enumerate() {
-        if !stays_under(outlook, row, other, placed.has(place)) {
+        if !stays_under(outlook, store, row, other, placed.has(place)) {
             return false;
         }
     }
@@ -48,12 +50,10 @@ fn is_closed<A: Allocator + Copy>(
 
 /// Whether it follows from what may be that the block of the row at the place runs nowhere after the cursor's list: then no list that
 /// begins with that shows the history.
-pub(crate) fn is_stuck<A: Allocator + Copy>(
+pub(crate) fn is_stuck<A: Allocator + Copy, O: Abstraction<A>>(
     shape: &Shape<A>,
     cursor: &Cursor<A>,
-    loose: &Loose<A>,
-    spans: &Spans<A>,
-    queues: &Queues<A>,
+    outlook: &O,
     place: usize,
 ) -> bool
     requires shape { cursor.now.shape ≡ shape.now }
@@ -64,17 +64,11 @@ pub(crate) fn is_stuck<A: Allocator + Copy>(
     let _within = shape.plan();
     let rows = shape.table().rows();
     let row = &rows[place];
-    let placed = cursor.placed();
-    let outlook = Outlook {
-        store: cursor.store(),
-        loose,
-        spans,
-        queues,
-    };
-    if placed.has(place) || outlook.may_run(row.block().executions()) {
+    let (store, placed) = (cursor.store(), cursor.placed());
+    if placed.has(place) || outlook.may_run(store, row.block().executions()) {
         return false;
     }
-    outlook.holds() && is_closed(&outlook, rows, placed, row)
+    outlook.holds(store) && is_closed(outlook, store, rows, placed, row)
 }
 
 /// The first from a place on of the rows that may bring the value and are not placed.
@@ -159,12 +153,12 @@ pub(crate) fn is_starved<A: Allocator + Copy>(
     let _within = shape.plan();
     let rows = shape.table().rows();
     let row = &rows[place];
-    let placed = cursor.placed();
+    let (store, placed) = (cursor.store(), cursor.placed());
     let lack = bringers.lack;
-    if placed.has(place) || may_run(&lack, row.block().executions()) {
+    if placed.has(place) || lack.may_run(store, row.block().executions()) {
         return false;
     }
-    lack.is_lacking(cursor.store()) && none_brings(bringers, rows, placed, row)
+    lack.holds(store) && none_brings(bringers, rows, placed, row)
 }
 
 /// Whether the row at the place needs what the cell lacks once the transaction of the row at another place, which has to come before it,
@@ -186,12 +180,12 @@ pub(crate) fn is_cut_off<A: Allocator + Copy>(
     let _within = shape.plan();
     let rows = shape.table().rows();
     let (first, row) = (&rows[start], &rows[place]);
-    let placed = cursor.placed();
+    let (store, placed) = (cursor.store(), cursor.placed());
     let lack = bringers.lack;
     if placed.has(start) || !has_to_precede(first, row) {
         return false;
     }
-    if may_run(&lack, row.block().executions()) || !lack.is_left(first.block().executions()) {
+    if lack.may_run(store, row.block().executions()) || !lack.is_left(first.block().executions()) {
         return false;
     }
     none_brings_between(bringers, rows, placed, first, row)

@@ -1,5 +1,6 @@
 -- Executions from states whose cells have what they may have.
-use Rattle.std.specs.Prelude.{◌≡◌, ℕ, ℤ, zero, is_some, suc, ◌+◌, ◌<◌, ◌≤◌, Bool, true, false, not, ◌&&◌, ◌||◌, nat_eq, List, [], ◌∷◌, ◌++◌, length, Option, Some, None, slice_get, MatchOption, refl, ◌⊎◌}
+use Rattle.std.specs.Prelude.{◌≡◌, ℕ, ℤ, zero, is_some, suc, ◌+◌, ◌<◌, ◌≤◌, Bool, true, false, not, ◌&&◌, ◌||◌, nat_eq, List, [], ◌∷◌, ◌++◌, length, Option, Some, None, slice_get, slice_index_or, MatchOption, refl, ◌⊎◌}
+use Rattle.std.specs.List.{list_any}
 use Rattle.std.specs.Ordering.{int_eq}
 use Rattle.std.proofs.Common.{sym, ◌∙◌, ap, subst, cond, inl, inr, append_assoc, arith, take, get_or}
 use Rattle.std.proofs.lemmas.List.{append-nil, take_more}
@@ -19,7 +20,7 @@ use Rattle.aud_bounds.specs.declared.cell.Key.{Key}
 use Rattle.aud_bounds.specs.declared.cell.Key.TheVariants.{Own, Element, Entry}
 use Rattle.aud_bounds.specs.declared.cell.Cell.{Cell}
 use Rattle.aud_bounds.specs.Ranges.{RunNowhere, StayWithin}
-use Rattle.aud_bounds.specs.Cells.{one_if, cell_of, same_key, same_value, element, entry, seen_by, told_by, told_of, newer, told, is_cell, is_now, is_lacking, MayHold, lacks, may_hold_by, AreProper, HoldAfter, Hold, may_see, may_answer, TellWithin, LeadWithin}
+use Rattle.aud_bounds.specs.Cells.{one_if, cell_of, same_key, same_value, element, entry, seen_by, told_by, told_of, newer, told, is_cell, is_now, is_lacking, MayHold, may_hold, lacks, may_hold_by, AreProper, HoldAfter, Hold, may_see, may_answer, TellWithin, LeadWithin}
 use Rattle.aud_object.specs.Proper.{IsProper}
 use Rattle.aud_object.proofs.Proper.{has-with, has-without, value-with, value-without, proper-after}
 
@@ -449,6 +450,19 @@ lacking-holds object c states proper lacking = record { proper = proper; held = 
                     ap (λ b. not (b && same_value v c.value)) same ∙ ap not (here ob s key v (nat_eq-is ob object on) (same_key-is c.key key same) at cell)
               ])
         ]
+
+-- # What is now
+
+has-now : (s : ObjState) (key : Key) (v : Option ℤ) → cell_of s key ≡ Some v → is_now (Some s) key v ≡ true
+has-now s key v cell = ap (λ (o : Option (Option ℤ)). elim o as (λ _. Bool) [ Some w ↦ same_value v w | None ↦ false ]) cell ∙ same_value-itself v
+
+-- what cells have now they may have
+pub now-holds : (states : List ObjState) (loose : List (List Cell)) → AreProper states → Hold (may_hold states loose) states
+now-holds states loose proper = record {
+  proper = proper;
+  held = λ ob s key v at cell.
+      ap (λ b. b || list_any (is_cell key v) (slice_index_or loose ob [])) (ap (λ (o : Option ObjState). is_now o key v) at ∙ has-now s key v cell);
+}
 
 -- # Loops over executions
 

@@ -4,6 +4,7 @@ use Rattle.std.specs.List.{list_any}
 use Rattle.std.specs.Ordering.{int_eq}
 use Rattle.std.proofs.Common.{sym, ◌∙◌, ap, subst, cond, inl, inr, arith, append_assoc}
 use Rattle.std.proofs.lemmas.Bool.Decides.{nat_tests}
+use Rattle.std.proofs.lemmas.List.{append-nil}
 use Rattle.std.proofs.lemmas.Option.{slice_get_within}
 use Rattle.aud_event.specs.declared.object.Op.{Op}
 use Rattle.aud_event.specs.declared.object.Op.TheVariants.{Inc, Enq, Deq}
@@ -322,6 +323,12 @@ pub queues-stay_all : (now : List ObjState) (queues : QueuesOf) (xs : List Execu
 queues-stay_all now queues xs n whole each = queues-stay now queues xs (λ k x at queued. each k x (omega (arith, slice_get_within xs k x at, whole)) at queued)
 
 -- # What the store has
+
+-- of the items of now none is gone, and none has come
+pub now-left : (states : List ObjState) (queues : QueuesOf) → AreLeft states queues states
+now-left states queues ob n s own at =
+    subst (λ q. IsLeft (items_of n) (gone_of queues ob) (is_among (come_of queues ob)) (items_of q)) (unsome (sym own ∙ at))
+    (record { front = []; left = items_of n; added = []; parts = refl; few = omega arith; is = sym (append-nil (items_of n)); all_such = tt })
 
 pub nowhere-by_items : (now : List ObjState) (queues : QueuesOf) (xs : List Execution) (ob : ℕ) (items come : List ℤ) (gone : ℕ) → Some items ≡ option_map items_of (slice_get now ob) →
     come ≡ come_of queues ob → gone ≡ gone_of queues ob → run_on_left (may_follow come xs ob) items gone xs ob ≡ false → RunNowhere (AreLeft now queues) xs

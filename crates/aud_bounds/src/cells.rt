@@ -7,6 +7,7 @@ ghost use Rattle.aud_bounds.specs.declared.cell.Cell.{Cell};
 ghost use Rattle.aud_bounds.specs.declared.cell.Key.{Key};
 ghost use Rattle.aud_bounds.specs.Ranges.{RunNowhere, StayWithin};
 
+use crate::abstraction::Abstraction;
 use crate::cell::{Cell, Key, one_if, same_key, same_value, seen_by, told_by};
 use aud_event::{Answer, Op, OutOfMemory};
 use aud_object::{Execution, Store};
@@ -92,7 +93,7 @@ fn has_cell(cells: &[Cell], key: Key, value: Option<i64>) -> bool
 }
 
 /// What tells which values cells may have.
-pub trait MayHold {
+pub(crate) trait MayHold {
     // Which values they are.
     ghost may: { Self → ℕ → Key → Option ℤ → Bool };
 
@@ -138,7 +139,7 @@ fn may_answer<M: MayHold>(cells: &M, before: &[Execution], x: &Execution) -> boo
 }
 
 /// Whether the executions may run: each may answer by what the others before it tell of its cell, or by what that may have.
-pub fn may_run<M: MayHold>(cells: &M, executions: &[Execution]) -> bool
+fn may_run<M: MayHold>(cells: &M, executions: &[Execution]) -> bool
     ensures { result ≡ false → RunNowhere (Hold (M.may cells.now)) executions.now }
 {
     for (place, x) in executions.iter().enumerate() {
@@ -171,7 +172,7 @@ fn has_told_by<M: MayHold>(cells: &M, executions: &[Execution], x: &Execution) -
 }
 
 /// Whether the executions lead from what cells may have to what they may have, where they run.
-pub fn stays<M: MayHold>(cells: &M, executions: &[Execution]) -> bool
+fn stays<M: MayHold>(cells: &M, executions: &[Execution]) -> bool
     ensures { IsTrue result → StayWithin (Hold (M.may cells.now)) executions.now }
 {
     for x in executions {
@@ -233,9 +234,9 @@ impl<A: Allocator + Copy> Loose<A> {
 
 /// What cells have now, and what they may have beside that.
 #[derive(Drop)]
-pub struct Listed<'a, A: Allocator + Copy = Global> {
-    pub store: &'a Store<A>,
-    pub loose: &'a Loose<A>,
+struct Listed<'a, A: Allocator + Copy = Global> {
+    store: &'a Store<A>,
+    loose: &'a Loose<A>,
 }
 
 impl<'a, A: Allocator + Copy> Model for Listed<'a, A> {
@@ -253,6 +254,23 @@ impl<'a, A: Allocator + Copy> MayHold for Listed<'a, A> {
 
     fn has(&self, object: usize, key: Key, value: Option<i64>) -> bool {
         is_now(self.store, object, key, value) || self.loose.has(object, key, value)
+    }
+}
+
+impl<A: Allocator + Copy> Abstraction<A> for Loose<A> {
+    ghost may_be = { λ loose now. Hold (may_hold now loose) };
+
+    /// What cells have now they may have.
+    fn holds(&self, _store: &Store<A>) -> bool {
+        true
+    }
+
+    fn may_run(&self, store: &Store<A>, executions: &[Execution]) -> bool {
+        may_run(&Listed { store, loose: self }, executions)
+    }
+
+    fn stays(&self, store: &Store<A>, executions: &[Execution]) -> bool {
+        stays(&Listed { store, loose: self }, executions)
     }
 }
 
@@ -297,5 +315,21 @@ impl Lack {
             Some(value) => !same_value(value, self.cell.value),
             None => false,
         }
+    }
+}
+
+impl<A: Allocator + Copy> Abstraction<A> for Lack {
+    ghost may_be = { λ lack now. Hold (lacks lack.object lack.cell) };
+
+    fn holds(&self, store: &Store<A>) -> bool {
+        self.is_lacking(store)
+    }
+
+    fn may_run(&self, _store: &Store<A>, executions: &[Execution]) -> bool {
+        may_run(self, executions)
+    }
+
+    fn stays(&self, _store: &Store<A>, executions: &[Execution]) -> bool {
+        self.is_kept(executions)
     }
 }

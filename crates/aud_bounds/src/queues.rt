@@ -3,8 +3,9 @@
 ghost use Rattle.std.specs.Prelude.{◌≡◌, IsTrue, true, false, option_map};
 ghost use Rattle.std.specs.List.{list_any};
 ghost use Rattle.aud_bounds.specs.Queues.{adds, adds_other, come_of, gone_of, is_adding, is_adding_other, is_among, is_queueing, left_after, left_at, left_by, may_follow, run_on_left, runs, take_few_of_left, takes_few, AreKept, AreLeft};
-ghost use Rattle.aud_bounds.specs.Ranges.{RunNowhere, StayWithin};
+ghost use Rattle.aud_bounds.specs.Ranges.{RunNowhere};
 
+use crate::abstraction::Abstraction;
 use aud_event::{Answer, Op, OutOfMemory};
 use aud_object::{Execution, Store};
 use std::alloc::{Allocator, Global};
@@ -298,18 +299,6 @@ impl<A: Allocator + Copy> Queues<A> {
         }
     }
 
-    /// Whether the executions may run. Of objects that are no queues it asks nothing.
-    pub fn may_run(&self, store: &Store<A>, executions: &[Execution]) -> bool
-        ensures { result ≡ false → RunNowhere (AreLeft store.now.now self.now) executions.now }
-    {
-        for x in executions {
-            if is_queueing(x.op) && !self.may_run_on(store, executions, x.object) {
-                return false;
-            }
-        }
-        true
-    }
-
     /// Whether the executions add to the object only what may have come, and take no more of its items than may be gone.
     fn keeps(&self, store: &Store<A>, executions: &[Execution], object: u16) -> bool
         ensures { IsTrue result → AreKept store.now.now self.now executions.now object }
@@ -330,11 +319,27 @@ impl<A: Allocator + Copy> Queues<A> {
     {
         !is_queueing(x.op) || self.keeps(store, executions, x.object)
     }
+}
 
-    /// Whether the executions lead from what queues may be to what they may be, where they run.
-    pub fn stays(&self, store: &Store<A>, executions: &[Execution]) -> bool
-        ensures { IsTrue result → StayWithin (AreLeft store.now.now self.now) executions.now }
-    {
+impl<A: Allocator + Copy> Abstraction<A> for Queues<A> {
+    ghost may_be = { λ queues now. AreLeft now queues };
+
+    /// Of the items of now none need be gone, and none need have come.
+    fn holds(&self, _store: &Store<A>) -> bool {
+        true
+    }
+
+    /// Of objects that are no queues it asks nothing.
+    fn may_run(&self, store: &Store<A>, executions: &[Execution]) -> bool {
+        for x in executions {
+            if is_queueing(x.op) && !self.may_run_on(store, executions, x.object) {
+                return false;
+            }
+        }
+        true
+    }
+
+    fn stays(&self, store: &Store<A>, executions: &[Execution]) -> bool {
         for x in executions {
             if !self.keeps_at(store, executions, x) {
                 return false;

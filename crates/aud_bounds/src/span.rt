@@ -2,8 +2,9 @@
 
 ghost use Rattle.std.specs.Prelude.{◌≡◌, IsTrue, false, None, Some, slice_get};
 ghost use Rattle.aud_bounds.specs.Spans.{down, exactly, is_counting, is_inside, is_within, moved, moved_at, between, shifted, span_after, sum_of, up, widened, AreInside, AreWithin};
-ghost use Rattle.aud_bounds.specs.Ranges.{RunNowhere, StayWithin};
+ghost use Rattle.aud_bounds.specs.Ranges.{RunNowhere};
 
+use crate::abstraction::Abstraction;
 use aud_event::{Answer, Op, OutOfMemory};
 use aud_object::{Execution, Number, Store};
 use std::alloc::{Allocator, Global};
@@ -203,20 +204,6 @@ impl<A: Allocator + Copy> Spans<A> {
         }
     }
 
-    /// Whether the counters of the store are within their spans.
-    pub fn hold(&self, store: &Store<A>) -> bool
-        ensures { IsTrue result → AreWithin self.now store.now.now }
-    {
-        for (object, span) in self.spans.iter().enumerate() {
-            if let Some(Number::Counter(count)) = store.number(object) {
-                if !is_within(*span, count) {
-                    return false;
-                }
-            }
-        }
-        true
-    }
-
     /// The span of the object, if it has one.
     fn span_of(&self, object: u16) -> Option<Span>
         ensures { result ≡ slice_get self.now object }
@@ -237,18 +224,6 @@ impl<A: Allocator + Copy> Spans<A> {
         }
     }
 
-    /// Whether the executions may run. Of objects that are no counters it asks nothing.
-    pub fn may_run(&self, executions: &[Execution]) -> bool
-        ensures { result ≡ false → RunNowhere (AreWithin self.now) executions.now }
-    {
-        for x in executions {
-            if is_counting(x.op) && !self.may_run_on(executions, x.object) {
-                return false;
-            }
-        }
-        true
-    }
-
     /// Whether after the executions the object is within its span, where they may run.
     fn stays_on(&self, executions: &[Execution], object: u16) -> bool
         ensures { IsTrue result → AreInside self.now executions.now object }
@@ -261,11 +236,34 @@ impl<A: Allocator + Copy> Spans<A> {
             None => true,
         }
     }
+}
 
-    /// Whether the executions lead from what counters may be to what they may be, where they run.
-    pub fn stays(&self, executions: &[Execution]) -> bool
-        ensures { IsTrue result → StayWithin (AreWithin self.now) executions.now }
-    {
+impl<A: Allocator + Copy> Abstraction<A> for Spans<A> {
+    ghost may_be = { λ spans now. AreWithin spans };
+
+    /// Whether the counters of the store are within their spans.
+    fn holds(&self, store: &Store<A>) -> bool {
+        for (object, span) in self.spans.iter().enumerate() {
+            if let Some(Number::Counter(count)) = store.number(object) {
+                if !is_within(*span, count) {
+                    return false;
+                }
+            }
+        }
+        true
+    }
+
+    /// Of objects that are no counters it asks nothing.
+    fn may_run(&self, _store: &Store<A>, executions: &[Execution]) -> bool {
+        for x in executions {
+            if is_counting(x.op) && !self.may_run_on(executions, x.object) {
+                return false;
+            }
+        }
+        true
+    }
+
+    fn stays(&self, _store: &Store<A>, executions: &[Execution]) -> bool {
         for x in executions {
             if is_counting(x.op) && !self.stays_on(executions, x.object) {
                 return false;

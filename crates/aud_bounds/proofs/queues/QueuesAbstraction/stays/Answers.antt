@@ -2,7 +2,7 @@ use Rattle.std.specs.Prelude.{◌≡◌, true}
 use Rattle.aud_bounds.specs.Queues.{is_queueing, AreKept}
 use Rattle.aud_bounds.proofs.CellLemmas.{each-more}
 use Rattle.aud_bounds.proofs.QueueLemmas.{queues-stay_all}
-use Rattle.aud_bounds.proofs.queues.Queues.stays.Goals as goal
+use Rattle.aud_bounds.proofs.queues.QueuesAbstraction.stays.Goals as goal
 
 pub returns : goal.returns
 returns g c = λ all. queues-stay_all c.args.store.now.now c.args.self.now c.args.executions.now c.loop-x.x-index c.loop-x-test.false c.loop-x.invariant
