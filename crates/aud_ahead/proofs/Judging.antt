@@ -31,7 +31,7 @@ use Rattle.aud_bounds.proofs.HullLemmas.{refuted-by_hull, refuted-between}
 use Rattle.aud_ahead.specs.Outlooks.{AreClosedBy, AreClosed, AreClosedBetween}
 
 -- where a transaction stands among others
-place-among : (ts : List ℕ) (t : ℕ) → list_any (nat_eq t) ts ≡ true → (k : ℕ) × ((k < length ts) × (get_or ts k 0 ≡ t))
+pub place-among : (ts : List ℕ) (t : ℕ) → list_any (nat_eq t) ts ≡ true → (k : ℕ) × ((k < length ts) × (get_or ts k 0 ≡ t))
 place-among [] t h = absurd (cc)
 place-among (x ∷ ts) t h =
     elim (split (nat_eq t x)) [

@@ -17,7 +17,7 @@ use std::marker::Model;
 
 /// A value that a cell may lack, and the rows that may bring it.
 #[derive(Drop)]
-pub(crate) struct Bringers<A: Allocator + Copy = Global> {
+pub struct Bringers<A: Allocator + Copy = Global> {
     pub lack: Lack,
     pub marks: Marks<A>,
 }
@@ -41,7 +41,7 @@ fn marks_of<A: Allocator + Copy>(
 
 /// For each value that was asked for, the rows that may bring it.
 #[derive(Drop)]
-pub(crate) struct Supply<'a, A: Allocator + Copy = Global> {
+pub struct Supply<'a, A: Allocator + Copy = Global> {
     alloc: A,
     shape: &'a Shape<A>,
     /// Where among the known the values are; the greatest number where they are not.
@@ -64,11 +64,7 @@ impl<'a, A: Allocator + Copy> Model for Supply<'a, A> {
 
 impl<'a, A: Allocator + Copy> Supply<'a, A> {
     /// Of so many values, of which none was asked for.
-    pub(crate) fn of(
-        alloc: A,
-        shape: &'a Shape<A>,
-        values: usize,
-    ) -> Result<Supply<'a, A>, OutOfMemory>
+    pub fn of(alloc: A, shape: &'a Shape<A>, values: usize) -> Result<Supply<'a, A>, OutOfMemory>
         ensures { IfOk result (λ s. s ≡ shape.entry.now) }
     {
         Ok(Supply {
@@ -90,7 +86,7 @@ impl<'a, A: Allocator + Copy> Supply<'a, A> {
     }
 
     /// Looks for the rows that may bring the value, unless it was asked for before.
-    pub(crate) fn ask(&mut self, value: usize, lack: Lack) -> Result<(), OutOfMemory>
+    pub fn ask(&mut self, value: usize, lack: Lack) -> Result<(), OutOfMemory>
         ensures { self.new ≡ self.old }
     {
         if self.bringers(value).is_some() {
@@ -104,7 +100,7 @@ impl<'a, A: Allocator + Copy> Supply<'a, A> {
     }
 
     /// The rows that may bring the value, if it was asked for.
-    pub(crate) fn bringers(&self, value: usize) -> Option<&Bringers<A>>
+    pub fn bringers(&self, value: usize) -> Option<&Bringers<A>>
         ensures { MatchOption result (Unit {0}) (λ b. MarksBringers (table_of (history_of self.now)) b.now.lack b.now.marks) }
     {
         match self.places.get(value) {

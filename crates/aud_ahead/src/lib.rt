@@ -12,3 +12,4 @@ mod sight;
 mod wants;
 
 pub use ahead::Ahead;
+pub use bringers::{Bringers, Supply};

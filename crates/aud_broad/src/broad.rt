@@ -1,6 +1,6 @@
 //! The search, a step of all lists at a time.
 
-ghost use Rattle.std.specs.Prelude.{◌≡◌, IfOk, IfSome, OnOk, IsTrue};
+ghost use Rattle.std.specs.Prelude.{◌≡◌, IfOk, IfSome, OnOk, IsTrue, MatchOption};
 ghost use Rattle.aud_witness.specs.Orders.{IsFull, Shows};
 ghost use Rattle.aud_order.specs.Shapes.{objects_of, history_of};
 
@@ -9,6 +9,7 @@ use crate::hope::Breadth;
 use crate::line::{Line, Step};
 use crate::lookout::Lookout;
 use aud_event::OutOfMemory;
+use aud_forced::Forced;
 use aud_order::{Cursor, Shape};
 use aud_witness::laws::shows_is_full_and_good;
 use aud_witness::{Decision, Prefix};
@@ -68,7 +69,7 @@ fn look_at_all<A: Allocator + Copy>(
                 return Ok(true);
             }
             if !lookout.is_doomed(cursor) {
-                line.add_steps(cursor, entries, breadth, number, steps)?;
+                line.add_steps(cursor, lookout, entries, breadth, number, steps)?;
             }
         }
     }
@@ -168,18 +169,21 @@ fn find_with<A: Allocator + Copy>(
     Ok(None)
 }
 
-/// An order that shows the shape's history, if a broad search of that breadth finds one.
+/// An order that shows the shape's history, if a broad search of that breadth finds one, which places no transaction before one that is known
+/// to have to stand before it.
 ///
 /// It takes a step for each transaction; a step costs up to some hundreds of blocks and a look ahead for each list. Of two lists that placed
 /// the same transactions with the same fates and left states with the same digests one is kept.
-pub fn find_broadly<A: Allocator + Copy>(
+pub fn find_broadly<'a, A: Allocator + Copy>(
     alloc: A,
-    shape: &Shape<A>,
+    shape: &'a Shape<A>,
+    forced: Option<&'a Forced<'a, A>>,
     breadth: Breadth,
 ) -> Result<Option<Prefix<A>>, OutOfMemory>
+    requires { MatchOption forced (Unit {0}) (λ f. f.now ≡ shape.now) }
     ensures { IfOk result (λ found. IfSome found (Shows (objects_of shape.now) (history_of shape.now))) }
 {
     let entries = entries_of(alloc, shape)?;
-    let mut lookout = Lookout::of(alloc, shape)?;
+    let mut lookout = Lookout::of(alloc, shape, forced)?;
     find_with(alloc, shape, &mut lookout, &entries, breadth)
 }

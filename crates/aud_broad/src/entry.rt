@@ -6,8 +6,8 @@ use aud_order::Shape;
 use aud_witness::{Decision, Fate, allows};
 use std::alloc::Allocator;
 
-/// A transaction: where its last event stands, the decision that is tried first, the place of its row, whether it may abort as well, and whether nobody
-/// sees that decision, so that it may be placed at once wherever it is good.
+/// A transaction: where its last event stands, the decision that is tried first, the place of its row, whether it may abort as well, and
+/// whether nobody sees that decision, so that it may be placed at once wherever it is good.
 #[derive(Clone, Copy, PartialEq, Eq, PartialOrd, Ord)]
 pub(crate) struct Entry {
     last: u32,

@@ -18,13 +18,23 @@ pub struct Breadth {
     pub asked: u64,
     /// How much it weighs to place a transaction before one that ends sooner, where it weighs 12 that the first of those is not right.
     pub early: u64,
+    /// How much more each such weighs, in this step and in all before it.
+    pub ever: u64,
+}
+
+impl Breadth {
+    /// What it weighs that a step passed so many transactions that end sooner, and all up to it so many together.
+    pub(crate) fn weight_of_passed(&self, last: u64, all: u64) -> u64 {
+        let now = self.early.saturating_mul(last);
+        now.saturating_add(self.ever.saturating_mul(all))
+    }
 }
 
 /// What weighs against a list that the first of them is not right after it; the second weighs half as much, the third a third.
 const WRONG: u64 = 12;
 
 /// How many transactions are looked at from the first on that is not placed. Those that end later can wait.
-const WINDOW: usize = 64;
+const WINDOW: usize = 128;
 
 /// Where the look from a place on ends.
 pub(crate) fn window_end(entries: &[Entry], from: usize) -> usize

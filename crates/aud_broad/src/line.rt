@@ -10,12 +10,33 @@ use aud_order::{Cursor, Pushed};
 use aud_witness::{Decision, Fate};
 use std::alloc::{Allocator, Global};
 
-/// A list: its decisions, how many of the transactions that end first are all placed, and the mark of what it placed.
+/// A list: its decisions, how many of the transactions that end first are all placed, the mark of what it placed, and how many transactions
+/// that end sooner its choices passed, all together.
 #[derive(Drop)]
 pub(crate) struct Line<A: Allocator + Copy = Global> {
     pub decisions: Vec<Decision, A>,
     from: usize,
     mark: u64,
+    passed: u64,
+}
+
+/// A decision on the row at a place that may come next, past so many transactions that end sooner.
+#[derive(Clone, Copy)]
+struct Next {
+    decision: Decision,
+    place: usize,
+    passed: u64,
+}
+
+impl Next {
+    /// The same with fate A.
+    fn aborting(self) -> Next {
+        let decision = Decision {
+            tx: self.decision.tx,
+            fate: Fate::A,
+        };
+        Next { decision, ..self }
+    }
 }
 
 /// What one of the lists may go on to. The least is the most hopeful.
@@ -26,6 +47,25 @@ pub(crate) struct Step {
     pub decision: Decision,
     pub placed: u64,
     pub mark: u64,
+    passed: u64,
+}
+
+/// Places the transaction, if that is good and none has to stand before it.
+fn push<A: Allocator + Copy>(
+    cursor: &mut Cursor<A>,
+    lookout: &Lookout<A>,
+    decision: Decision,
+    place: usize,
+) -> Result<Pushed, OutOfMemory>
+    requires { cursor.old.shape ≡ lookout.now }
+    ensures { OnOk result (cursor.new.shape ≡ cursor.old.shape) }
+{
+    let pushed = cursor.push(decision)?;
+    if pushed.is_good() && lookout.is_broken_by(cursor, place) {
+        let _ = cursor.pop();
+        return Ok(Pushed::NotEnabled);
+    }
+    Ok(pushed)
 }
 
 /// Places the transaction, if that is good and nobody notices.
@@ -37,7 +77,7 @@ fn is_placed_at_once<A: Allocator + Copy>(
     requires { cursor.old.shape ≡ lookout.now }
     ensures { OnOk result (cursor.new.shape ≡ cursor.old.shape) }
 {
-    if !cursor.push(entry.decision)?.is_good() {
+    if !push(cursor, lookout, entry.decision, entry.place)?.is_good() {
         return Ok(false);
     }
     if entry.is_silent {
@@ -57,6 +97,7 @@ impl<A: Allocator + Copy> Line<A> {
             decisions: Vec::new(alloc),
             from: 0,
             mark: 0,
+            passed: 0,
         }
     }
 
@@ -68,6 +109,7 @@ impl<A: Allocator + Copy> Line<A> {
             decisions,
             from: self.from,
             mark: step.placed,
+            passed: step.passed,
         })
     }
 
@@ -96,35 +138,37 @@ impl<A: Allocator + Copy> Line<A> {
         Ok(())
     }
 
-    /// Adds the step by the decision, if it is good, of a list of this number, past so many transactions that end sooner. It says whether
-    /// the transaction is placed already.
+    /// Adds the step, if it is good, of a list of this number. It says whether the transaction is placed already.
     fn add_step(
         &self,
         cursor: &mut Cursor<A>,
+        lookout: &Lookout<A>,
         entries: &[Entry],
         breadth: Breadth,
         line: usize,
-        decision: Decision,
-        passed: u64,
+        next: Next,
         steps: &mut Vec<Step, A>,
     ) -> Result<bool, OutOfMemory>
+        requires { cursor.old.shape ≡ lookout.now }
         ensures { OnOk result (cursor.new.shape ≡ cursor.old.shape) }
     {
-        match cursor.push(decision)? {
+        match push(cursor, lookout, next.decision, next.place)? {
             Pushed::Good => {}
             Pushed::NotAChoice => return Ok(true),
             Pushed::NotEnabled | Pushed::Illegal => return Ok(false),
         }
         let weight = weight_of(cursor, entries, self.from, breadth.asked)?;
-        let placed = self.mark.wrapping_add(mark_of(decision));
+        let placed = self.mark.wrapping_add(mark_of(next.decision));
         let mark = placed.wrapping_add(mark_of_states(cursor.store()));
         let _ = cursor.pop();
+        let passed = self.passed.saturating_add(next.passed);
         steps.push(Step {
-            weight: weight.saturating_add(breadth.early.saturating_mul(passed)),
+            weight: weight.saturating_add(breadth.weight_of_passed(next.passed, passed)),
             line,
-            decision,
+            decision: next.decision,
             placed,
             mark,
+            passed,
         })?;
         Ok(false)
     }
@@ -133,31 +177,27 @@ impl<A: Allocator + Copy> Line<A> {
     pub(crate) fn add_steps(
         &self,
         cursor: &mut Cursor<A>,
+        lookout: &Lookout<A>,
         entries: &[Entry],
         breadth: Breadth,
         line: usize,
         steps: &mut Vec<Step, A>,
     ) -> Result<(), OutOfMemory>
+        requires { cursor.old.shape ≡ lookout.now }
         ensures { OnOk result (cursor.new.shape ≡ cursor.old.shape) }
     {
         let mut passed: u64 = 0;
         for place in self.from..window_end(entries, self.from) {
             let entry = entries[place];
-            let is_placed = self.add_step(
-                cursor,
-                entries,
-                breadth,
-                line,
-                entry.decision,
+            let next = Next {
+                decision: entry.decision,
+                place: entry.place,
                 passed,
-                steps,
-            )?;
+            };
+            let is_placed = self.add_step(cursor, lookout, entries, breadth, line, next, steps)?;
             if entry.may_abort && !is_placed {
-                let abort = Decision {
-                    tx: entry.decision.tx,
-                    fate: Fate::A,
-                };
-                let _ = self.add_step(cursor, entries, breadth, line, abort, passed, steps)?;
+                let abort = next.aborting();
+                let _ = self.add_step(cursor, lookout, entries, breadth, line, abort, steps)?;
             }
             if !is_placed {
                 passed = passed.saturating_add(1);

@@ -14,35 +14,39 @@ use crate::rules::Rules;
 use crate::search::search;
 use aud_broad::{Breadth, find_broadly};
 use aud_event::OutOfMemory;
+use aud_forced::Forced;
 use aud_order::Shape;
 use aud_witness::Prefix;
 use aud_witness::laws::letter_is_opaque;
 use std::alloc::Allocator;
 
-/// How broad searches go: they ask four, six and one of the transactions that end first, since what one passes over another finds, and
-/// the last has more lists.
+/// How broad searches go: they weigh differently what they passed, since what one passes over another finds, and the last has more lists.
 pub(crate) const MIDDLE: Breadth = Breadth {
     lists: 50,
     asked: 4,
     early: 3,
+    ever: 1,
 };
 
 pub(crate) const FAR: Breadth = Breadth {
     lists: 50,
-    asked: 6,
-    early: 6,
+    asked: 4,
+    early: 0,
+    ever: 2,
 };
 
 const NEAR: Breadth = Breadth {
     lists: 50,
-    asked: 1,
-    early: 2,
+    asked: 4,
+    early: 3,
+    ever: 0,
 };
 
 const WIDE: Breadth = Breadth {
     lists: 200,
-    asked: 2,
+    asked: 4,
     early: 3,
+    ever: 1,
 };
 
 /// What is tried for a decision before the search of all lists.
@@ -52,14 +56,17 @@ enum Round {
     Soon(Order, u64),
     /// What each object sees, with so many times as many lists of each as at first.
     Alone(u64),
+    /// Which transactions have to stand before others; what is found stays for the rounds after it.
+    Orders,
     /// A broad search.
     Broadly(Breadth),
 }
 
 /// Searches try transactions by their last and by their first events in turn, each eight times as long as the one before it: what one order
 /// comes to late the other may come to soon.
-const ROUNDS: [Round; 10] = [
+const ROUNDS: [Round; 11] = [
     Round::Soon(Order::Last(0), 1),
+    Round::Orders,
     Round::Alone(1),
     Round::Soon(Order::First, 8),
     Round::Broadly(MIDDLE),
@@ -72,7 +79,9 @@ const ROUNDS: [Round; 10] = [
 ];
 
 /// Those of a history of one object, or of which what each object sees would be too much.
-const FEW_ROUNDS: [Round; 5] = [
+const FEW_ROUNDS: [Round; 7] = [
+    Round::Soon(Order::Last(0), 1),
+    Round::Orders,
     Round::Soon(Order::Last(0), 16),
     Round::Broadly(MIDDLE),
     Round::Broadly(FAR),
@@ -151,7 +160,22 @@ fn decide_in<'a, A: Allocator + Copy>(
     match round {
         Round::Soon(order, times) => decide_soon(alloc, shape, order, times, memo, rules),
         Round::Alone(times) => Ok(decide_alone(alloc, shape, times)),
-        Round::Broadly(breadth) => decide_broadly(alloc, shape, breadth),
+        Round::Orders => decide_by_orders(rules),
+        Round::Broadly(breadth) => decide_broadly(alloc, shape, rules.forced(), breadth),
+    }
+}
+
+/// The same, as far as the orders that are forced refute it.
+fn decide_by_orders<'a, A: Allocator + Copy>(
+    rules: &mut Rules<'a, A>,
+) -> Result<Option<Decided<A>>, OutOfMemory>
+    ensures decided { IfOk result (λ o. MatchOption o (Unit {0}) (Decides (objects_of rules.old) (history_of rules.old))) }
+    ensures same { rules.new ≡ rules.old }
+{
+    if rules.learn_orders()? {
+        Ok(Some(Decided::NotOpaque))
+    } else {
+        Ok(None)
     }
 }
 
@@ -167,14 +191,16 @@ fn decide_alone<A: Allocator + Copy>(alloc: A, shape: &Shape<A>, times: u64) -> 
 }
 
 /// The same, as far as a broad search finds an order.
-fn decide_broadly<A: Allocator + Copy>(
+fn decide_broadly<'a, A: Allocator + Copy>(
     alloc: A,
-    shape: &Shape<A>,
+    shape: &'a Shape<A>,
+    forced: Option<&'a Forced<'a, A>>,
     breadth: Breadth,
 ) -> Result<Option<Decided<A>>, OutOfMemory>
+    requires { MatchOption forced (Unit {0}) (λ f. f.now ≡ shape.now) }
     ensures { IfOk result (λ o. MatchOption o (Unit {0}) (Decides (objects_of shape.now) (history_of shape.now))) }
 {
-    match find_broadly(alloc, shape, breadth)? {
+    match find_broadly(alloc, shape, forced, breadth)? {
         Some(order) => Ok(Some(Decided::Opaque(order))),
         None => Ok(None),
     }

@@ -1,5 +1,5 @@
 //! The rules by which lists are refuted without a search below them, and by which one choice is enough. They come into play once the
-//! search has met dead ends.
+//! search has met dead ends; which transactions have to stand before others they know where they were told to look.
 
 ghost use Rattle.std.specs.Prelude.{◌≡◌, ◌<◌, IsTrue, IfOk, MatchOption, length, []};
 ghost use Rattle.aud_history.specs.Table.{table_of};
@@ -12,6 +12,7 @@ ghost use Rattle.aud_search.specs.Memos.{IsRefutedAt};
 use aud_ahead::Ahead;
 use aud_event::OutOfMemory;
 use aud_first::First;
+use aud_forced::{Forced, forced_of};
 use aud_order::{Cursor, Shape};
 use std::alloc::{Allocator, Global};
 use std::marker::Model;
@@ -34,6 +35,7 @@ pub(crate) struct Rules<'a, A: Allocator + Copy = Global> {
     has_ended: bool,
     steps: u32,
     lookout: Option<Lookout<'a, A>>,
+    forced: Option<Forced<'a, A>>,
     is_hopeless: bool,
     unseen: usize,
 }
@@ -48,7 +50,7 @@ impl<'a, A: Allocator + Copy> Model for Rules<'a, A> {
     ghost view = { λ r. r.shape.now };
 
     ghost invariant = { λ r. MatchOption r.lookout (Unit {0}) (λ l. (l.ahead ≡ r.shape.now) × MatchOption l.first (Unit {0}) (λ first. first ≡ r.shape.now))
-        × (r.is_hopeless ≡ true → Refuted (objects_of r.shape.now) (history_of r.shape.now) []) };
+        × MatchOption r.forced (Unit {0}) (λ forced. forced ≡ r.shape.now) × (r.is_hopeless ≡ true → Refuted (objects_of r.shape.now) (history_of r.shape.now) []) };
 }
 
 /// What looks ahead of lists of the shape, and whether it refutes the empty one.
@@ -81,6 +83,7 @@ impl<'a, A: Allocator + Copy> Rules<'a, A> {
             has_ended: false,
             steps: 0,
             lookout: None,
+            forced: None,
             is_hopeless: false,
             unseen: 0,
         }
@@ -105,6 +108,37 @@ impl<'a, A: Allocator + Copy> Rules<'a, A> {
         self.is_hopeless = is_hopeless;
         self.lookout = Some(lookout);
         Ok(())
+    }
+
+    /// Looks for transactions that have to stand before others. Whether that shows that no list shows the history.
+    pub(crate) fn learn_orders(&mut self) -> Result<bool, OutOfMemory>
+        ensures hopeless { IfOk result (λ yes. IsTrue yes → Refuted (objects_of self.old) (history_of self.old) []) }
+        ensures same { self.new ≡ self.old }
+    {
+        let (forced, is_hopeless) = forced_of(self.alloc, self.shape)?;
+        self.forced = Some(forced);
+        if is_hopeless {
+            self.is_hopeless = true;
+        }
+        Ok(is_hopeless)
+    }
+
+    /// Which have to, where that was looked for.
+    pub(crate) fn forced(&self) -> Option<&Forced<'a, A>>
+        ensures { MatchOption result (Unit {0}) (λ forced. forced.now ≡ self.now) }
+    {
+        self.forced.as_ref()
+    }
+
+    /// Whether the row at the place was placed before one that has to stand before it.
+    fn is_broken_by(&self, cursor: &Cursor<A>, placed_last: usize) -> bool
+        requires { cursor.now.shape ≡ self.now }
+        ensures { IsTrue result → IsRefutedAt cursor.now }
+    {
+        match &self.forced {
+            Some(forced) => forced.is_broken_by(cursor, placed_last),
+            None => false,
+        }
     }
 
     /// The search came to a dead end.
@@ -140,7 +174,7 @@ impl<'a, A: Allocator + Copy> Rules<'a, A> {
         ensures doomed { IsTrue result → IsRefutedAt cursor.now }
         ensures same { self.new ≡ self.old }
     {
-        if self.is_hopeless {
+        if self.is_hopeless || self.is_broken_by(cursor, placed_last) {
             return true;
         }
         match &mut self.lookout {

@@ -17,6 +17,7 @@ use crate::search::search;
 use crate::shared::{ROWS_MAX, Scene, Shared, Sharing};
 use aud_broad::{Breadth, find_broadly};
 use aud_event::OutOfMemory;
+use aud_forced::forced_of;
 use aud_order::Shape;
 use aud_witness::{Decision, Prefix};
 use std::alloc::{Allocator, Global};
@@ -28,7 +29,8 @@ const LONGER: u64 = 8;
 /// The same of the one round where what objects see may not pay.
 const LONG: u64 = 16;
 
-/// Whether no list shows the history, by what each object sees of it, with so many times its lists of each, but so many at most.
+/// Whether no list shows the history, by which transactions have to stand before others, or by what each object sees of it, with so many
+/// times its lists of each, but so many at most. Where that is none, nothing is looked for.
 fn look_alone<A: Allocator + Copy>(
     alloc: A,
     shape: &Shape<A>,
@@ -37,6 +39,12 @@ fn look_alone<A: Allocator + Copy>(
 ) -> Result<bool, OutOfMemory>
     ensures { IfOk result (λ yes. IsTrue yes → Refuted (objects_of shape.now) (history_of shape.now) []) }
 {
+    if most == 0 {
+        return Ok(false);
+    }
+    if forced_of(alloc, shape)?.1 {
+        return Ok(true);
+    }
     if !may_pay(shape) {
         return Ok(false);
     }
@@ -248,7 +256,7 @@ impl<'a, J: Scene, A: Allocator + Copy> Memory<'a, J, A> {
         if !prefix.decisions().is_empty() || steps.saturating_mul(breadth.lists) as u64 > budget {
             return Ok(None);
         }
-        match find_broadly(self.alloc, self.shape, breadth)? {
+        match find_broadly(self.alloc, self.shape, None, breadth)? {
             Some(order) => Ok(Some(Outcome::Witness(order))),
             None => Ok(None),
         }

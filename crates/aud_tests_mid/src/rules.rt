@@ -1,18 +1,21 @@
 //! What small histories tell, whose answer is plain: when a transaction may be placed at once, when no list is left that could show a history,
-//! and when no order shows it as one object sees it.
+//! when no order shows it as one object sees it, and which transactions have to stand before others.
 
 use crate::fixtures::shape_in;
 use aud_ahead::Ahead;
 use aud_alone::alone;
 use aud_first::First;
+use aud_forced::forced_of;
 use aud_order::{Cursor, Shape};
 use aud_search::{Decided, decide};
+use aud_witness::{Decision, Fate};
 use aud_worked::Unread;
 use std::alloc::Global;
 
 /// Histories, each after its heading: what is asked, a sign for each place, and why that is the answer. `p` asks whether the transaction at
 /// the place of the table may be placed at once, `s` whether no order shows the history as the object of that number sees it, and `d`
-/// whether no list is left. The signs are `+` for yes, `-` for no, and `.` where nothing is asked.
+/// whether no list is left. `o` asks whether the orders that are forced show that, and `b` whether a list of the transaction at the place
+/// alone breaks one. The signs are `+` for yes, `-` for no, and `.` where nothing is asked.
 const HISTORIES: &str = r#"# p+ rmw chain fires: 1 reads 0 writes 1, 2 reads 1 writes 2
 {"format":1,"logs":1,"objects":1}
 {"kind":"register","name":"x","open":0}
@@ -681,9 +684,112 @@ const HISTORIES: &str = r#"# p+ rmw chain fires: 1 reads 0 writes 1, 2 reads 1 w
 {"at":10,"ev":"tryc","log":0,"stamp":10,"tx":2}
 {"at":11,"ev":"commit","log":0,"stamp":11,"tx":2}
 {"end":12,"log":0}
+# o+ 2 reads x = 1, which 1 alone wrote, and y = 0, which 1 replaced
+{"format":1,"logs":1,"objects":2}
+{"kind":"register","name":"x","open":0}
+{"kind":"register","name":"y","open":0}
+{"arg":1,"at":0,"ev":"inv","log":0,"ob":"x","op":"write","stamp":0,"tx":1}
+{"ans":"done","at":1,"ev":"ret","log":0,"ob":"x","op":"write","stamp":1,"tx":1}
+{"at":2,"ev":"inv","log":0,"ob":"x","op":"read","stamp":2,"tx":2}
+{"ans":1,"at":3,"ev":"ret","log":0,"ob":"x","op":"read","stamp":3,"tx":2}
+{"arg":1,"at":4,"ev":"inv","log":0,"ob":"y","op":"write","stamp":4,"tx":1}
+{"ans":"done","at":5,"ev":"ret","log":0,"ob":"y","op":"write","stamp":5,"tx":1}
+{"at":6,"ev":"inv","log":0,"ob":"y","op":"read","stamp":6,"tx":2}
+{"ans":0,"at":7,"ev":"ret","log":0,"ob":"y","op":"read","stamp":7,"tx":2}
+{"at":8,"ev":"tryc","log":0,"stamp":8,"tx":1}
+{"at":9,"ev":"tryc","log":0,"stamp":9,"tx":2}
+{"at":10,"ev":"commit","log":0,"stamp":10,"tx":1}
+{"at":11,"ev":"commit","log":0,"stamp":11,"tx":2}
+{"end":12,"log":0}
+# d- the same: x may be 1 and y may be 0
+{"format":1,"logs":1,"objects":2}
+{"kind":"register","name":"x","open":0}
+{"kind":"register","name":"y","open":0}
+{"arg":1,"at":0,"ev":"inv","log":0,"ob":"x","op":"write","stamp":0,"tx":1}
+{"ans":"done","at":1,"ev":"ret","log":0,"ob":"x","op":"write","stamp":1,"tx":1}
+{"at":2,"ev":"inv","log":0,"ob":"x","op":"read","stamp":2,"tx":2}
+{"ans":1,"at":3,"ev":"ret","log":0,"ob":"x","op":"read","stamp":3,"tx":2}
+{"arg":1,"at":4,"ev":"inv","log":0,"ob":"y","op":"write","stamp":4,"tx":1}
+{"ans":"done","at":5,"ev":"ret","log":0,"ob":"y","op":"write","stamp":5,"tx":1}
+{"at":6,"ev":"inv","log":0,"ob":"y","op":"read","stamp":6,"tx":2}
+{"ans":0,"at":7,"ev":"ret","log":0,"ob":"y","op":"read","stamp":7,"tx":2}
+{"at":8,"ev":"tryc","log":0,"stamp":8,"tx":1}
+{"at":9,"ev":"tryc","log":0,"stamp":9,"tx":2}
+{"at":10,"ev":"commit","log":0,"stamp":10,"tx":1}
+{"at":11,"ev":"commit","log":0,"stamp":11,"tx":2}
+{"end":12,"log":0}
+# o- 3 may write y = 0 between 1 and 2
+{"format":1,"logs":1,"objects":2}
+{"kind":"register","name":"x","open":0}
+{"kind":"register","name":"y","open":0}
+{"arg":1,"at":0,"ev":"inv","log":0,"ob":"x","op":"write","stamp":0,"tx":1}
+{"ans":"done","at":1,"ev":"ret","log":0,"ob":"x","op":"write","stamp":1,"tx":1}
+{"at":2,"ev":"inv","log":0,"ob":"x","op":"read","stamp":2,"tx":2}
+{"ans":1,"at":3,"ev":"ret","log":0,"ob":"x","op":"read","stamp":3,"tx":2}
+{"arg":1,"at":4,"ev":"inv","log":0,"ob":"y","op":"write","stamp":4,"tx":1}
+{"ans":"done","at":5,"ev":"ret","log":0,"ob":"y","op":"write","stamp":5,"tx":1}
+{"arg":0,"at":6,"ev":"inv","log":0,"ob":"y","op":"write","stamp":6,"tx":3}
+{"ans":"done","at":7,"ev":"ret","log":0,"ob":"y","op":"write","stamp":7,"tx":3}
+{"at":8,"ev":"inv","log":0,"ob":"y","op":"read","stamp":8,"tx":2}
+{"ans":0,"at":9,"ev":"ret","log":0,"ob":"y","op":"read","stamp":9,"tx":2}
+{"at":10,"ev":"tryc","log":0,"stamp":10,"tx":1}
+{"at":11,"ev":"tryc","log":0,"stamp":11,"tx":3}
+{"at":12,"ev":"tryc","log":0,"stamp":12,"tx":2}
+{"at":13,"ev":"commit","log":0,"stamp":13,"tx":1}
+{"at":14,"ev":"commit","log":0,"stamp":14,"tx":3}
+{"at":15,"ev":"commit","log":0,"stamp":15,"tx":2}
+{"end":16,"log":0}
+# o- 1 may have aborted, and 3 wrote x = 1, too
+{"format":1,"logs":1,"objects":2}
+{"kind":"register","name":"x","open":0}
+{"kind":"register","name":"y","open":0}
+{"arg":1,"at":0,"ev":"inv","log":0,"ob":"x","op":"write","stamp":0,"tx":1}
+{"ans":"done","at":1,"ev":"ret","log":0,"ob":"x","op":"write","stamp":1,"tx":1}
+{"at":2,"ev":"inv","log":0,"ob":"x","op":"read","stamp":2,"tx":2}
+{"ans":1,"at":3,"ev":"ret","log":0,"ob":"x","op":"read","stamp":3,"tx":2}
+{"arg":1,"at":4,"ev":"inv","log":0,"ob":"y","op":"write","stamp":4,"tx":1}
+{"ans":"done","at":5,"ev":"ret","log":0,"ob":"y","op":"write","stamp":5,"tx":1}
+{"at":6,"ev":"inv","log":0,"ob":"y","op":"read","stamp":6,"tx":2}
+{"ans":0,"at":7,"ev":"ret","log":0,"ob":"y","op":"read","stamp":7,"tx":2}
+{"arg":1,"at":8,"ev":"inv","log":0,"ob":"x","op":"write","stamp":8,"tx":3}
+{"ans":"done","at":9,"ev":"ret","log":0,"ob":"x","op":"write","stamp":9,"tx":3}
+{"at":10,"ev":"tryc","log":0,"stamp":10,"tx":1}
+{"at":11,"ev":"tryc","log":0,"stamp":11,"tx":3}
+{"at":12,"ev":"tryc","log":0,"stamp":12,"tx":2}
+{"at":13,"ev":"commit","log":0,"stamp":13,"tx":3}
+{"at":14,"ev":"commit","log":0,"stamp":14,"tx":2}
+{"end":15,"log":0}
+# b+- 2 reads x = 0, which 1 replaced: 1 is placed too early
+{"format":1,"logs":1,"objects":1}
+{"kind":"register","name":"x","open":0}
+{"arg":1,"at":0,"ev":"inv","log":0,"ob":"x","op":"write","stamp":0,"tx":1}
+{"ans":"done","at":1,"ev":"ret","log":0,"ob":"x","op":"write","stamp":1,"tx":1}
+{"at":2,"ev":"inv","log":0,"ob":"x","op":"read","stamp":2,"tx":2}
+{"ans":0,"at":3,"ev":"ret","log":0,"ob":"x","op":"read","stamp":3,"tx":2}
+{"at":4,"ev":"tryc","log":0,"stamp":4,"tx":1}
+{"at":5,"ev":"tryc","log":0,"stamp":5,"tx":2}
+{"at":6,"ev":"commit","log":0,"stamp":6,"tx":1}
+{"at":7,"ev":"commit","log":0,"stamp":7,"tx":2}
+{"end":8,"log":0}
+# b-- 3 may write x = 0 again
+{"format":1,"logs":1,"objects":1}
+{"kind":"register","name":"x","open":0}
+{"arg":1,"at":0,"ev":"inv","log":0,"ob":"x","op":"write","stamp":0,"tx":1}
+{"ans":"done","at":1,"ev":"ret","log":0,"ob":"x","op":"write","stamp":1,"tx":1}
+{"at":2,"ev":"inv","log":0,"ob":"x","op":"read","stamp":2,"tx":2}
+{"ans":0,"at":3,"ev":"ret","log":0,"ob":"x","op":"read","stamp":3,"tx":2}
+{"arg":0,"at":4,"ev":"inv","log":0,"ob":"x","op":"write","stamp":4,"tx":3}
+{"ans":"done","at":5,"ev":"ret","log":0,"ob":"x","op":"write","stamp":5,"tx":3}
+{"at":6,"ev":"tryc","log":0,"stamp":6,"tx":1}
+{"at":7,"ev":"tryc","log":0,"stamp":7,"tx":2}
+{"at":8,"ev":"tryc","log":0,"stamp":8,"tx":3}
+{"at":9,"ev":"commit","log":0,"stamp":9,"tx":1}
+{"at":10,"ev":"commit","log":0,"stamp":10,"tx":2}
+{"at":11,"ev":"commit","log":0,"stamp":11,"tx":3}
+{"end":12,"log":0}
 "#;
 
-const COUNT: usize = 50;
+const COUNT: usize = 56;
 
 /// The text, whose bytes nobody has to know.
 fn histories() -> &'static str {
@@ -714,10 +820,31 @@ fn is_refuted_for(alloc: Global, shape: &Shape, object: u16) -> Result<bool, Unr
     }
 }
 
+fn is_hopeless(alloc: Global, shape: &Shape) -> Result<bool, Unread> {
+    Ok(forced_of(alloc, shape)?.1)
+}
+
+/// Whether a list of the transaction at the place alone breaks an order that is forced.
+fn is_broken(alloc: Global, shape: &Shape, place: u16) -> Result<bool, Unread> {
+    let place = usize::from(place);
+    let (forced, _) = forced_of(alloc, shape)?;
+    let mut cursor = Cursor::root(alloc, shape)?;
+    let Some(row) = shape.table().rows().get(place) else {
+        return Ok(false);
+    };
+    let _ = cursor.push(Decision {
+        tx: row.tx(),
+        fate: Fate::C,
+    })?;
+    Ok(forced.is_broken_by(&cursor, place))
+}
+
 fn answer(alloc: Global, shape: &Shape, question: u8, place: u16) -> Result<bool, Unread> {
     match question {
         b'p' => is_placed(alloc, shape, place),
         b's' => is_refuted_for(alloc, shape, place),
+        b'o' => is_hopeless(alloc, shape),
+        b'b' => is_broken(alloc, shape, place),
         _ => is_doomed(alloc, shape),
     }
 }

@@ -1,0 +1,5 @@
+pub mod Breaking
+pub mod Forcing
+pub mod RivalLemmas
+pub mod Telling
+pub mod Timing

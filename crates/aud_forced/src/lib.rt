@@ -1,0 +1,13 @@
+#![tactic(auto)]
+//! Pairs of transactions that stand in one order in every list that shows a history: where a list breaks one, none that begins with it
+//! shows the history.
+
+mod finding;
+mod forced;
+mod learning;
+mod notes;
+mod pairs;
+mod rivals;
+
+pub use finding::forced_of;
+pub use forced::Forced;
