@@ -12,6 +12,7 @@ use crate::recorder::{Unnoted, Unrecorded};
 use crate::room::BOUND;
 use crate::rules::Rules;
 use crate::search::search;
+use aud_anneal::{Effort, find_by_annealing};
 use aud_broad::{Breadth, find_broadly};
 use aud_event::OutOfMemory;
 use aud_forced::Forced;
@@ -49,6 +50,21 @@ const WIDE: Breadth = Breadth {
     ever: 1,
 };
 
+/// How long annealing goes: a short time first, for what it finds soon, and a longer one later.
+pub(crate) const SOON: Effort = Effort {
+    seed: 1,
+    sweeps: 6,
+    columns: 8,
+    looks: 24_000_000,
+};
+
+const LONGER: Effort = Effort {
+    seed: 2,
+    sweeps: 6,
+    columns: 1,
+    looks: 80_000_000,
+};
+
 /// What is tried for a decision before the search of all lists.
 #[derive(Clone, Copy)]
 enum Round {
@@ -60,32 +76,37 @@ enum Round {
     Orders,
     /// A broad search.
     Broadly(Breadth),
+    /// Annealing.
+    Annealing(Effort),
 }
 
 /// Searches try transactions by their last and by their first events in turn, each eight times as long as the one before it: what one order
 /// comes to late the other may come to soon.
-const ROUNDS: [Round; 11] = [
+const ROUNDS: [Round; 13] = [
     Round::Soon(Order::Last(0), 1),
     Round::Orders,
     Round::Alone(1),
+    Round::Annealing(SOON),
     Round::Soon(Order::First, 8),
     Round::Broadly(MIDDLE),
     Round::Alone(8),
     Round::Broadly(FAR),
     Round::Broadly(NEAR),
+    Round::Annealing(LONGER),
     Round::Soon(Order::Last(0), 64),
     Round::Broadly(WIDE),
     Round::Soon(Order::First, 512),
 ];
 
 /// Those of a history of one object, or of which what each object sees would be too much.
-const FEW_ROUNDS: [Round; 7] = [
+const FEW_ROUNDS: [Round; 8] = [
     Round::Soon(Order::Last(0), 1),
     Round::Orders,
     Round::Soon(Order::Last(0), 16),
     Round::Broadly(MIDDLE),
     Round::Broadly(FAR),
     Round::Broadly(NEAR),
+    Round::Annealing(LONGER),
     Round::Broadly(WIDE),
 ];
 
@@ -162,6 +183,7 @@ fn decide_in<'a, A: Allocator + Copy>(
         Round::Alone(times) => Ok(decide_alone(alloc, shape, times)),
         Round::Orders => decide_by_orders(rules),
         Round::Broadly(breadth) => decide_broadly(alloc, shape, rules.forced(), breadth),
+        Round::Annealing(effort) => decide_by_annealing(alloc, shape, effort),
     }
 }
 
@@ -201,6 +223,20 @@ fn decide_broadly<'a, A: Allocator + Copy>(
     ensures { IfOk result (λ o. MatchOption o (Unit {0}) (Decides (objects_of shape.now) (history_of shape.now))) }
 {
     match find_broadly(alloc, shape, forced, breadth)? {
+        Some(order) => Ok(Some(Decided::Opaque(order))),
+        None => Ok(None),
+    }
+}
+
+/// The same, as far as annealing finds an order.
+fn decide_by_annealing<A: Allocator + Copy>(
+    alloc: A,
+    shape: &Shape<A>,
+    effort: Effort,
+) -> Result<Option<Decided<A>>, OutOfMemory>
+    ensures { IfOk result (λ o. MatchOption o (Unit {0}) (Decides (objects_of shape.now) (history_of shape.now))) }
+{
+    match find_by_annealing(alloc, shape, effort)? {
         Some(order) => Ok(Some(Decided::Opaque(order))),
         None => Ok(None),
     }

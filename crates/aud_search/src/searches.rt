@@ -7,7 +7,7 @@ ghost use Rattle.aud_search.specs.Searches.{Reports};
 
 use crate::alone::{find_refuted_alone, lists_of, may_pay};
 use crate::choice::Order;
-use crate::deciding::{FAR, MIDDLE};
+use crate::deciding::{FAR, MIDDLE, SOON};
 use crate::memo::{LARGEST_SEEN, Memo};
 use crate::outcome::Outcome;
 use crate::recorder::Unnoted;
@@ -15,6 +15,7 @@ use crate::room::BOUND;
 use crate::rules::Rules;
 use crate::search::search;
 use crate::shared::{ROWS_MAX, Scene, Shared, Sharing};
+use aud_anneal::{Effort, find_by_annealing};
 use aud_broad::{Breadth, find_broadly};
 use aud_event::OutOfMemory;
 use aud_forced::forced_of;
@@ -28,6 +29,9 @@ const LONGER: u64 = 8;
 
 /// The same of the one round where what objects see may not pay.
 const LONG: u64 = 16;
+
+/// So many looks of annealing take about as long as a list of a search.
+const LOOKS_OF_A_LIST: u64 = 1024;
 
 /// Whether no list shows the history, by which transactions have to stand before others, or by what each object sees of it, with so many
 /// times its lists of each, but so many at most. Where that is none, nothing is looked for.
@@ -262,6 +266,24 @@ impl<'a, J: Scene, A: Allocator + Copy> Memory<'a, J, A> {
         }
     }
 
+    /// What annealing tells, where the prefix is empty and the budget has room for it.
+    fn explore_by_annealing(
+        &self,
+        effort: Effort,
+        prefix: &Prefix<A>,
+        budget: u64,
+    ) -> Result<Option<Outcome<A>>, OutOfMemory>
+        ensures { IfOk result (λ o. MatchOption o (Unit {0}) (Reports (objects_of self.now) (history_of self.now) prefix.now (Some budget))) }
+    {
+        if !prefix.decisions().is_empty() || effort.looks / LOOKS_OF_A_LIST > budget {
+            return Ok(None);
+        }
+        match find_by_annealing(self.alloc, self.shape, effort)? {
+            Some(order) => Ok(Some(Outcome::Witness(order))),
+            None => Ok(None),
+        }
+    }
+
     /// What rounds tell: one by last events and, where what each object sees may pay, a longer one by first events; then broad searches.
     fn explore_by_rounds(
         &mut self,
@@ -283,6 +305,9 @@ impl<'a, J: Scene, A: Allocator + Copy> Memory<'a, J, A> {
             return Ok(Some(told));
         }
         if let Some(told) = self.explore_broadly(MIDDLE, prefix, budget)? {
+            return Ok(Some(told));
+        }
+        if let Some(told) = self.explore_by_annealing(SOON, prefix, budget)? {
             return Ok(Some(told));
         }
         self.explore_broadly(FAR, prefix, budget)
