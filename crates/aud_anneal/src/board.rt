@@ -1,12 +1,11 @@
 //! An order of all transactions, what they see in it, and how it changes.
 
-use crate::dice::Dice;
 use crate::heat::Heat;
-use crate::items::{at, first, from, set};
 use crate::scale::Scale;
 use crate::sketch::Sketch;
 use crate::touch::{Effect, Touch, cost_of};
 use aud_event::OutOfMemory;
+use aud_trial::{Dice, at, first, from, set};
 use std::alloc::{Allocator, Global};
 
 /// How much more a need costs at most that stays wrong.

@@ -5,16 +5,14 @@ ghost use Rattle.aud_witness.specs.Orders.{Shows};
 ghost use Rattle.aud_order.specs.Shapes.{objects_of, history_of};
 
 use crate::board::Board;
-use crate::dice::Dice;
 use crate::heat::{COLD, Heat, PHASES};
-use crate::items::at;
 use crate::pairing::{pair_again, pair_all};
 use crate::reading::sketch_of;
 use crate::scale::Scale;
 use crate::sketch::Sketch;
 use aud_event::OutOfMemory;
-use aud_order::{Cursor, Shape};
-use aud_witness::laws::shows_is_full_and_good;
+use aud_order::Shape;
+use aud_trial::{Dice, at, tried};
 use aud_witness::{Decision, Fate, Prefix};
 use std::alloc::Allocator;
 
@@ -152,24 +150,6 @@ fn decisions_of<A: Allocator + Copy>(
     Ok(decisions)
 }
 
-/// The list, if it shows the shape's history.
-fn shown_by<A: Allocator + Copy>(
-    alloc: A,
-    shape: &Shape<A>,
-    decisions: &[Decision],
-) -> Result<Option<Prefix<A>>, OutOfMemory>
-    ensures { IfOk result (λ found. IfSome found (Shows (objects_of shape.now) (history_of shape.now))) }
-{
-    shows_is_full_and_good();
-    let Some(cursor) = Cursor::after(alloc, shape, decisions)? else {
-        return Ok(None);
-    };
-    if !cursor.full() {
-        return Ok(None);
-    }
-    Ok(Some(Prefix::copy_of(alloc, decisions)?))
-}
-
 /// Whether some transaction did more than is read here.
 fn is_long<A: Allocator + Copy>(shape: &Shape<A>) -> bool {
     for row in shape.table().rows() {
@@ -207,7 +187,7 @@ fn find_once<A: Allocator + Copy>(
             }
             if board.wrong().len() <= NEAR {
                 let decisions = decisions_of(alloc, sketch, board)?;
-                if let Some(found) = shown_by(alloc, shape, &decisions)? {
+                if let Some(found) = tried(alloc, shape, &decisions)? {
                     return Ok(Some(found));
                 }
             }

@@ -1,8 +1,7 @@
 //! How likely it is that something is chosen that costs more.
 
-use crate::dice::Dice;
-use crate::items::at;
 use aud_event::OutOfMemory;
+use aud_trial::{Dice, at};
 use std::alloc::{Allocator, Global};
 
 /// For each phase of a round, from hot to cold, how much less likely each quarter of a wrong need makes a choice, of 65,536.

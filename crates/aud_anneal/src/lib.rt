@@ -4,10 +4,8 @@
 //! says nothing.
 
 mod board;
-mod dice;
 mod find;
 mod heat;
-mod items;
 mod pairing;
 mod reading;
 mod scale;

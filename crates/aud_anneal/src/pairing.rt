@@ -1,9 +1,9 @@
 //! Whose value a transaction takes from a queue, where several added that value: the first of them is taken first.
 
 use crate::board::Board;
-use crate::items::{add_at, at};
 use crate::sketch::{Item, Sketch, Taker};
 use aud_event::OutOfMemory;
+use aud_trial::{add_at, at};
 use std::alloc::Allocator;
 
 /// An item or a taker of a group by where it stands in an order.

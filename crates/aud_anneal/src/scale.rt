@@ -1,9 +1,8 @@
 //! What it costs to put a transaction into each gap of a window.
 
-use crate::dice::Dice;
 use crate::heat::Heat;
-use crate::items::add_at;
 use aud_event::OutOfMemory;
+use aud_trial::{Dice, add_at};
 use std::alloc::{Allocator, Global};
 
 /// What changes in the cost from each gap to the next one; then the costs. There is room for gaps between so many transactions.

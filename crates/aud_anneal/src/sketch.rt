@@ -1,8 +1,8 @@
 //! What a history asks of an order of its transactions, as tables.
 
-use crate::items::at;
 use crate::touch::{Column, Effect, Need, Touch};
 use aud_event::OutOfMemory;
+use aud_trial::at;
 use aud_witness::Decision;
 use std::alloc::{Allocator, Global};
 

@@ -38,7 +38,7 @@ use Rattle.aud_ahead.specs.Bringers.{MarksBringers}
 use Rattle.aud_ahead.proofs.Judging.{place-among}
 use Rattle.aud_forced.specs.Forced.{IsForced, transaction_of, is_pair, AreForced, is_the, is_out, AreOutBut}
 
-fate-or : (f : Fate) → (f ≡ C) ⊎ (f ≡ A)
+pub fate-or : (f : Fate) → (f ≡ C) ⊎ (f ≡ A)
 fate-or C = inl refl
 fate-or A = inr refl
 
@@ -111,7 +111,7 @@ module _ (plan : PlanOf) (h : History) (may_be : List ObjState → Type 0) (fine
       ]
 
   -- any decisions further, of which each that may commit keeps to what may be
-  reaches : (m a b : List Decision) → Shows plan.objects h (m ++ (a ++ b)) →
+  pub reaches : (m a b : List Decision) → Shows plan.objects h (m ++ (a ++ b)) →
       ((n : ℕ) → is_named a n ≡ true → is_allowed h n C ≡ true → StayWithin may_be (row_of h n).block.executions) → may_be (reached plan.objects h m) → may_be (reached plan.objects h (m ++ a))
   reaches m [] b shown keeps now = subst (λ l. may_be (reached plan.objects h l)) (sym (append-nil m)) now
   reaches m (e ∷ a) b shown keeps now =
@@ -120,7 +120,7 @@ module _ (plan : PlanOf) (h : History) (may_be : List ObjState → Type 0) (fine
       subst (λ l. may_be (reached plan.objects h l)) (append_assoc m (e ∷ []) a) (reaches (m ++ e ∷ []) a b again (λ n named. keeps n (or_right (nat_eq e.tx n) (is_named a n) named)) next)
 
   -- the block of a decision that stands in a list that shows runs there
-  stuck : (m a : List Decision) (d : Decision) (b : List Decision) → Shows plan.objects h (m ++ (a ++ d ∷ b)) →
+  pub stuck : (m a : List Decision) (d : Decision) (b : List Decision) → Shows plan.objects h (m ++ (a ++ d ∷ b)) →
       ((n : ℕ) → is_named a n ≡ true → is_allowed h n C ≡ true → StayWithin may_be (row_of h n).block.executions) → may_be (reached plan.objects h m) →
       RunNowhere may_be (row_of h d.tx).block.executions → ⊥
   stuck m a d b shown keeps now nowhere =
@@ -216,15 +216,29 @@ module _ (h : History) where
 abbrev pub Lacking : Lack → List ObjState → Type 0
 Lacking lack = Hold (lacks lack.object lack.cell)
 
-module _ (plan : PlanOf) (h : History) (pairs : List (List Bool)) (lack : Lack) (marks : List Bool) (fine : IsWellFormed h) (forced : AreForced plan.objects h pairs) (bringers : MarksBringers (table_of h) lack marks) where
+module _ (objects : List Declared) (h : History) (pairs : List (List Bool)) (forced : AreForced objects h pairs) where
   -- what stands before the one in a list that shows is neither it nor forced to stand after it
-  late-out : (p : List Decision) (t k : ℕ) → Shows plan.objects h p → stands_before p (transaction_of h k) (transaction_of h t) ≡ true → (nat_eq k t || is_pair pairs t k) ≡ true → ⊥
+  pub late-out : (p : List Decision) (t k : ℕ) → Shows objects h p → stands_before p (transaction_of h k) (transaction_of h t) ≡ true → (nat_eq k t || is_pair pairs t k) ≡ true → ⊥
   late-out p t k shown front gone =
       elim (or_true (nat_eq k t) (is_pair pairs t k) gone) [
         | inl is_t ↦ stands_before-itself p (transaction_of h t) shown.full.once (subst (λ u. stands_before p (transaction_of h u) (transaction_of h t) ≡ true) (nat_eq-is k t is_t) front)
         | inr pair ↦ stands_before-apart p (transaction_of h t) (transaction_of h k) shown.full.once (forced t k pair p shown) front
       ]
 
+  -- what stands between the two in a list that shows is none of them, and not forced to stand elsewhere
+  pub not-out : (p : List Decision) (x t k : ℕ) → Shows objects h p → stands_before p (transaction_of h x) (transaction_of h k) ≡ true → stands_before p (transaction_of h k) (transaction_of h t) ≡ true →
+      is_out pairs (Some x) t k ≡ true → ⊥
+  not-out p x t k shown behind front gone =
+      elim (or_true (nat_eq k t || is_pair pairs t k || nat_eq k x) (is_pair pairs k x) gone) [
+        | inr pair ↦ stands_before-apart p (transaction_of h x) (transaction_of h k) shown.full.once behind (forced k x pair p shown)
+        | inl gone ↦
+            elim (or_true (nat_eq k t || is_pair pairs t k) (nat_eq k x) gone) [
+              | inr is_x ↦ stands_before-itself p (transaction_of h x) shown.full.once (subst (λ u. stands_before p (transaction_of h x) (transaction_of h u) ≡ true) (nat_eq-is k x is_x) behind)
+              | inl gone ↦ late-out p t k shown front gone
+            ]
+      ]
+
+module _ (plan : PlanOf) (h : History) (pairs : List (List Bool)) (lack : Lack) (marks : List Bool) (fine : IsWellFormed h) (forced : AreForced plan.objects h pairs) (bringers : MarksBringers (table_of h) lack marks) where
   -- what stands between the two in a list that shows and is not the one leaves the cell lacking the value
   keeps-between : (p : List Decision) (x t : ℕ) (c : Option ℕ) (n : ℕ) → Shows plan.objects h p → AreOutBut (table_of h) marks pairs (Some x) t c →
       ((k : ℕ) → is_the c k ≡ true → stands_before p (transaction_of h x) (transaction_of h k) ≡ true → stands_before p (transaction_of h k) (transaction_of h t) ≡ true → ⊥) →
@@ -239,20 +253,9 @@ module _ (plan : PlanOf) (h : History) (pairs : List (List Bool)) (lack : Lack) 
         | inl on ↦
             absurd (elim (split (is_the c k)) as (λ _. ⊥) [
               | inl is_c ↦ other k is_c behind front
-              | inr not_c ↦ not-out k behind front (out k (row_of h n) at on (status-allowed h n C fine ∙ may) not_c)
+              | inr not_c ↦ not-out plan.objects h pairs forced p x t k shown behind front (out k (row_of h n) at on (status-allowed h n C fine ∙ may) not_c)
             ])
       ]
-    where
-      not-out : (k : ℕ) → stands_before p (transaction_of h x) (transaction_of h k) ≡ true → stands_before p (transaction_of h k) (transaction_of h t) ≡ true → is_out pairs (Some x) t k ≡ true → ⊥
-      not-out k behind front gone =
-          elim (or_true (nat_eq k t || is_pair pairs t k || nat_eq k x) (is_pair pairs k x) gone) [
-            | inr pair ↦ stands_before-apart p (transaction_of h x) (transaction_of h k) shown.full.once behind (forced k x pair p shown)
-            | inl gone ↦
-                elim (or_true (nat_eq k t || is_pair pairs t k) (nat_eq k x) gone) [
-                  | inr is_x ↦ stands_before-itself p (transaction_of h x) shown.full.once (subst (λ u. stands_before p (transaction_of h x) (transaction_of h u) ≡ true) (nat_eq-is k x is_x) behind)
-                  | inl gone ↦ late-out p t k shown front gone
-                ]
-          ]
 
   -- the same of what stands before the one
   keeps-before : (p : List Decision) (t : ℕ) (c : Option ℕ) (n : ℕ) → Shows plan.objects h p → AreOutBut (table_of h) marks pairs None t c →
@@ -267,7 +270,7 @@ module _ (plan : PlanOf) (h : History) (pairs : List (List Bool)) (lack : Lack) 
         | inl on ↦
             absurd (elim (split (is_the c k)) as (λ _. ⊥) [
               | inl is_c ↦ other k is_c front
-              | inr not_c ↦ late-out p t k shown front (out k (row_of h n) at on (status-allowed h n C fine ∙ may) not_c)
+              | inr not_c ↦ late-out plan.objects h pairs forced p t k shown front (out k (row_of h n) at on (status-allowed h n C fine ∙ may) not_c)
             ])
       ]
 

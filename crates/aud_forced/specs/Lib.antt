@@ -1,1 +1,2 @@
 pub mod Forced
+pub mod Queues

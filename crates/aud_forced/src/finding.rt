@@ -6,9 +6,12 @@ ghost use Rattle.aud_order.specs.Shapes.{history_of};
 ghost use Rattle.aud_ahead.specs.Bringers.{MarksBringers};
 ghost use Rattle.aud_forced.specs.Forced.{IsHopeless};
 
+use crate::adders::Sources;
 use crate::forced::Forced;
 use crate::notes::{Notes, Told, Want};
 use crate::pairs::Pairs;
+use crate::takers::{Take, Takers};
+use crate::turns::{ask_for, learn_takes};
 use aud_ahead::{Bringers, Supply};
 use aud_event::OutOfMemory;
 use aud_order::{Cursor, Shape};
@@ -17,7 +20,7 @@ use std::alloc::Allocator;
 /// How often all that is needed is looked at. Most pairs are found in the first times.
 const TIMES: usize = 8;
 
-/// How many pairs of a need and a start are looked at, all times together.
+/// How many pairs of a need and a start are looked at, all times together, and how many pairs of values that are taken from queues.
 const LOOKS: usize = 1 << 21;
 
 /// The rows that may bring what is wanted and need not stand behind its end.
@@ -172,18 +175,25 @@ fn learn_all<'a, A: Allocator + Copy>(
     alloc: A,
     forced: &mut Forced<'a, A>,
     supply: &mut Supply<'a, A>,
+    sources: &Sources<'a, A>,
     root: &Cursor<A>,
     notes: &Notes<A>,
+    takes: &[Take],
 ) -> Result<bool, OutOfMemory>
     requires supply { supply.old ≡ forced.old }
+    requires sources { sources.now ≡ forced.old }
     requires shape { root.now.shape ≡ forced.old }
     requires empty { root.now.path ≡ [] }
     ensures hopeless { IfOk result (λ yes. IsTrue yes → IsHopeless forced.old) }
     ensures forced { OnOk result (forced.new ≡ forced.old) }
 {
     let mut looks = LOOKS;
+    let mut turns = LOOKS;
     for _ in 0..TIMES {
         let before = forced.learned();
+        if learn_takes(alloc, forced, sources, takes, &mut turns)? {
+            return Ok(true);
+        }
         if learn_once(alloc, forced, supply, root, notes, &mut looks)? {
             return Ok(true);
         }
@@ -198,7 +208,8 @@ fn learn_all<'a, A: Allocator + Copy>(
 ///
 /// It starts from the pairs of which the first transaction ended before the second one began. A transaction that needs a value of a cell
 /// stands behind one that brings it; where that can be one only, that is a pair. So it is behind each start, which leaves another value
-/// and has to commit; where none can bring the value between the two, the start stands behind.
+/// and has to commit; where none can bring the value between the two, the start stands behind. A
+/// transaction that takes a value from a queue stands behind one that adds it, and before one that takes another value which is added later.
 pub fn forced_of<'a, A: Allocator + Copy>(
     alloc: A,
     shape: &'a Shape<A>,
@@ -210,6 +221,17 @@ pub fn forced_of<'a, A: Allocator + Copy>(
     let root = Cursor::root(alloc, shape)?;
     let mut supply = Supply::of(alloc, shape, notes.bringers.len())?;
     let mut forced = Forced::of(alloc, shape)?;
-    let is_hopeless = learn_all(alloc, &mut forced, &mut supply, &root, &notes)?;
+    let takers = Takers::of(alloc, shape)?;
+    let mut sources = Sources::of(alloc, shape);
+    ask_for(&mut sources, &takers.items, shape.table().rows().len())?;
+    let is_hopeless = learn_all(
+        alloc,
+        &mut forced,
+        &mut supply,
+        &sources,
+        &root,
+        &notes,
+        &takers.takes,
+    )?;
     Ok((forced, is_hopeless))
 }

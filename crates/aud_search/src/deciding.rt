@@ -12,10 +12,10 @@ use crate::recorder::{Unnoted, Unrecorded};
 use crate::room::BOUND;
 use crate::rules::Rules;
 use crate::search::search;
-use aud_anneal::{Effort, find_by_annealing};
 use aud_broad::{Breadth, find_broadly};
-use aud_event::OutOfMemory;
+use aud_event::{ObjKind, OutOfMemory};
 use aud_forced::Forced;
+use aud_guess::{Effort, Guess, find_by_guess};
 use aud_order::Shape;
 use aud_witness::Prefix;
 use aud_witness::laws::letter_is_opaque;
@@ -50,65 +50,121 @@ const WIDE: Breadth = Breadth {
     ever: 1,
 };
 
-/// How long annealing goes: a short time first, for what it finds soon, and a longer one later.
-pub(crate) const SOON: Effort = Effort {
+/// What is guessed of runs of queues alone.
+const QUEUES: Guess = Guess::Queues;
+
+/// Of runs of registers, sets and maps.
+const CELLS: Guess = Guess::Cells {
+    seed: 3,
+    looks: 48_000_000,
+};
+
+/// The same once more, by other chances.
+const MORE_CELLS: Guess = Guess::Cells {
+    seed: 11,
+    looks: 48_000_000,
+};
+
+/// Of others, soon.
+const SOON: Guess = Guess::Annealing(Effort {
     seed: 1,
     sweeps: 6,
     columns: 8,
     looks: 24_000_000,
-};
+});
 
-const LONGER: Effort = Effort {
+/// What is guessed that takes a short time.
+pub(crate) const QUICK: [Guess; 3] = [QUEUES, CELLS, SOON];
+
+/// Annealing that takes longer.
+const LONGER: Guess = Guess::Annealing(Effort {
     seed: 2,
     sweeps: 6,
     columns: 1,
     looks: 80_000_000,
-};
+});
 
 /// What is tried for a decision before the search of all lists.
 #[derive(Clone, Copy)]
 enum Round {
+    /// A search by last events that hardly goes back, but of many transactions on queues, of which other rounds tell sooner.
+    Straight,
     /// A search in the order of so many times the first lists.
     Soon(Order, u64),
     /// What each object sees, with so many times as many lists of each as at first.
     Alone(u64),
     /// Which transactions have to stand before others; what is found stays for the rounds after it.
     Orders,
+    /// The same, where all objects are queues: there it tells more, and a search takes longer.
+    OrdersOfQueues,
     /// A broad search.
     Broadly(Breadth),
-    /// Annealing.
-    Annealing(Effort),
+    /// A guess.
+    Guessing(Guess),
 }
 
 /// Searches try transactions by their last and by their first events in turn, each eight times as long as the one before it: what one order
 /// comes to late the other may come to soon.
-const ROUNDS: [Round; 13] = [
+const ROUNDS: [Round; 18] = [
+    Round::Straight,
+    Round::Guessing(QUEUES),
+    Round::OrdersOfQueues,
     Round::Soon(Order::Last(0), 1),
     Round::Orders,
     Round::Alone(1),
-    Round::Annealing(SOON),
+    Round::Guessing(CELLS),
+    Round::Guessing(SOON),
     Round::Soon(Order::First, 8),
+    Round::Guessing(MORE_CELLS),
     Round::Broadly(MIDDLE),
     Round::Alone(8),
     Round::Broadly(FAR),
     Round::Broadly(NEAR),
-    Round::Annealing(LONGER),
+    Round::Guessing(LONGER),
     Round::Soon(Order::Last(0), 64),
     Round::Broadly(WIDE),
     Round::Soon(Order::First, 512),
 ];
 
 /// Those of a history of one object, or of which what each object sees would be too much.
-const FEW_ROUNDS: [Round; 8] = [
+const FEW_ROUNDS: [Round; 13] = [
+    Round::Straight,
+    Round::Guessing(QUEUES),
+    Round::OrdersOfQueues,
     Round::Soon(Order::Last(0), 1),
     Round::Orders,
+    Round::Guessing(CELLS),
     Round::Soon(Order::Last(0), 16),
+    Round::Guessing(MORE_CELLS),
     Round::Broadly(MIDDLE),
     Round::Broadly(FAR),
     Round::Broadly(NEAR),
-    Round::Annealing(LONGER),
+    Round::Guessing(LONGER),
     Round::Broadly(WIDE),
 ];
+
+/// How many lists are expanded, beside one for each transaction, before anything else is tried.
+const FIRST: u32 = 64;
+
+/// How many lists of the shape a search expands that hardly goes back.
+fn straight<A: Allocator + Copy>(shape: &Shape<A>) -> u64 {
+    u64::from(FIRST).saturating_add(shape.table().rows().len() as u64)
+}
+
+/// Whether there are so few transactions that a search is no slower than all else.
+fn is_small<A: Allocator + Copy>(shape: &Shape<A>) -> bool {
+    shape.table().rows().len() <= FIRST as usize
+}
+
+/// Whether all objects are queues.
+fn are_queues<A: Allocator + Copy>(shape: &Shape<A>) -> bool {
+    for decl in shape.plan().objects() {
+        if decl.kind != ObjKind::Queue {
+            return false;
+        }
+    }
+    true
+}
 
 /// Whether the history is opaque, with a list that shows it where it is. That is so by lists of decisions, and by the letter of
 /// Guerraoui and Kapałka (PPoPP 2008).
@@ -179,11 +235,18 @@ fn decide_in<'a, A: Allocator + Copy>(
     ensures same { rules.new ≡ rules.old }
 {
     match round {
-        Round::Soon(order, times) => decide_soon(alloc, shape, order, times, memo, rules),
+        Round::Straight if are_queues(shape) && !is_small(shape) => Ok(None),
+        Round::Straight => decide_soon(alloc, shape, Order::Last(0), straight(shape), memo, rules),
+        Round::Soon(order, times) => {
+            let lists = lists_of(shape).saturating_mul(times);
+            decide_soon(alloc, shape, order, lists, memo, rules)
+        }
         Round::Alone(times) => Ok(decide_alone(alloc, shape, times)),
         Round::Orders => decide_by_orders(rules),
+        Round::OrdersOfQueues if are_queues(shape) => decide_by_orders(rules),
+        Round::OrdersOfQueues => Ok(None),
         Round::Broadly(breadth) => decide_broadly(alloc, shape, rules.forced(), breadth),
-        Round::Annealing(effort) => decide_by_annealing(alloc, shape, effort),
+        Round::Guessing(guess) => decide_by_guess(alloc, shape, guess),
     }
 }
 
@@ -228,26 +291,26 @@ fn decide_broadly<'a, A: Allocator + Copy>(
     }
 }
 
-/// The same, as far as annealing finds an order.
-fn decide_by_annealing<A: Allocator + Copy>(
+/// The same, as far as an order is guessed.
+fn decide_by_guess<A: Allocator + Copy>(
     alloc: A,
     shape: &Shape<A>,
-    effort: Effort,
+    guess: Guess,
 ) -> Result<Option<Decided<A>>, OutOfMemory>
     ensures { IfOk result (λ o. MatchOption o (Unit {0}) (Decides (objects_of shape.now) (history_of shape.now))) }
 {
-    match find_by_annealing(alloc, shape, effort)? {
+    match find_by_guess(alloc, shape, guess)? {
         Some(order) => Ok(Some(Decided::Opaque(order))),
         None => Ok(None),
     }
 }
 
-/// The same, as far as a search of so many times the first lists tells.
+/// The same, as far as a search of so many lists tells.
 fn decide_soon<'a, A: Allocator + Copy>(
     alloc: A,
     shape: &'a Shape<A>,
     order: Order,
-    times: u64,
+    lists: u64,
     memo: &mut Memo<'a, Unnoted, Unrecorded, A>,
     rules: &mut Rules<'a, A>,
 ) -> Result<Option<Decided<A>>, OutOfMemory>
@@ -258,7 +321,6 @@ fn decide_soon<'a, A: Allocator + Copy>(
     ensures same { rules.new ≡ rules.old }
 {
     let empty = Prefix::empty(alloc);
-    let lists = lists_of(shape).saturating_mul(times);
     memo.move_away();
     match search(
         alloc,

@@ -7,7 +7,7 @@ ghost use Rattle.aud_search.specs.Searches.{Reports};
 
 use crate::alone::{find_refuted_alone, lists_of, may_pay};
 use crate::choice::Order;
-use crate::deciding::{FAR, MIDDLE, SOON};
+use crate::deciding::{FAR, MIDDLE, QUICK};
 use crate::memo::{LARGEST_SEEN, Memo};
 use crate::outcome::Outcome;
 use crate::recorder::Unnoted;
@@ -15,10 +15,10 @@ use crate::room::BOUND;
 use crate::rules::Rules;
 use crate::search::search;
 use crate::shared::{ROWS_MAX, Scene, Shared, Sharing};
-use aud_anneal::{Effort, find_by_annealing};
 use aud_broad::{Breadth, find_broadly};
 use aud_event::OutOfMemory;
 use aud_forced::forced_of;
+use aud_guess::{Guess, find_by_guess};
 use aud_order::Shape;
 use aud_witness::{Decision, Prefix};
 use std::alloc::{Allocator, Global};
@@ -27,11 +27,8 @@ use std::marker::Model;
 /// How many times as long as the first round the second one is, and as long as at first what objects see is searched after it.
 const LONGER: u64 = 8;
 
-/// The same of the one round where what objects see may not pay.
+/// The same of the second one where what objects see may not pay.
 const LONG: u64 = 16;
-
-/// So many looks of annealing take about as long as a list of a search.
-const LOOKS_OF_A_LIST: u64 = 1024;
 
 /// Whether no list shows the history, by which transactions have to stand before others, or by what each object sees of it, with so many
 /// times its lists of each, but so many at most. Where that is none, nothing is looked for.
@@ -266,25 +263,42 @@ impl<'a, J: Scene, A: Allocator + Copy> Memory<'a, J, A> {
         }
     }
 
-    /// What annealing tells, where the prefix is empty and the budget has room for it.
-    fn explore_by_annealing(
+    /// What a guess tells, where the prefix is empty and the budget has room for it.
+    fn explore_by_guess(
         &self,
-        effort: Effort,
+        guess: Guess,
         prefix: &Prefix<A>,
         budget: u64,
     ) -> Result<Option<Outcome<A>>, OutOfMemory>
         ensures { IfOk result (λ o. MatchOption o (Unit {0}) (Reports (objects_of self.now) (history_of self.now) prefix.now (Some budget))) }
     {
-        if !prefix.decisions().is_empty() || effort.looks / LOOKS_OF_A_LIST > budget {
+        if !prefix.decisions().is_empty() || guess.lists() > budget {
             return Ok(None);
         }
-        match find_by_annealing(self.alloc, self.shape, effort)? {
+        match find_by_guess(self.alloc, self.shape, guess)? {
             Some(order) => Ok(Some(Outcome::Witness(order))),
             None => Ok(None),
         }
     }
 
-    /// What rounds tell: one by last events and, where what each object sees may pay, a longer one by first events; then broad searches.
+    /// The same of all guesses that take a short time.
+    fn explore_by_guesses(
+        &self,
+        prefix: &Prefix<A>,
+        budget: u64,
+    ) -> Result<Option<Outcome<A>>, OutOfMemory>
+        ensures { IfOk result (λ o. MatchOption o (Unit {0}) (Reports (objects_of self.now) (history_of self.now) prefix.now (Some budget))) }
+    {
+        for guess in QUICK {
+            if let Some(told) = self.explore_by_guess(guess, prefix, budget)? {
+                return Ok(Some(told));
+            }
+        }
+        Ok(None)
+    }
+
+    /// What rounds tell: one by last events, then what is guessed; a longer one, by first events where what each object sees may pay; then
+    /// broad searches.
     fn explore_by_rounds(
         &mut self,
         prefix: &Prefix<A>,
@@ -294,20 +308,21 @@ impl<'a, J: Scene, A: Allocator + Copy> Memory<'a, J, A> {
         ensures shape { self.new ≡ self.old }
     {
         let by_last = self.by_last(prefix.decisions());
-        if may_pay(self.shape) {
-            if let Some(told) = self.explore_soon(by_last, prefix, 1, budget)? {
-                return Ok(Some(told));
-            }
-            if let Some(told) = self.explore_soon(Order::First, prefix, LONGER, budget)? {
-                return Ok(Some(told));
-            }
-        } else if let Some(told) = self.explore_soon(by_last, prefix, LONG, budget)? {
+        if let Some(told) = self.explore_soon(by_last, prefix, 1, budget)? {
+            return Ok(Some(told));
+        }
+        if let Some(told) = self.explore_by_guesses(prefix, budget)? {
+            return Ok(Some(told));
+        }
+        let (order, times) = if may_pay(self.shape) {
+            (Order::First, LONGER)
+        } else {
+            (by_last, LONG)
+        };
+        if let Some(told) = self.explore_soon(order, prefix, times, budget)? {
             return Ok(Some(told));
         }
         if let Some(told) = self.explore_broadly(MIDDLE, prefix, budget)? {
-            return Ok(Some(told));
-        }
-        if let Some(told) = self.explore_by_annealing(SOON, prefix, budget)? {
             return Ok(Some(told));
         }
         self.explore_broadly(FAR, prefix, budget)
@@ -338,9 +353,9 @@ impl<'a, J: Scene, A: Allocator + Copy> Memory<'a, J, A> {
 
     /// Whether some list that begins with the prefix shows the history, as `explore` says it. What it refutes is remembered, and
     /// what was remembered costs no expansion. Where the budget has room for them, short rounds come first, as in `decide`: by last
-    /// and by first events, and below the empty prefix two broad searches. After each of the rounds, and where the budget was spent, what
-    /// each object sees of the history is searched, with as many lists of each at most, but never as long as before: where that refutes
-    /// it, so is each later prefix at once. Where a search is refused memory all is forgotten.
+    /// and by first events, and below the empty prefix guesses and two broad searches. After each of the rounds, and where the budget was
+    /// spent, what each object sees of the history is searched, with as many lists of each at most, but never as long as before: where that
+    /// refutes it, so is each later prefix at once. Where a search is refused memory all is forgotten.
     pub fn explore(&mut self, prefix: &Prefix<A>, budget: u64) -> Result<Outcome<A>, OutOfMemory>
         ensures reported { IfOk result (Reports (objects_of self.old) (history_of self.old) prefix.now (Some budget)) }
         ensures shape { self.new ≡ self.old }

@@ -1,8 +1,8 @@
-use Rattle.std.specs.Prelude.{◌≡◌, Option, Some}
+use Rattle.std.specs.Prelude.{Option, Some}
 use Rattle.std.proofs.Common.{subst}
 use Rattle.aud_order.specs.Cursors.{CursorOf, IsCursorAfter}
-use Rattle.aud_anneal.proofs.Shown.{shown}
-use Rattle.aud_anneal.proofs.find.shown_by.Goals as goal
+use Rattle.aud_trial.proofs.Shown.{shown}
+use Rattle.aud_trial.proofs.trial.tried.Goals as goal
 
 pub returns : goal.returns
 returns g c =

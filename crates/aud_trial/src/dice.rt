@@ -2,20 +2,20 @@
 
 /// What comes next (George Marsaglia, Xorshift RNGs, 2003).
 #[derive(Drop)]
-pub(crate) struct Dice {
+pub struct Dice {
     state: u64,
 }
 
 impl Dice {
     /// Other numbers for each seed.
-    pub(crate) fn new(seed: u64) -> Dice {
+    pub fn new(seed: u64) -> Dice {
         Dice {
             state: seed.wrapping_mul(11_400_714_819_323_198_485) | 1,
         }
     }
 
     /// A number of 64 bits.
-    pub(crate) fn next(&mut self) -> u64 {
+    pub fn next(&mut self) -> u64 {
         let mut word = self.state;
         word ^= word << 13;
         word ^= word >> 7;
@@ -25,13 +25,13 @@ impl Dice {
     }
 
     /// A number below the bound, or 0 where that is 0.
-    pub(crate) fn below(&mut self, bound: usize) -> usize {
+    pub fn below(&mut self, bound: usize) -> usize {
         let part = self.next() >> 33;
         (part.wrapping_mul(bound as u64) >> 31) as usize
     }
 
     /// Whether something happens that does so many times of a thousand.
-    pub(crate) fn is_less(&mut self, share: usize) -> bool {
+    pub fn is_less(&mut self, share: usize) -> bool {
         self.below(1000) < share
     }
 }
