@@ -1,7 +1,7 @@
 //! The lists of a search, level by level: each of a level goes on from one of the level before it by an item that changes something, and
 //! all that may come then and change nothing.
 
-use crate::bits::{filled, has, mark, row_of};
+use crate::bits::{filled, has, mark, row_of, take_first};
 use crate::draft::{NONE, pairs_between};
 use crate::list::{List, TAIL, lead_of, step_of};
 use crate::plan::Plan;
@@ -150,13 +150,9 @@ impl<A: Allocator + Copy> Beam<A> {
         for number in self.low..self.common.len() {
             let mut bits = at(&self.here.done, number, 0) & !at(&self.common, number, 0);
             for _ in 0..64 {
-                if bits == 0 {
+                let Some(item) = take_first(number, &mut bits) else {
                     break;
-                }
-                let item = number
-                    .saturating_mul(64)
-                    .saturating_add(bits.trailing_zeros() as usize);
-                bits &= bits.wrapping_sub(1);
+                };
                 gain = gain.wrapping_add(at(weights, item, 0));
                 self.here.look(1);
             }

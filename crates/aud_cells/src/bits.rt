@@ -35,6 +35,16 @@ pub(crate) fn mark(words: &mut [u64], item: usize) {
     }
 }
 
+/// Takes the first item out of the word of that number, if it has one.
+pub(crate) fn take_first(number: usize, word: &mut u64) -> Option<usize> {
+    if *word == 0 {
+        return None;
+    }
+    let first = word.trailing_zeros() as usize;
+    *word &= word.wrapping_sub(1);
+    Some(number.saturating_mul(WIDTH).saturating_add(first))
+}
+
 /// In the word of that number, all items below the end.
 pub(crate) fn below(number: usize, end: usize) -> u64 {
     let count = end.saturating_sub(number.saturating_mul(WIDTH));

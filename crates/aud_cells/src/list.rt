@@ -1,6 +1,6 @@
 //! A list of items in the making: which are in it, and what the cells have after it.
 
-use crate::bits::{below, filled, has, mark, mixed, row_of, words_for};
+use crate::bits::{below, filled, has, mark, mixed, row_of, take_first, words_for};
 use crate::draft::{Item, NONE, pairs_between};
 use crate::plan::Plan;
 use aud_event::OutOfMemory;
@@ -223,13 +223,9 @@ impl<A: Allocator + Copy> List<A> {
             let mut bits = all & below(number, limit) & open;
             self.look(1);
             for _ in 0..64 {
-                if bits == 0 {
+                let Some(item) = take_first(number, &mut bits) else {
                     break;
-                }
-                let item = number
-                    .saturating_mul(64)
-                    .saturating_add(bits.trailing_zeros() as usize);
-                bits &= bits.wrapping_sub(1);
+                };
                 self.look(plan.cost);
                 if self.is_legal(plan, item) {
                     self.put(plan, weights, item);
@@ -271,13 +267,9 @@ impl<A: Allocator + Copy> List<A> {
             let mut bits = all & below(number, limit);
             self.look(1);
             for _ in 0..64 {
-                if bits == 0 {
+                let Some(item) = take_first(number, &mut bits) else {
                     break;
-                }
-                let item = number
-                    .saturating_mul(64)
-                    .saturating_add(bits.trailing_zeros() as usize);
-                bits &= bits.wrapping_sub(1);
+                };
                 self.look(plan.cost);
                 if self.is_legal(plan, item) && !is_known(plan, found, item) {
                     found.push(item)?;
@@ -334,13 +326,11 @@ impl<A: Allocator + Copy> List<A> {
         let mut limit = NONE;
         for (number, (done, need)) in from(&self.done, low).iter().zip(needers.iter()).enumerate() {
             let mut bits = *need & !*done;
-            let begin = low.saturating_add(number).saturating_mul(64);
+            let number = low.saturating_add(number);
             for _ in 0..64 {
-                if bits == 0 {
+                let Some(item) = take_first(number, &mut bits) else {
                     break;
-                }
-                let item = begin.saturating_add(bits.trailing_zeros() as usize);
-                bits &= bits.wrapping_sub(1);
+                };
                 let other = at(&plan.limits, item, 0);
                 if who == NONE || other < limit {
                     who = item;

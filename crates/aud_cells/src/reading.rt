@@ -2,10 +2,11 @@
 
 use crate::draft::{Draft, Span, Touch};
 use aud_bounds::{Key, has_ended, seen_by, told_by};
-use aud_event::{Op, OutOfMemory};
+use aud_event::OutOfMemory;
 use aud_history::TxRow;
 use aud_object::{Execution, Store};
 use aud_order::{Cursor, Shape};
+use aud_trial::{number_of, opening_of};
 use aud_witness::{Fate, allows};
 use std::alloc::Allocator;
 use std::collections::BTreeMap;
@@ -20,35 +21,11 @@ const CELLS: usize = 1024;
 /// How many operations of a transaction are read at most: for each the cells of those before it are looked at.
 const LONGEST: usize = 2048;
 
-/// Nothing as a value: a number that is hardly written.
-const NOTHING: i64 = i64::MIN;
-
 /// A cell of an object.
 #[derive(Clone, Copy, PartialEq, Eq, PartialOrd, Ord)]
 struct Place {
     object: u16,
     key: Key,
-}
-
-/// What asks an object for the value of the cell.
-fn question_of(key: Key) -> Op {
-    match key {
-        Key::Own => Op::Read,
-        Key::Element(value) => Op::Contains(value),
-        Key::Entry(key) => Op::Look(key),
-    }
-}
-
-/// The value of the cell in the store.
-fn opening_of<A: Allocator + Drop>(store: &Store<A>, object: u16, key: Key) -> i64 {
-    let question = question_of(key);
-    match store.answer(object as usize, question) {
-        Some(answer) => match seen_by(question, answer) {
-            Some(cell) => cell.value.unwrap_or(NOTHING),
-            None => 0,
-        },
-        None => 0,
-    }
 }
 
 /// The number of the cell.
@@ -82,8 +59,8 @@ fn note<A: Allocator + Copy>(
         key: told.key,
     };
     let cell = cell_of(store, cells, draft, place)?;
-    let need = seen_by(x.op, x.answer).map(|seen| seen.value.unwrap_or(NOTHING));
-    let leaves = told.value.unwrap_or(NOTHING);
+    let need = seen_by(x.op, x.answer).map(|seen| number_of(seen.value));
+    let leaves = number_of(told.value);
     for known in touches.iter_mut() {
         if known.cell == cell {
             let is_so = need.is_none() || need == Some(known.leaves);
