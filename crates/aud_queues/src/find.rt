@@ -10,8 +10,7 @@ use crate::groups::{Model, model_of};
 use crate::passage::{Mover, Traffic, traffic_of};
 use crate::relation::Relation;
 use crate::rules::settle;
-use aud_event::{Op, OutOfMemory};
-use aud_object::Execution;
+use aud_event::{ObjKind, OutOfMemory};
 use aud_order::Shape;
 use aud_trial::tried;
 use aud_witness::{Decision, Fate, Prefix};
@@ -40,13 +39,6 @@ struct Turn {
     mover: usize,
 }
 
-fn is_of_queue(x: &Execution) -> bool {
-    match x.op {
-        Op::Enq(_) | Op::Deq => true,
-        _ => false,
-    }
-}
-
 /// Whether there are not too many transactions and operations, which are all of queues.
 fn is_fit<A: Allocator + Copy>(shape: &Shape<A>) -> bool {
     let rows = shape.table().rows();
@@ -57,7 +49,7 @@ fn is_fit<A: Allocator + Copy>(shape: &Shape<A>) -> bool {
     for row in rows {
         let executions = row.block().executions();
         count = count.saturating_add(executions.len());
-        if count > LONGEST || !executions.iter().all(|x| is_of_queue(x)) {
+        if count > LONGEST || !executions.iter().all(|x| x.op.name().is_of(ObjKind::Queue)) {
             return false;
         }
     }

@@ -1,7 +1,8 @@
 //! What each transaction does with each queue. None of this is proved: it only says where to look.
 
+use aud_bounds::has_ended;
 use aud_event::{Answer, Op, OutOfMemory};
-use aud_history::{Status, TxRow};
+use aud_history::TxRow;
 use aud_object::Execution;
 use aud_order::Shape;
 use aud_trial::from;
@@ -184,13 +185,6 @@ impl<A: Allocator + Copy> Reader<A> {
             self.add_row(row)?;
         }
         Ok(())
-    }
-}
-
-fn has_ended(status: Status) -> bool {
-    match status {
-        Status::Committed | Status::Aborted => true,
-        Status::CommitPending | Status::Live => false,
     }
 }
 
