@@ -3,10 +3,11 @@
 use crate::sketch::{Item, Mover, Sketch, Taker};
 use crate::touch::{Column, Effect};
 use aud_bounds::{Key, has_ended, seen_by, told_by};
-use aud_event::{Answer, Op, OutOfMemory};
+use aud_event::{Answer, ObjKind, Op, OutOfMemory};
 use aud_history::TxRow;
 use aud_object::{Execution, Store};
 use aud_order::{Cursor, Shape};
+use aud_trial::{number_of, opening_of};
 use aud_witness::{Decision, Fate, allows};
 use std::alloc::{Allocator, Global};
 use std::collections::BTreeMap;
@@ -61,35 +62,6 @@ struct Reader<A: Allocator + Copy = Global> {
     sketch: Sketch<A>,
     columns: BTreeMap<Slot, usize, A>,
     groups: BTreeMap<Held, usize, A>,
-}
-
-/// A cell's value as a number. Nothing is one that is hardly written.
-fn number_of(value: Option<i64>) -> i64 {
-    match value {
-        Some(number) => number,
-        None => i64::MIN,
-    }
-}
-
-/// What asks an object for the value of the cell.
-fn question_of(key: Key) -> Op {
-    match key {
-        Key::Own => Op::Read,
-        Key::Element(value) => Op::Contains(value),
-        Key::Entry(key) => Op::Look(key),
-    }
-}
-
-/// The value of the cell in the store.
-fn opening_of<A: Allocator + Drop>(store: &Store<A>, object: u16, key: Key) -> i64 {
-    let question = question_of(key);
-    match store.answer(object as usize, question) {
-        Some(answer) => match seen_by(question, answer) {
-            Some(cell) => number_of(cell.value),
-            None => 0,
-        },
-        None => 0,
-    }
 }
 
 /// The count of the counter in the store.
@@ -223,13 +195,6 @@ fn note_passage<A: Allocator + Copy>(
     Ok(())
 }
 
-fn is_of_queue(op: Op) -> bool {
-    match op {
-        Op::Enq(_) | Op::Deq => true,
-        _ => false,
-    }
-}
-
 /// What the block does with queues.
 fn passages_of<A: Allocator + Copy>(
     alloc: A,
@@ -237,7 +202,7 @@ fn passages_of<A: Allocator + Copy>(
 ) -> Result<Vec<Passage<A>, A>, OutOfMemory> {
     let mut passages: Vec<Passage<A>, A> = Vec::new(alloc);
     for x in executions {
-        if !is_of_queue(x.op) {
+        if !x.op.name().is_of(ObjKind::Queue) {
             continue;
         }
         if !passages.iter().any(|known| known.object == x.object) {
