@@ -1,8 +1,9 @@
 //! Which there are, and how long each takes.
 
-ghost use Rattle.std.specs.Prelude.{◌≡◌, IfOk, IfSome};
+ghost use Rattle.std.specs.Prelude.{◌≡◌, ◌/◌, IfOk, IfSome};
 ghost use Rattle.aud_witness.specs.Orders.{Shows};
 ghost use Rattle.aud_order.specs.Shapes.{objects_of, history_of};
+ghost use Rattle.aud_guess.specs.Looks.{looks_of};
 
 use aud_anneal::{Effort, find_by_annealing};
 use aud_cells::find_by_cells;
@@ -32,7 +33,9 @@ const QUEUES: u64 = 1 << 20;
 
 impl Guess {
     /// About how many lists of a search take as long.
-    pub fn lists(self) -> u64 {
+    pub fn lists(self) -> u64
+        ensures { result ≡ looks_of self / 1024 }
+    {
         let looks = match self {
             Guess::Queues => QUEUES,
             Guess::Cells { looks, .. } => looks,
