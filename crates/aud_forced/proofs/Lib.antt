@@ -1,3 +1,4 @@
+pub mod AddsFirst
 pub mod Breaking
 pub mod Forcing
 pub mod QueueSteps

@@ -15,7 +15,8 @@ use Rattle.aud_object.proofs.Ints.{eq-is, eq-itself}
 use Rattle.aud_object.proofs.Legality.{after_at-same, after_at-other}
 use Rattle.aud_bounds.specs.Ranges.{RunNowhere, StayWithin}
 use Rattle.aud_bounds.proofs.CellLemmas.{same_or, unsome, answered-by, ran-first}
-use Rattle.aud_forced.specs.Queues.{is_adding, adds, is_taking, takes, adds_first}
+use Rattle.aud_forced.specs.Queues.{is_adding, adds, is_taking, takes}
+use Rattle.aud_forced.proofs.AddsFirst.{adds_first}
 
 -- # Items
 

@@ -28,8 +28,9 @@ use Rattle.aud_bounds.specs.Ranges.{RunNowhere}
 use Rattle.aud_bounds.proofs.CellLemmas.{unsome}
 use Rattle.aud_bounds.proofs.HullLemmas.{step-ran}
 use Rattle.aud_forced.specs.Forced.{IsForced, transaction_of, is_pair, AreForced, is_the, AreOutBut, AreInOrder, IsHopeless}
-use Rattle.aud_forced.specs.Queues.{adds, takes, needs, leaves, adds_first, MarksAdders}
+use Rattle.aud_forced.specs.Queues.{adds, takes, needs, leaves, AddsFirst, MarksAdders}
 use Rattle.aud_forced.proofs.Forcing.{first-named, stands-behind, stands-in_front, stands_before-turn, reaches, stuck, stuck-before, place-row, place-in, row-place, late-out, not-out, fate-or}
+use Rattle.aud_forced.proofs.AddsFirst.{from-turn}
 use Rattle.aud_forced.proofs.QueueSteps.{Lacks, InOrder, Items, keeps-lacking, keeps-in_order, lacking-in_order, starving, begins, gone}
 
 -- # Where queues open
@@ -104,7 +105,7 @@ module _ (plan : PlanOf) (h : History) (pairs : List (List Bool)) (fine : IsWell
     abbrev of : ℕ → List Execution
     of k = (row_of h (transaction_of h k)).block.executions
 
-    module _ (first : adds_first ob a ob b (of w) ≡ true) (need_a : needs ob a (of s) ≡ true) (need_b : needs ob b (of u) ≡ true) (leave : leaves ob a (of u) ≡ true) (p : List Decision) (shown : Shows plan.objects h p) where
+    module _ (first : AddsFirst ob a ob b (of w)) (need_a : needs ob a (of s) ≡ true) (need_b : needs ob b (of u) ≡ true) (leave : leaves ob a (of u) ≡ true) (p : List Decision) (shown : Shows plan.objects h p) where
       -- what stands between the adder and the first taker adds no first value
       only-adder : (n : ℕ) → stands_before p (transaction_of h w) n ≡ true → stands_before p n (transaction_of h s) ≡ true → is_allowed h n C ≡ true →
           list_any (adds ob a) (row_of h n).block.executions ≡ false
@@ -129,7 +130,7 @@ module _ (plan : PlanOf) (h : History) (pairs : List (List Bool)) (fine : IsWell
           let leads = step-states plan h m e fine within (IsGood-from_Shows plan.objects h (m ++ e ∷ []) rest again) in
           elim (fate-or e.fate) as (λ _. Items ob (InOrder a b) (reached plan.objects h (m ++ e ∷ []))) [
             | inl commits ↦
-                begins ob a b (of w) (reached plan.objects h m) (reached plan.objects h (m ++ e ∷ [])) first none
+                begins ob a b (of w) (reached plan.objects h m) (reached plan.objects h (m ++ e ∷ [])) (from-turn ob a ob b (of w) first) none
                 (subst (λ n. replayed (reached plan.objects h m) (row_of h n).block ≡ Some (reached plan.objects h (m ++ e ∷ []))) is_w (leads.0 commits))
             | inr aborts ↦ subst (Items ob (InOrder a b)) (sym (leads.1 (inl aborts))) (lacking-in_order ob a b (reached plan.objects h m) none)
           ]
@@ -269,13 +270,13 @@ module _ (plan : PlanOf) (h : History) (pairs : List (List Bool)) (fine : IsWell
           ]
 
     -- of the rows
-    pub takes-first : (rw rs ru : RowOf) → slice_get (table_of h) w ≡ Some rw → slice_get (table_of h) s ≡ Some rs → slice_get (table_of h) u ≡ Some ru → adds_first ob a ob b rw.block.executions ≡ true →
+    pub takes-first : (rw rs ru : RowOf) → slice_get (table_of h) w ≡ Some rw → slice_get (table_of h) s ≡ Some rs → slice_get (table_of h) u ≡ Some ru → AddsFirst ob a ob b rw.block.executions →
         needs ob a rs.block.executions ≡ true → needs ob b ru.block.executions ≡ true → leaves ob a ru.block.executions ≡ true → IsForced plan.objects h (transaction_of h s) (transaction_of h u)
     takes-first rw rs ru at_w at_s at_u first need_a need_b leave p shown =
         let own_w = (place-row h w rw at_w).1 in
         let own_s = (place-row h s rs at_s).1 in
         let own_u = (place-row h u ru at_u).1 in
-        stands (subst (λ (r : RowOf). adds_first ob a ob b r.block.executions ≡ true) own_w first) (subst (λ (r : RowOf). needs ob a r.block.executions ≡ true) own_s need_a)
+        stands (subst (λ (r : RowOf). AddsFirst ob a ob b r.block.executions) own_w first) (subst (λ (r : RowOf). needs ob a r.block.executions ≡ true) own_s need_a)
         (subst (λ (r : RowOf). needs ob b r.block.executions ≡ true) own_u need_b) (subst (λ (r : RowOf). leaves ob a r.block.executions ≡ true) own_u leave) p shown (place-in h s rs at_s) (place-in h u ru at_u)
 
 -- # Of a shape

@@ -1,6 +1,6 @@
 -- Which executions add a value to a queue and which take it, and the rows that add it.
-use Rattle.std.specs.Prelude.{◌≡◌, ℕ, ℤ, Bool, true, false, not, ◌&&◌, if◌then◌else◌, nat_eq, List, [], ◌∷◌, Some, slice_get, slice_index_or}
-use Rattle.std.specs.List.{list_any}
+use Rattle.std.specs.Prelude.{◌≡◌, ℕ, ℤ, Bool, true, false, not, ◌&&◌, nat_eq, List, Some, slice_get, slice_index_or}
+use Rattle.std.specs.List.{AllPairs, list_any}
 use Rattle.std.specs.Ordering.{int_eq}
 use Rattle.aud_event.specs.declared.object.Op.{Op}
 use Rattle.aud_event.specs.declared.object.Op.TheVariants.{Enq, Deq}
@@ -33,10 +33,9 @@ needs ob v xs = list_any (takes ob v) xs && not (list_any (adds ob v) xs)
 abbrev pub leaves : ℕ → ℤ → List Execution → Bool
 leaves ob v xs = not (list_any (takes ob v) xs) && not (list_any (adds ob v) xs)
 
--- the executions do not add the value to the queue after the other value, to a queue too
-abbrev pub adds_first : ℕ → ℤ → ℕ → ℤ → List Execution → Bool
-adds_first ob a other b [] = true
-adds_first ob a other b (x ∷ xs) = if adds other b x then not (list_any (adds ob a) xs) else adds_first ob a other b xs
+-- no execution that adds the value to the queue stands behind one that adds the other value, to a queue too
+abbrev pub AddsFirst : ℕ → ℤ → ℕ → ℤ → List Execution → Type 0
+AddsFirst ob a other b = AllPairs (λ x y. adds other b x ≡ true → adds ob a y ≡ false)
 
 -- of the rows, each that is not marked adds no such value to the queue
 abbrev pub MarksAdders : List RowOf → ℕ → ℤ → List Bool → Type 0

@@ -1,10 +1,10 @@
 //! The rows that add a value to a queue.
 
-ghost use Rattle.std.specs.Prelude.{◌≡◌, IfOk, MatchOption};
+ghost use Rattle.std.specs.Prelude.{◌≡◌, ◌↔◌, IsTrue, IfOk, MatchOption};
 ghost use Rattle.std.specs.List.{list_any};
 ghost use Rattle.aud_history.specs.Table.{table_of};
 ghost use Rattle.aud_order.specs.Shapes.{history_of};
-ghost use Rattle.aud_forced.specs.Queues.{is_adding, adds, is_taking, takes, needs, leaves, adds_first, MarksAdders};
+ghost use Rattle.aud_forced.specs.Queues.{is_adding, adds, is_taking, takes, needs, leaves, AddsFirst, MarksAdders};
 
 use aud_event::{Answer, Op, OutOfMemory};
 use aud_history::TxRow;
@@ -81,7 +81,7 @@ pub(crate) fn leaves(executions: &[Execution], item: Item) -> bool
 
 /// Whether the executions do not add the first value after the second one.
 pub(crate) fn adds_first(executions: &[Execution], first: Item, second: Item) -> bool
-    ensures { result ≡ adds_first first.object first.value second.object second.value executions.now }
+    ensures { IsTrue result ↔ AddsFirst first.object first.value second.object second.value executions.now }
 {
     let mut rest = executions;
     while let Some((x, tail)) = rest.split_first() {

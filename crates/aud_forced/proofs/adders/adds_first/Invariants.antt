@@ -1,5 +1,5 @@
 use Rattle.std.specs.Prelude.{◌≡◌, length}
-use Rattle.aud_forced.specs.Queues.{adds_first}
+use Rattle.aud_forced.proofs.AddsFirst.{adds_first}
 use Rattle.aud_forced.proofs.adders.adds_first.Given as goal
 
 abbrev pub invariant-loop-x : goal.invariant-loop-x

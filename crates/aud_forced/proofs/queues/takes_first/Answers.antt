@@ -4,7 +4,7 @@ use Rattle.std.proofs.lemmas.Option.{slice_get_read}
 use Rattle.aud_object.specs.declared.execution.Execution.{Execution}
 use Rattle.aud_history.specs.Table.{RowOf, table_of}
 use Rattle.aud_order.specs.Shapes.{ShapeOf, plan_of, history_of}
-use Rattle.aud_forced.specs.Queues.{needs, leaves, adds_first, MarksAdders}
+use Rattle.aud_forced.specs.Queues.{needs, leaves, AddsFirst, MarksAdders}
 use Rattle.aud_forced.proofs.Queueing.{takes-first}
 use Rattle.aud_forced.proofs.queues.takes_first.Goals as goal
 
@@ -26,10 +26,10 @@ returns-then-is_last g c = λ yes.
     let at_u : slice_get (table_of h) c.args.later ≡ Some later =
     subst (λ l. slice_get l c.args.later ≡ Some later) table (slice_get_read rows (length rows) c.args.later later refl c.if-later-rows.false c.index-rows-later.is) in
     let same : two.item.object ≡ one.item.object = c.if-other-item.false in
-    let first : adds_first one.item.object one.item.value one.item.object two.item.value adder.block.executions ≡ true =
-    subst (λ (ob : ℕ). adds_first one.item.object one.item.value ob two.item.value adder.block.executions ≡ true) same
-    (subst (λ (xs : List Execution). adds_first one.item.object one.item.value two.item.object two.item.value xs ≡ true) (c.executions-2.ensures ∙ ap (λ b. b.executions) c.block-3.ensures)
-    (sym c.adds_first.ensures ∙ c.if-not-adds_first.false)) in
+    let first : AddsFirst one.item.object one.item.value one.item.object two.item.value adder.block.executions =
+    subst (λ (ob : ℕ). AddsFirst one.item.object one.item.value ob two.item.value adder.block.executions) same
+    (subst (λ (xs : List Execution). AddsFirst one.item.object one.item.value two.item.object two.item.value xs) (c.executions-2.ensures ∙ ap (λ b. b.executions) c.block-3.ensures)
+    (c.adds_first.ensures.0 c.if-not-adds_first.false)) in
     let need_a : needs one.item.object one.item.value taker.block.executions ≡ true =
     subst (λ (xs : List Execution). needs one.item.object one.item.value xs ≡ true) (c.executions.ensures ∙ ap (λ b. b.executions) c.block.ensures) (sym c.needs.ensures ∙ c.if-not-needs.false) in
     let others = c.executions-executions.ensures ∙ ap (λ b. b.executions) c.block-2.ensures in
