@@ -30,7 +30,7 @@ stays-within x (pos a) n room = within-is (x +ℤ pos a) (omega (arith, ints, ro
 stays-within x (negsuc a) n room = within-is (x +ℤ negsuc a) (omega (arith, ints, room.0, room.1)) (omega (arith, ints, room.0, room.1))
 
 -- where one operation leads
-moves-by : (op : Op) (x : ℤ) (n : ℕ) → HasRoom x (reach_by op + n) → after_op (counter x) op ≡ counter (x +ℤ move_of op)
+pub moves-by : (op : Op) (x : ℤ) (n : ℕ) → HasRoom x (reach_by op + n) → after_op (counter x) op ≡ counter (x +ℤ move_of op)
 moves-by Inc x n room = ap (λ b. counter (cond b x (x +ℤ pos 1))) (below-greatest x n room)
 moves-by Dec x n room = ap (λ b. counter (cond b x (x -ℤ pos 1))) (above-least x n room) ∙ ap counter (omega (arith, ints))
 moves-by (Plus k) x n room = ap (λ b. counter (cond b (x +ℤ k) x)) (stays-within x k n room)
@@ -40,7 +40,7 @@ room-plus : (x k : ℤ) (n : ℕ) → HasRoom x (unsigned_abs k + n) → HasRoom
 room-plus x (pos a) n room = (omega (arith, ints, room.0), omega (arith, ints, room.1))
 room-plus x (negsuc a) n room = (omega (arith, ints, room.0), omega (arith, ints, room.1))
 
-room-then : (op : Op) (x : ℤ) (n : ℕ) → HasRoom x (reach_by op + n) → HasRoom (x +ℤ move_of op) n
+pub room-then : (op : Op) (x : ℤ) (n : ℕ) → HasRoom x (reach_by op + n) → HasRoom (x +ℤ move_of op) n
 room-then Inc x n room = (omega (arith, ints, room.0), omega (arith, ints, room.1))
 room-then Dec x n room = (omega (arith, ints, room.0), omega (arith, ints, room.1))
 room-then (Plus k) x n room = room-plus x k n room

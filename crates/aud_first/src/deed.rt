@@ -182,7 +182,7 @@ impl Deed {
 }
 
 /// By how much the operation moves a counter.
-fn move_of(op: Op) -> i64
+pub fn move_of(op: Op) -> i64
     ensures { result ≡ move_of op }
 {
     match op {
@@ -194,7 +194,7 @@ fn move_of(op: Op) -> i64
 }
 
 /// By how much the executions on the object move a counter, if that is a number.
-pub(crate) fn net_of(executions: &[Execution], object: u16) -> Option<i64>
+pub fn net_of(executions: &[Execution], object: u16) -> Option<i64>
     ensures { IfSome result (λ by. by ≡ net (on_one object executions.now)) }
 {
     let mut by: i64 = 0;

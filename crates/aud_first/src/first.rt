@@ -253,7 +253,7 @@ fn is_harmless<A: Allocator + Copy>(
 }
 
 /// How far the rows can move counters, if that is a number.
-fn reach_in<A: Allocator>(rows: &[TxRow<A>]) -> Option<u64>
+pub fn reach_in<A: Allocator>(rows: &[TxRow<A>]) -> Option<u64>
     ensures { IfSome result (λ far. far ≡ reach_in rows.now) }
 {
     let mut far: u64 = 0;

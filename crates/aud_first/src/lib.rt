@@ -10,4 +10,5 @@ pub mod laws;
 mod uses;
 mod way;
 
-pub use first::First;
+pub use deed::{move_of, net_of};
+pub use first::{First, reach_in};

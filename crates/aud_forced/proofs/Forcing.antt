@@ -174,7 +174,7 @@ module _ (plan : PlanOf) (h : History) (may_be : List ObjState → Type 0) (fine
 
 -- # Places of the table
 
-not-at : (ts : List ℕ) (t k : ℕ) → list_any (nat_eq t) ts ≡ false → k < length ts → nat_eq t (get_or ts k 0) ≡ false
+pub not-at : (ts : List ℕ) (t k : ℕ) → list_any (nat_eq t) ts ≡ false → k < length ts → nat_eq t (get_or ts k 0) ≡ false
 not-at [] t k none inside = absurd (omega arith)
 not-at (u ∷ ts) t zero none inside = (or_false (nat_eq t u) (list_any (nat_eq t) ts) none).0
 not-at (u ∷ ts) t (suc k) none inside = not-at ts t k (or_false (nat_eq t u) (list_any (nat_eq t) ts) none).1 (omega arith)

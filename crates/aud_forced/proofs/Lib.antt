@@ -1,5 +1,6 @@
 pub mod AddsFirst
 pub mod Breaking
+pub mod CountLemmas
 pub mod Forcing
 pub mod QueueSteps
 pub mod Queueing

@@ -87,6 +87,25 @@ fn may_open<A: Allocator + Copy>(pairs: &Pairs<A>, rivals: &[usize], want: Want)
     }
 }
 
+/// Whether more take what is wanted away, and stand before its end, than there may be to take, and one more.
+fn is_scarce<A: Allocator + Copy>(
+    pairs: &Pairs<A>,
+    notes: &Notes<A>,
+    want: Want,
+    rivals: &[usize],
+) -> bool {
+    let Some(takers) = notes.takers.get(want.content) else {
+        return false;
+    };
+    let mut taken: usize = 0;
+    for place in takers {
+        if pairs.has(*place, want.end) {
+            taken = taken.saturating_add(1);
+        }
+    }
+    taken > 0 && rivals.len() <= taken
+}
+
 /// Learns what follows from each start for one need.
 fn learn_starts<'a, A: Allocator + Copy>(
     forced: &mut Forced<'a, A>,
@@ -131,6 +150,11 @@ fn learn_from<'a, A: Allocator + Copy>(
         return Ok(false);
     };
     let rivals = rivals_of(alloc, &forced.pairs, notes, want)?;
+    if is_scarce(&forced.pairs, notes, want, &rivals)
+        && forced.is_short(alloc, root, bringers, want.end)?
+    {
+        return Ok(true);
+    }
     learn_starts(forced, root, bringers, &rivals, want, starts)?;
     if may_open(&forced.pairs, &rivals, want) {
         return forced.learn_before(root, bringers, want.end);
@@ -204,12 +228,36 @@ fn learn_all<'a, A: Allocator + Copy>(
     Ok(false)
 }
 
+/// The same, and asks then of each counter whether it can be what transactions saw.
+fn tell_all<'a, A: Allocator + Copy>(
+    alloc: A,
+    forced: &mut Forced<'a, A>,
+    supply: &mut Supply<'a, A>,
+    sources: &Sources<'a, A>,
+    root: &Cursor<A>,
+    notes: &Notes<A>,
+    takes: &[Take],
+) -> Result<bool, OutOfMemory>
+    requires supply { supply.old ≡ forced.old }
+    requires sources { sources.now ≡ forced.old }
+    requires shape { root.now.shape ≡ forced.old }
+    requires empty { root.now.path ≡ [] }
+    ensures hopeless { IfOk result (λ yes. IsTrue yes → IsHopeless forced.old) }
+    ensures forced { OnOk result (forced.new ≡ forced.old) }
+{
+    if learn_all(alloc, forced, supply, sources, root, notes, takes)? {
+        return Ok(true);
+    }
+    forced.is_any_off(alloc, root)
+}
+
 /// The pairs that are found of the shape's history, and whether they show that no list shows it.
 ///
 /// It starts from the pairs of which the first transaction ended before the second one began. A transaction that needs a value of a cell
 /// stands behind one that brings it; where that can be one only, that is a pair. So it is behind each start, which leaves another value
 /// and has to commit; where none can bring the value between the two, the start stands behind. A
 /// transaction that takes a value from a queue stands behind one that adds it, and before one that takes another value which is added later.
+/// Last it asks of each counter whether it can be what each transaction saw.
 pub fn forced_of<'a, A: Allocator + Copy>(
     alloc: A,
     shape: &'a Shape<A>,
@@ -224,7 +272,7 @@ pub fn forced_of<'a, A: Allocator + Copy>(
     let takers = Takers::of(alloc, shape)?;
     let mut sources = Sources::of(alloc, shape);
     ask_for(&mut sources, &takers.items, shape.table().rows().len())?;
-    let is_hopeless = learn_all(
+    let is_hopeless = tell_all(
         alloc,
         &mut forced,
         &mut supply,

@@ -3,6 +3,7 @@
 //! shows the history.
 
 mod adders;
+mod counts;
 mod finding;
 mod forced;
 mod learning;
@@ -12,6 +13,7 @@ mod queues;
 mod rivals;
 mod takers;
 mod turns;
+mod values;
 
 pub use finding::forced_of;
 pub use forced::Forced;

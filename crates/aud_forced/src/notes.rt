@@ -49,7 +49,7 @@ pub(crate) struct Told {
 }
 
 /// What is noted of all rows: what they need, for each cell what it has after rows that have to commit, and for each value of a cell the
-/// rows that may bring it.
+/// rows that may bring it, and those that have to commit and take it away.
 #[derive(Drop)]
 pub(crate) struct Notes<A: Allocator + Copy = Global> {
     alloc: A,
@@ -59,6 +59,7 @@ pub(crate) struct Notes<A: Allocator + Copy = Global> {
     pub wants: Vec<Want, A>,
     pub told: Vec<Vec<Told, A>, A>,
     pub bringers: Vec<Vec<usize, A>, A>,
+    pub takers: Vec<Vec<usize, A>, A>,
 }
 
 /// Adds what an execution needs and leaves to what those before it do.
@@ -100,6 +101,7 @@ impl<A: Allocator + Copy> Notes<A> {
         }
         let place = self.bringers.len();
         self.bringers.push(Vec::new(self.alloc))?;
+        self.takers.push(Vec::new(self.alloc))?;
         let _ = self.contents.insert(content, place)?;
         Ok(place)
     }
@@ -128,6 +130,11 @@ impl<A: Allocator + Copy> Notes<A> {
                 value,
                 content,
             })?;
+            if touch.leaves != value && !allows(row.status(), Fate::A) {
+                if let Some(takers) = self.takers.get_mut(content) {
+                    takers.push(place)?;
+                }
+            }
         }
         let value = touch.leaves;
         if allows(row.status(), Fate::C) && touch.needs != Some(value) {
@@ -154,6 +161,7 @@ impl<A: Allocator + Copy> Notes<A> {
             wants: Vec::new(alloc),
             told: Vec::new(alloc),
             bringers: Vec::new(alloc),
+            takers: Vec::new(alloc),
         };
         for (place, row) in shape.table().rows().iter().enumerate() {
             let touches = notes.touches(row.block().executions())?;

@@ -10,7 +10,7 @@ use aud_witness::{Fate, allows};
 use std::alloc::Allocator;
 
 /// Whether the row at the place does not stand between the start and the other place, or not before that, where there is no start.
-fn is_out<A: Allocator + Copy>(
+pub(crate) fn is_out<A: Allocator + Copy>(
     pairs: &Pairs<A>,
     start: Option<usize>,
     end: usize,

@@ -12,3 +12,7 @@ pub learn_before-requires-clause-bringers : goal.learn_before-requires-clause-br
 learn_before-requires-clause-bringers g c =
     subst (λ (s : ShapeOf). MarksBringers (table_of (history_of s)) c.in-Some.bringers.now.lack c.in-Some.bringers.now.marks) (c.ask.ensures ∙ c.requires.supply ∙ sym c.learn_starts.ensures)
     c.in-Some.ensures
+
+pub is_short-requires-clause-bringers : goal.is_short-requires-clause-bringers
+is_short-requires-clause-bringers g c =
+    subst (λ (s : ShapeOf). MarksBringers (table_of (history_of s)) c.in-Some.bringers.now.lack c.in-Some.bringers.now.marks) (c.ask.ensures ∙ c.requires.supply) c.in-Some.ensures
