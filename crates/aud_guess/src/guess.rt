@@ -7,6 +7,7 @@ ghost use Rattle.aud_guess.specs.Looks.{looks_of};
 
 use aud_anneal::{Effort, find_by_annealing};
 use aud_cells::find_by_cells;
+use aud_counters::find_by_counters;
 use aud_event::OutOfMemory;
 use aud_order::Shape;
 use aud_queues::find_by_queues;
@@ -21,6 +22,9 @@ pub enum Guess {
     /// Of a run of registers, sets and maps: a broad search that asks who is left to bring what is needed, with so many looks at most; other
     /// seeds find other orders.
     Cells { seed: u64, looks: u64 },
+    /// Of a run of counters: a broad search that asks how far the counters are from what is needed, with so many looks at most; other seeds
+    /// find other orders.
+    Counters { seed: u64, looks: u64 },
     /// Of any run: annealing.
     Annealing(Effort),
 }
@@ -39,6 +43,7 @@ impl Guess {
         let looks = match self {
             Guess::Queues => QUEUES,
             Guess::Cells { looks, .. } => looks,
+            Guess::Counters { looks, .. } => looks,
             Guess::Annealing(effort) => effort.looks,
         };
         looks / LOOKS_OF_A_LIST
@@ -56,6 +61,7 @@ pub fn find_by_guess<A: Allocator + Copy>(
     match guess {
         Guess::Queues => find_by_queues(alloc, shape),
         Guess::Cells { seed, looks } => find_by_cells(alloc, shape, seed, looks),
+        Guess::Counters { seed, looks } => find_by_counters(alloc, shape, seed, looks),
         Guess::Annealing(effort) => find_by_annealing(alloc, shape, effort),
     }
 }

@@ -53,6 +53,12 @@ const WIDE: Breadth = Breadth {
 /// What is guessed of runs of queues alone.
 const QUEUES: Guess = Guess::Queues;
 
+/// Of runs of one counter.
+pub(crate) const COUNTERS: Guess = Guess::Counters {
+    seed: 1,
+    looks: 60_000_000,
+};
+
 /// Of runs of registers, sets and maps.
 const CELLS: Guess = Guess::Cells {
     seed: 3,
@@ -120,27 +126,28 @@ const ROUNDS: [Round; 18] = [
     Round::Alone(8),
     Round::Broadly(FAR),
     Round::Broadly(NEAR),
-    Round::Guessing(LONGER),
     Round::Soon(Order::Last(0), 64),
     Round::Broadly(WIDE),
+    Round::Guessing(LONGER),
     Round::Soon(Order::First, 512),
 ];
 
 /// Those of a history of one object, or of which what each object sees would be too much.
-const FEW_ROUNDS: [Round; 13] = [
+const FEW_ROUNDS: [Round; 14] = [
     Round::Straight,
     Round::Guessing(QUEUES),
     Round::OrdersOfQueues,
     Round::Soon(Order::Last(0), 1),
     Round::Orders,
+    Round::Guessing(COUNTERS),
     Round::Guessing(CELLS),
     Round::Soon(Order::Last(0), 16),
     Round::Guessing(MORE_CELLS),
     Round::Broadly(MIDDLE),
     Round::Broadly(FAR),
     Round::Broadly(NEAR),
-    Round::Guessing(LONGER),
     Round::Broadly(WIDE),
+    Round::Guessing(LONGER),
 ];
 
 /// How many lists are expanded, beside one for each transaction, before anything else is tried.

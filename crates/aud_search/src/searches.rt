@@ -7,7 +7,7 @@ ghost use Rattle.aud_search.specs.Searches.{Reports};
 
 use crate::alone::{find_refuted_alone, lists_of, may_pay};
 use crate::choice::Order;
-use crate::deciding::{FAR, MIDDLE, QUICK};
+use crate::deciding::{COUNTERS, FAR, MIDDLE, QUICK};
 use crate::memo::{LARGEST_SEEN, Memo};
 use crate::outcome::Outcome;
 use crate::recorder::Unnoted;
@@ -281,7 +281,7 @@ impl<'a, J: Scene, A: Allocator + Copy> Memory<'a, J, A> {
         }
     }
 
-    /// The same of all guesses that take a short time.
+    /// The same of all guesses that take a short time, and of one of counters, where what each object sees may not pay.
     fn explore_by_guesses(
         &self,
         prefix: &Prefix<A>,
@@ -294,7 +294,10 @@ impl<'a, J: Scene, A: Allocator + Copy> Memory<'a, J, A> {
                 return Ok(Some(told));
             }
         }
-        Ok(None)
+        if may_pay(self.shape) {
+            return Ok(None);
+        }
+        self.explore_by_guess(COUNTERS, prefix, budget)
     }
 
     /// What rounds tell: one by last events, then what is guessed; a longer one, by first events where what each object sees may pay; then

@@ -204,7 +204,7 @@ pub const BAD_COUNT: &str = r#"{"format":1,"logs":1,"objects":1}
 {"end":12,"log":0}
 "#;
 
-/// Transactions 1 to 4 count one each while 5 gets 5, which is never reached.
+/// Transactions 1 to 4 count two each while 5 gets 5, which is odd and never reached.
 pub const FIVE_COUNTERS: &str = r#"{"format":1,"logs":1,"objects":1}
 {"kind":"counter","name":"c","open":0}
 {"at":0,"ev":"inv","log":0,"ob":"c","op":"inc","stamp":0,"tx":1}
@@ -217,20 +217,28 @@ pub const FIVE_COUNTERS: &str = r#"{"format":1,"logs":1,"objects":1}
 {"ans":"done","at":7,"ev":"ret","log":0,"ob":"c","op":"inc","stamp":7,"tx":3}
 {"ans":"done","at":8,"ev":"ret","log":0,"ob":"c","op":"inc","stamp":8,"tx":4}
 {"ans":5,"at":9,"ev":"ret","log":0,"ob":"c","op":"get","stamp":9,"tx":5}
-{"at":10,"ev":"tryc","log":0,"stamp":10,"tx":1}
-{"at":11,"ev":"commit","log":0,"stamp":11,"tx":1}
-{"at":12,"ev":"tryc","log":0,"stamp":12,"tx":2}
-{"at":13,"ev":"commit","log":0,"stamp":13,"tx":2}
-{"at":14,"ev":"tryc","log":0,"stamp":14,"tx":3}
-{"at":15,"ev":"commit","log":0,"stamp":15,"tx":3}
-{"at":16,"ev":"tryc","log":0,"stamp":16,"tx":4}
-{"at":17,"ev":"commit","log":0,"stamp":17,"tx":4}
-{"at":18,"ev":"tryc","log":0,"stamp":18,"tx":5}
-{"at":19,"ev":"commit","log":0,"stamp":19,"tx":5}
-{"end":20,"log":0}
+{"at":10,"ev":"inv","log":0,"ob":"c","op":"inc","stamp":10,"tx":1}
+{"at":11,"ev":"inv","log":0,"ob":"c","op":"inc","stamp":11,"tx":2}
+{"at":12,"ev":"inv","log":0,"ob":"c","op":"inc","stamp":12,"tx":3}
+{"at":13,"ev":"inv","log":0,"ob":"c","op":"inc","stamp":13,"tx":4}
+{"ans":"done","at":14,"ev":"ret","log":0,"ob":"c","op":"inc","stamp":14,"tx":1}
+{"ans":"done","at":15,"ev":"ret","log":0,"ob":"c","op":"inc","stamp":15,"tx":2}
+{"ans":"done","at":16,"ev":"ret","log":0,"ob":"c","op":"inc","stamp":16,"tx":3}
+{"ans":"done","at":17,"ev":"ret","log":0,"ob":"c","op":"inc","stamp":17,"tx":4}
+{"at":18,"ev":"tryc","log":0,"stamp":18,"tx":1}
+{"at":19,"ev":"commit","log":0,"stamp":19,"tx":1}
+{"at":20,"ev":"tryc","log":0,"stamp":20,"tx":2}
+{"at":21,"ev":"commit","log":0,"stamp":21,"tx":2}
+{"at":22,"ev":"tryc","log":0,"stamp":22,"tx":3}
+{"at":23,"ev":"commit","log":0,"stamp":23,"tx":3}
+{"at":24,"ev":"tryc","log":0,"stamp":24,"tx":4}
+{"at":25,"ev":"commit","log":0,"stamp":25,"tx":4}
+{"at":26,"ev":"tryc","log":0,"stamp":26,"tx":5}
+{"at":27,"ev":"commit","log":0,"stamp":27,"tx":5}
+{"end":28,"log":0}
 "#;
 
-/// Transactions 1 to 8 count one each while 9 gets 9, which is never reached.
+/// Transactions 1 to 8 count two each while 9 gets 9, which is odd and never reached.
 pub const NINE_COUNTERS: &str = r#"{"format":1,"logs":1,"objects":1}
 {"kind":"counter","name":"c","open":0}
 {"at":0,"ev":"inv","log":0,"ob":"c","op":"inc","stamp":0,"tx":1}
@@ -251,25 +259,41 @@ pub const NINE_COUNTERS: &str = r#"{"format":1,"logs":1,"objects":1}
 {"ans":"done","at":15,"ev":"ret","log":0,"ob":"c","op":"inc","stamp":15,"tx":7}
 {"ans":"done","at":16,"ev":"ret","log":0,"ob":"c","op":"inc","stamp":16,"tx":8}
 {"ans":9,"at":17,"ev":"ret","log":0,"ob":"c","op":"get","stamp":17,"tx":9}
-{"at":18,"ev":"tryc","log":0,"stamp":18,"tx":1}
-{"at":19,"ev":"commit","log":0,"stamp":19,"tx":1}
-{"at":20,"ev":"tryc","log":0,"stamp":20,"tx":2}
-{"at":21,"ev":"commit","log":0,"stamp":21,"tx":2}
-{"at":22,"ev":"tryc","log":0,"stamp":22,"tx":3}
-{"at":23,"ev":"commit","log":0,"stamp":23,"tx":3}
-{"at":24,"ev":"tryc","log":0,"stamp":24,"tx":4}
-{"at":25,"ev":"commit","log":0,"stamp":25,"tx":4}
-{"at":26,"ev":"tryc","log":0,"stamp":26,"tx":5}
-{"at":27,"ev":"commit","log":0,"stamp":27,"tx":5}
-{"at":28,"ev":"tryc","log":0,"stamp":28,"tx":6}
-{"at":29,"ev":"commit","log":0,"stamp":29,"tx":6}
-{"at":30,"ev":"tryc","log":0,"stamp":30,"tx":7}
-{"at":31,"ev":"commit","log":0,"stamp":31,"tx":7}
-{"at":32,"ev":"tryc","log":0,"stamp":32,"tx":8}
-{"at":33,"ev":"commit","log":0,"stamp":33,"tx":8}
-{"at":34,"ev":"tryc","log":0,"stamp":34,"tx":9}
-{"at":35,"ev":"commit","log":0,"stamp":35,"tx":9}
-{"end":36,"log":0}
+{"at":18,"ev":"inv","log":0,"ob":"c","op":"inc","stamp":18,"tx":1}
+{"at":19,"ev":"inv","log":0,"ob":"c","op":"inc","stamp":19,"tx":2}
+{"at":20,"ev":"inv","log":0,"ob":"c","op":"inc","stamp":20,"tx":3}
+{"at":21,"ev":"inv","log":0,"ob":"c","op":"inc","stamp":21,"tx":4}
+{"at":22,"ev":"inv","log":0,"ob":"c","op":"inc","stamp":22,"tx":5}
+{"at":23,"ev":"inv","log":0,"ob":"c","op":"inc","stamp":23,"tx":6}
+{"at":24,"ev":"inv","log":0,"ob":"c","op":"inc","stamp":24,"tx":7}
+{"at":25,"ev":"inv","log":0,"ob":"c","op":"inc","stamp":25,"tx":8}
+{"ans":"done","at":26,"ev":"ret","log":0,"ob":"c","op":"inc","stamp":26,"tx":1}
+{"ans":"done","at":27,"ev":"ret","log":0,"ob":"c","op":"inc","stamp":27,"tx":2}
+{"ans":"done","at":28,"ev":"ret","log":0,"ob":"c","op":"inc","stamp":28,"tx":3}
+{"ans":"done","at":29,"ev":"ret","log":0,"ob":"c","op":"inc","stamp":29,"tx":4}
+{"ans":"done","at":30,"ev":"ret","log":0,"ob":"c","op":"inc","stamp":30,"tx":5}
+{"ans":"done","at":31,"ev":"ret","log":0,"ob":"c","op":"inc","stamp":31,"tx":6}
+{"ans":"done","at":32,"ev":"ret","log":0,"ob":"c","op":"inc","stamp":32,"tx":7}
+{"ans":"done","at":33,"ev":"ret","log":0,"ob":"c","op":"inc","stamp":33,"tx":8}
+{"at":34,"ev":"tryc","log":0,"stamp":34,"tx":1}
+{"at":35,"ev":"commit","log":0,"stamp":35,"tx":1}
+{"at":36,"ev":"tryc","log":0,"stamp":36,"tx":2}
+{"at":37,"ev":"commit","log":0,"stamp":37,"tx":2}
+{"at":38,"ev":"tryc","log":0,"stamp":38,"tx":3}
+{"at":39,"ev":"commit","log":0,"stamp":39,"tx":3}
+{"at":40,"ev":"tryc","log":0,"stamp":40,"tx":4}
+{"at":41,"ev":"commit","log":0,"stamp":41,"tx":4}
+{"at":42,"ev":"tryc","log":0,"stamp":42,"tx":5}
+{"at":43,"ev":"commit","log":0,"stamp":43,"tx":5}
+{"at":44,"ev":"tryc","log":0,"stamp":44,"tx":6}
+{"at":45,"ev":"commit","log":0,"stamp":45,"tx":6}
+{"at":46,"ev":"tryc","log":0,"stamp":46,"tx":7}
+{"at":47,"ev":"commit","log":0,"stamp":47,"tx":7}
+{"at":48,"ev":"tryc","log":0,"stamp":48,"tx":8}
+{"at":49,"ev":"commit","log":0,"stamp":49,"tx":8}
+{"at":50,"ev":"tryc","log":0,"stamp":50,"tx":9}
+{"at":51,"ev":"commit","log":0,"stamp":51,"tx":9}
+{"end":52,"log":0}
 "#;
 
 /// An answer that nobody asked for: this history is not well-formed.
