@@ -204,7 +204,7 @@ pub const BAD_COUNT: &str = r#"{"format":1,"logs":1,"objects":1}
 {"end":12,"log":0}
 "#;
 
-/// Transactions 1 to 4 count two each while 5 gets 5, which is odd and never reached.
+/// Transactions 1 to 4 count one each while 5 gets 5, which is never reached.
 pub const FIVE_COUNTERS: &str = r#"{"format":1,"logs":1,"objects":1}
 {"kind":"counter","name":"c","open":0}
 {"at":0,"ev":"inv","log":0,"ob":"c","op":"inc","stamp":0,"tx":1}
@@ -217,25 +217,17 @@ pub const FIVE_COUNTERS: &str = r#"{"format":1,"logs":1,"objects":1}
 {"ans":"done","at":7,"ev":"ret","log":0,"ob":"c","op":"inc","stamp":7,"tx":3}
 {"ans":"done","at":8,"ev":"ret","log":0,"ob":"c","op":"inc","stamp":8,"tx":4}
 {"ans":5,"at":9,"ev":"ret","log":0,"ob":"c","op":"get","stamp":9,"tx":5}
-{"at":10,"ev":"inv","log":0,"ob":"c","op":"inc","stamp":10,"tx":1}
-{"at":11,"ev":"inv","log":0,"ob":"c","op":"inc","stamp":11,"tx":2}
-{"at":12,"ev":"inv","log":0,"ob":"c","op":"inc","stamp":12,"tx":3}
-{"at":13,"ev":"inv","log":0,"ob":"c","op":"inc","stamp":13,"tx":4}
-{"ans":"done","at":14,"ev":"ret","log":0,"ob":"c","op":"inc","stamp":14,"tx":1}
-{"ans":"done","at":15,"ev":"ret","log":0,"ob":"c","op":"inc","stamp":15,"tx":2}
-{"ans":"done","at":16,"ev":"ret","log":0,"ob":"c","op":"inc","stamp":16,"tx":3}
-{"ans":"done","at":17,"ev":"ret","log":0,"ob":"c","op":"inc","stamp":17,"tx":4}
-{"at":18,"ev":"tryc","log":0,"stamp":18,"tx":1}
-{"at":19,"ev":"commit","log":0,"stamp":19,"tx":1}
-{"at":20,"ev":"tryc","log":0,"stamp":20,"tx":2}
-{"at":21,"ev":"commit","log":0,"stamp":21,"tx":2}
-{"at":22,"ev":"tryc","log":0,"stamp":22,"tx":3}
-{"at":23,"ev":"commit","log":0,"stamp":23,"tx":3}
-{"at":24,"ev":"tryc","log":0,"stamp":24,"tx":4}
-{"at":25,"ev":"commit","log":0,"stamp":25,"tx":4}
-{"at":26,"ev":"tryc","log":0,"stamp":26,"tx":5}
-{"at":27,"ev":"commit","log":0,"stamp":27,"tx":5}
-{"end":28,"log":0}
+{"at":10,"ev":"tryc","log":0,"stamp":10,"tx":1}
+{"at":11,"ev":"commit","log":0,"stamp":11,"tx":1}
+{"at":12,"ev":"tryc","log":0,"stamp":12,"tx":2}
+{"at":13,"ev":"commit","log":0,"stamp":13,"tx":2}
+{"at":14,"ev":"tryc","log":0,"stamp":14,"tx":3}
+{"at":15,"ev":"commit","log":0,"stamp":15,"tx":3}
+{"at":16,"ev":"tryc","log":0,"stamp":16,"tx":4}
+{"at":17,"ev":"commit","log":0,"stamp":17,"tx":4}
+{"at":18,"ev":"tryc","log":0,"stamp":18,"tx":5}
+{"at":19,"ev":"commit","log":0,"stamp":19,"tx":5}
+{"end":20,"log":0}
 "#;
 
 /// Transactions 1 to 8 count two each while 9 gets 9, which is odd and never reached.
