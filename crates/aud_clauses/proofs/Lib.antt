@@ -1,0 +1,13 @@
+pub mod Holding
+pub mod Standing
+pub mod Validity
+pub mod Rows
+pub mod UnitLemmas
+pub mod Knowing
+pub mod Walking
+pub mod Valued
+pub mod Marking
+pub mod Celling
+pub mod CellWalks
+pub mod CellLast
+pub mod Untouched

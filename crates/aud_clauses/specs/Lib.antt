@@ -1,0 +1,6 @@
+pub mod Cells
+pub mod Queues
+pub mod Clauses
+pub mod Units
+pub mod Values
+pub mod Touching

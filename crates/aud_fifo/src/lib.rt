@@ -1,0 +1,12 @@
+#![tactic(auto)]
+//! Clauses on what transactions take from queues.
+
+mod blocks;
+mod gone;
+mod items;
+mod known;
+mod law;
+mod places;
+
+pub use gone::Front;
+pub use law::QueueLaw;

@@ -1,0 +1,10 @@
+pub mod Naming
+pub mod Sums
+pub mod Gains
+pub mod Walks
+pub mod Finding
+pub mod Counting
+pub mod Members
+pub mod Adding
+pub mod Bounding
+pub mod Lawful
