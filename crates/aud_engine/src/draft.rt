@@ -1,0 +1,184 @@
+//! What is asked of an order, as variables and clauses.
+
+use crate::items::{FALSE, NONE, TRUE, set, short, var};
+use crate::spans::Span;
+use aud_event::OutOfMemory;
+use std::alloc::{Allocator, Global};
+
+/// What a variable says.
+#[derive(Clone, Copy)]
+pub(crate) enum Role {
+    Nothing,
+    /// The one row stands before the other, which began later.
+    Pair(u16, u16),
+    /// The row is kept.
+    Kept(u32),
+    /// The source of that number is the one.
+    Source(u32),
+    /// The item of that number is what is taken.
+    Item(u32),
+}
+
+/// Why a clause holds, by the numbers of what it is about.
+#[derive(Clone, Copy)]
+pub(crate) enum Cause {
+    Sources(u32),
+    SourceStands(u32),
+    /// The source, and the other writer.
+    Between(u32, u32),
+    Counter(u32, u16),
+    Element(u32, u16, i64),
+    Items(u32),
+    ItemStands(u32),
+    Place(u32),
+    Empty(u32, u16, u32),
+    Gone(u32),
+    Turn(u32, u32, u32, u32),
+    /// An order that was tried in vain.
+    Tried,
+}
+
+/// The variables, by their numbers.
+#[derive(Drop)]
+pub(crate) struct Variables<A: Allocator + Copy = Global> {
+    pub roles: Vec<Role, A>,
+    /// Whether it is tried first that it holds.
+    pub phases: Vec<bool, A>,
+    /// Whether it is decided, as something is asked of it.
+    pub decided: Vec<bool, A>,
+}
+
+impl<A: Allocator + Copy> Variables<A> {
+    pub(crate) fn empty(alloc: A) -> Variables<A> {
+        Variables {
+            roles: Vec::new(alloc),
+            phases: Vec::new(alloc),
+            decided: Vec::new(alloc),
+        }
+    }
+}
+
+/// A new variable, as the literal that it holds.
+pub(crate) fn add_variable<A: Allocator + Copy>(
+    variables: &mut Variables<A>,
+    role: Role,
+    phase: bool,
+    decided: bool,
+) -> Result<u32, OutOfMemory> {
+    let number = short(variables.roles.len());
+    variables.roles.push(role)?;
+    variables.phases.push(phase)?;
+    variables.decided.push(decided)?;
+    Ok(number.wrapping_mul(2))
+}
+
+/// The variable of the literal is decided.
+pub(crate) fn ask(decided: &mut [bool], literal: u32) {
+    if var(literal) != 0 {
+        set(decided, var(literal), true);
+    }
+}
+
+/// Adds the variables of the pairs that are open, and of the fates that are.
+pub(crate) fn add_pairs<A: Allocator + Copy>(
+    variables: &mut Variables<A>,
+    spans: &mut [Span],
+) -> Result<(), OutOfMemory> {
+    add_variable(variables, Role::Nothing, true, false)?;
+    for row in 0..spans.len() {
+        for other in row.wrapping_add(1)..spans[row].end {
+            let role = Role::Pair((row & 0xffff) as u16, (other & 0xffff) as u16);
+            add_variable(variables, role, true, false)?;
+        }
+    }
+    for row in 0..spans.len() {
+        if spans[row].kept == NONE {
+            spans[row].kept = add_variable(variables, Role::Kept(short(row)), true, true)?;
+        }
+    }
+    Ok(())
+}
+
+/// Where in a clause its length stands, how many levels its literals had, the next clauses that watch its first and second
+/// literal, the number of its cause, the step that gives it, and its first literal.
+pub(crate) const LENGTH: usize = 0;
+
+pub(crate) const LEVELS: usize = 1;
+
+pub(crate) const LINK: usize = 2;
+
+pub(crate) const CAUSE: usize = 4;
+
+pub(crate) const STEP: usize = 5;
+
+pub(crate) const LITERALS: usize = 6;
+
+/// The clauses, one behind the other in the words of an arena. A clause goes by the place of its first word.
+#[derive(Drop)]
+pub(crate) struct Clauses<A: Allocator + Copy = Global> {
+    pub arena: Vec<u32, A>,
+    /// The causes of those that are no learned ones.
+    pub causes: Vec<Cause, A>,
+    /// For each literal the first clause that watches it.
+    pub heads: Vec<u32, A>,
+    /// The learned ones that are still there.
+    pub learned: Vec<u32, A>,
+}
+
+impl<A: Allocator + Copy> Clauses<A> {
+    pub(crate) fn empty(alloc: A) -> Clauses<A> {
+        Clauses {
+            arena: Vec::new(alloc),
+            causes: Vec::new(alloc),
+            heads: Vec::new(alloc),
+            learned: Vec::new(alloc),
+        }
+    }
+}
+
+/// Puts the words of a clause at the end of the arena, and gives its place.
+pub(crate) fn append<A: Allocator + Copy>(
+    arena: &mut Vec<u32, A>,
+    literals: &[u32],
+    levels: u32,
+    cause: u32,
+    step: u32,
+) -> Result<u32, OutOfMemory> {
+    let place = short(arena.len());
+    let head = [short(literals.len()), levels, NONE, NONE, cause, step];
+    arena.extend_from_slice(&head)?;
+    arena.extend_from_slice(literals)?;
+    Ok(place)
+}
+
+/// Puts the literals behind the clause at the place that is the last one, those aside that fail in any case.
+fn extend<A: Allocator + Copy>(
+    arena: &mut Vec<u32, A>,
+    place: usize,
+    literals: &[u32],
+) -> Result<(), OutOfMemory> {
+    for literal in literals {
+        if *literal != FALSE {
+            arena.push(*literal)?;
+        }
+    }
+    let length = arena.len().wrapping_sub(place).wrapping_sub(LITERALS);
+    set(arena, place, short(length));
+    Ok(())
+}
+
+/// Adds the clause of different literals, if none of them holds in any case. Those that fail in any case are left out.
+pub(crate) fn add_clause<A: Allocator + Copy>(
+    clauses: &mut Clauses<A>,
+    cause: Cause,
+    literals: &[u32],
+) -> Result<(), OutOfMemory> {
+    if literals.contains(&TRUE) {
+        return Ok(());
+    }
+    let number = short(clauses.causes.len());
+    let place = clauses.arena.len();
+    clauses.causes.push(cause)?;
+    append(&mut clauses.arena, &[], 0, number, NONE)?;
+    extend(&mut clauses.arena, place, literals)
+}

@@ -1,0 +1,257 @@
+//! The literals that force another one.
+
+use crate::betweens::clause_of;
+use crate::cells::Cells;
+use crate::draft::{Cause, LITERALS, Role};
+use crate::items::{FALSE, NONE, TRUE, at, between, neg, var};
+use crate::known::{Clash, Ground, Known, State, UNKNOWN, place_if, value};
+use crate::spans::{Span, before};
+use crate::sums::{NO_SUM, NO_TERM, Sum, Sums, Term};
+use aud_event::OutOfMemory;
+use std::alloc::Allocator;
+
+/// What grounds are read from.
+#[derive(Drop)]
+pub(crate) struct Sight<'a, A: Allocator + Copy> {
+    pub values: &'a [i8],
+    pub states: &'a [State],
+    pub arena: &'a [u32],
+    pub causes: &'a [Cause],
+    pub roles: &'a [Role],
+    pub spans: &'a [Span],
+    pub cells: &'a Cells<A>,
+    pub sums: &'a [Sum],
+    pub terms: &'a [Term],
+}
+
+/// A term that helps to force a bound: when it came to, by how much, and its number.
+#[derive(Clone, Copy, PartialEq, Eq, PartialOrd, Ord)]
+pub(crate) struct Help {
+    place: u32,
+    gain: i64,
+    term: usize,
+}
+
+/// The literals that follow from a clause in which all others fail: these, as they hold.
+fn add_others<A: Allocator + Copy>(
+    literals: &[u32],
+    forced: u32,
+    out: &mut Vec<u32, A>,
+) -> Result<(), OutOfMemory> {
+    for literal in literals {
+        if *literal != forced && var(*literal) != 0 {
+            out.push(neg(*literal))?;
+        }
+    }
+    Ok(())
+}
+
+/// The literals of the clause at the place.
+pub(crate) fn literals_of(arena: &[u32], clause: u32) -> &[u32] {
+    let place = clause as usize;
+    let from = place.wrapping_add(LITERALS);
+    between(arena, from, from.wrapping_add(at(arena, place, 0) as usize))
+}
+
+/// The two rows of a literal of a pair, the one that stands before first.
+pub(crate) fn pair_of(roles: &[Role], literal: u32) -> Option<(usize, usize)> {
+    match at(roles, var(literal), Role::Nothing) {
+        Role::Pair(row, other) => {
+            let (row, other) = (row as usize, other as usize);
+            if literal & 1 == 0 {
+                Some((row, other))
+            } else {
+                Some((other, row))
+            }
+        }
+        _ => None,
+    }
+}
+
+/// The literals of a circle over the pair, but for the one that the first row stands before the last.
+fn add_turn<A: Allocator + Copy>(
+    spans: &[Span],
+    ends: (usize, usize),
+    pair: (usize, usize),
+    out: &mut Vec<u32, A>,
+) -> Result<(), OutOfMemory> {
+    let steps = [(ends.0, pair.0), pair, (pair.1, ends.1)];
+    for (row, other) in &steps {
+        let literal = before(spans, *row, *other);
+        if *row != *other && literal != TRUE {
+            out.push(literal)?;
+        }
+    }
+    Ok(())
+}
+
+/// Whether the term was known to hold or to fail before that place.
+fn is_decided(values: &[i8], states: &[State], term: &Term, limit: u32) -> bool {
+    let [first, second] = term.literals;
+    let fails = place_if(values, states, first, -1).min(place_if(values, states, second, -1));
+    let holds = place_if(values, states, first, 1).max(place_if(values, states, second, 1));
+    fails < limit || holds < limit
+}
+
+/// When the term came to help to raise the least of the sum, or to lower the greatest, or never.
+fn help_at(values: &[i8], states: &[State], term: &Term, rises: bool) -> u32 {
+    let [first, second] = term.literals;
+    if rises {
+        place_if(values, states, first, 1).max(place_if(values, states, second, 1))
+    } else {
+        place_if(values, states, first, -1).min(place_if(values, states, second, -1))
+    }
+}
+
+/// Adds the literals by which the term helps.
+fn add_help<A: Allocator + Copy>(
+    values: &[i8],
+    states: &[State],
+    term: &Term,
+    rises: bool,
+    out: &mut Vec<u32, A>,
+) -> Result<(), OutOfMemory> {
+    let [first, second] = term.literals;
+    if rises {
+        for literal in &term.literals {
+            if *literal != TRUE {
+                out.push(*literal)?;
+            }
+        }
+        return Ok(());
+    }
+    let one = place_if(values, states, first, -1);
+    let other = place_if(values, states, second, -1);
+    out.push(neg(if one <= other { first } else { second }))?;
+    Ok(())
+}
+
+/// What the helps have to add up to so that the bound is crossed, the forced literal's term aside; and those that may.
+fn find_helps<A: Allocator + Copy>(
+    sight: &Sight<'_, A>,
+    sum: &Sum,
+    is_low: bool,
+    forced: u32,
+    limit: u32,
+    helps: &mut Vec<Help, A>,
+    out: &mut Vec<u32, A>,
+) -> Result<i64, OutOfMemory> {
+    let sign: i64 = if is_low { 1 } else { -1 };
+    let mut lacks = sum.wanted.wrapping_mul(sign).wrapping_add(1);
+    let mut is_found = forced == FALSE;
+    for place in sum.from..sum.to {
+        let term = at(sight.terms, place, NO_TERM);
+        let gain = term.gain.wrapping_mul(sign);
+        let rises = gain > 0;
+        if !rises {
+            lacks = lacks.wrapping_sub(gain);
+        }
+        let wanted = if rises { neg(forced) } else { forced };
+        let is_own = !is_found && term.literals.contains(&wanted);
+        if is_own && !is_decided(sight.values, sight.states, &term, limit) {
+            is_found = true;
+            lacks = lacks.wrapping_sub(gain.wrapping_abs());
+            if rises {
+                let [first, second] = term.literals;
+                let other = if first == wanted { second } else { first };
+                if other != TRUE {
+                    out.push(other)?;
+                }
+            }
+            continue;
+        }
+        let came = help_at(sight.values, sight.states, &term, rises);
+        if came < limit {
+            let gain = gain.wrapping_abs();
+            helps.push(Help {
+                place: came,
+                gain,
+                term: place,
+            })?;
+        }
+    }
+    Ok(lacks)
+}
+
+/// The literals that force the least of the sum above what is wanted, or the greatest below it, before the limit: the earliest ones that
+/// suffice. The forced literal, if there is one, is no part of them.
+pub(crate) fn add_bound<A: Allocator + Copy>(
+    sight: &Sight<'_, A>,
+    number: u32,
+    is_low: bool,
+    forced: u32,
+    limit: u32,
+    helps: &mut Vec<Help, A>,
+    out: &mut Vec<u32, A>,
+) -> Result<(), OutOfMemory> {
+    let sum = at(sight.sums, number as usize, NO_SUM);
+    helps.clear();
+    let mut lacks = find_helps(sight, &sum, is_low, forced, limit, helps, out)?;
+    helps.sort_unstable();
+    for help in helps.iter() {
+        if lacks <= 0 {
+            break;
+        }
+        lacks = lacks.wrapping_sub(help.gain);
+        let term = at(sight.terms, help.term, NO_TERM);
+        add_help(
+            sight.values,
+            sight.states,
+            &term,
+            (term.gain > 0) == is_low,
+            out,
+        )?;
+    }
+    if sum.guard != TRUE && forced != neg(sum.guard) {
+        out.push(sum.guard)?;
+    }
+    Ok(())
+}
+
+/// Adds the literals that force this one.
+pub(crate) fn add_grounds<A: Allocator + Copy>(
+    sight: &Sight<'_, A>,
+    literal: u32,
+    helps: &mut Vec<Help, A>,
+    out: &mut Vec<u32, A>,
+) -> Result<(), OutOfMemory> {
+    let state = at(sight.states, var(literal), UNKNOWN);
+    match state.ground {
+        Ground::Choice => Ok(()),
+        Ground::Clause(clause) => add_others(literals_of(sight.arena, clause), literal, out),
+        Ground::Turn(row, other) => match pair_of(sight.roles, literal) {
+            Some(ends) => add_turn(sight.spans, ends, (row as usize, other as usize), out),
+            None => Ok(()),
+        },
+        Ground::Between(source, writer) => {
+            let clause = clause_of(sight.cells, sight.spans, source, writer);
+            add_others(&clause, literal, out)
+        }
+        Ground::Low(sum) => add_bound(sight, sum, true, literal, state.place, helps, out),
+        Ground::High(sum) => add_bound(sight, sum, false, literal, state.place, helps, out),
+    }
+}
+
+/// Adds the literals that hold, and cannot all do.
+pub(crate) fn add_clash<A: Allocator + Copy>(
+    sight: &Sight<'_, A>,
+    clash: Clash,
+    helps: &mut Vec<Help, A>,
+    out: &mut Vec<u32, A>,
+) -> Result<(), OutOfMemory> {
+    match clash {
+        Clash::Clause(clause) => add_others(literals_of(sight.arena, clause), FALSE, out),
+        Clash::Turn(row, from, to, other) => {
+            let literal = before(sight.spans, other, row);
+            if row != other && literal != TRUE {
+                out.push(literal)?;
+            }
+            add_turn(sight.spans, (row, other), (from, to), out)
+        }
+        Clash::Between(source, writer) => {
+            let clause = clause_of(sight.cells, sight.spans, source, writer);
+            add_others(&clause, FALSE, out)
+        }
+        Clash::Sum(sum, is_low) => add_bound(sight, sum, is_low, FALSE, NONE, helps, out),
+    }
+}

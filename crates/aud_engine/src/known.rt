@@ -1,0 +1,117 @@
+//! What is assigned: which literals hold, since when and why.
+
+use crate::items::{FALSE, NONE, TRUE, at, fill, neg, set, short, var};
+use aud_event::OutOfMemory;
+use std::alloc::{Allocator, Global};
+
+/// Why a literal holds.
+#[derive(Clone, Copy)]
+pub(crate) enum Ground {
+    /// It was decided.
+    Choice,
+    Clause(u32),
+    /// The one row stands before the other.
+    Turn(u32, u32),
+    /// The source, and the other writer.
+    Between(u32, u32),
+    /// The least, or the greatest, that the sum can be.
+    Low(u32),
+    High(u32),
+}
+
+/// Since when and why a variable is assigned.
+#[derive(Clone, Copy)]
+pub(crate) struct State {
+    pub level: u32,
+    /// Its place in the trail, from 1.
+    pub place: u32,
+    pub ground: Ground,
+}
+
+pub(crate) const UNKNOWN: State = State {
+    level: 0,
+    place: 0,
+    ground: Ground::Choice,
+};
+
+/// What cannot be: the clause, the circle of rows, the source and the other writer, or the sum and whether it is the least of it.
+#[derive(Clone, Copy)]
+pub(crate) enum Clash {
+    Clause(u32),
+    Turn(usize, usize, usize, usize),
+    Between(u32, u32),
+    Sum(u32, bool),
+}
+
+/// The literals that hold, in the order in which they came to.
+#[derive(Drop)]
+pub(crate) struct Known<A: Allocator + Copy = Global> {
+    /// Of each literal 1 if it holds, -1 if it fails, and else 0.
+    pub values: Vec<i8, A>,
+    pub states: Vec<State, A>,
+    pub trail: Vec<u32, A>,
+    pub count: usize,
+    /// How many of them were looked at by clauses, and by the rest.
+    pub seen: usize,
+    pub judged: usize,
+    /// Where each level begins.
+    pub levels: Vec<usize, A>,
+    /// The work that was done.
+    pub looks: u64,
+}
+
+impl<A: Allocator + Copy> Known<A> {
+    pub(crate) fn empty(alloc: A) -> Known<A> {
+        Known {
+            values: Vec::new(alloc),
+            states: Vec::new(alloc),
+            trail: Vec::new(alloc),
+            count: 0,
+            seen: 0,
+            judged: 0,
+            levels: Vec::new(alloc),
+            looks: 0,
+        }
+    }
+}
+
+/// Room for so many variables.
+pub(crate) fn make_room<A: Allocator + Copy>(
+    known: &mut Known<A>,
+    count: usize,
+) -> Result<(), OutOfMemory> {
+    fill(&mut known.values, count.saturating_mul(2), 0)?;
+    fill(&mut known.states, count, UNKNOWN)?;
+    fill(&mut known.trail, count, TRUE)?;
+    set(&mut known.values, TRUE as usize, 1);
+    set(&mut known.values, FALSE as usize, -1);
+    Ok(())
+}
+
+/// Whether the literal holds, 1, fails, -1, or is open.
+pub(crate) fn value(values: &[i8], literal: u32) -> i8 {
+    at(values, literal as usize, 0)
+}
+
+/// The literal holds from now on.
+pub(crate) fn assign<A: Allocator + Copy>(known: &mut Known<A>, literal: u32, ground: Ground) {
+    set(&mut known.values, literal as usize, 1);
+    set(&mut known.values, neg(literal) as usize, -1);
+    let state = State {
+        level: short(known.levels.len()),
+        place: short(known.count).wrapping_add(1),
+        ground,
+    };
+    set(&mut known.states, var(literal), state);
+    set(&mut known.trail, known.count, literal);
+    known.count = known.count.wrapping_add(1);
+}
+
+/// When the variable was assigned, or never.
+pub(crate) fn place_if(values: &[i8], states: &[State], literal: u32, wanted: i8) -> u32 {
+    if value(values, literal) == wanted {
+        at(states, var(literal), UNKNOWN).place
+    } else {
+        NONE
+    }
+}

@@ -1,0 +1,28 @@
+#![tactic(auto)]
+//! Decides whether a history is opaque by learning clauses over the order of its transactions. Nothing is said of its answers:
+//! an order is tried by whoever asks, and a refutation is judged.
+
+mod analysis;
+mod betweens;
+mod bounds;
+mod cells;
+mod closure;
+mod draft;
+mod engine;
+mod grounds;
+mod heap;
+mod items;
+mod known;
+mod log;
+mod orders;
+mod problem;
+mod queues;
+mod reading;
+mod reduce;
+mod refuted;
+mod solver;
+mod spans;
+mod sums;
+mod visits;
+
+pub use engine::{Answer, Effort, solve};

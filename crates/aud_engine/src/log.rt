@@ -1,0 +1,423 @@
+//! The steps of a search, as they are found: clauses, and what each one follows from.
+
+use crate::analysis::Analysis;
+use crate::draft::{CAUSE, Cause, STEP};
+use crate::grounds::{Help, Sight, add_grounds, literals_of, pair_of};
+use crate::items::{NONE, at, between, fill, neg, set, short, var};
+use crate::known::{Clash, Ground, UNKNOWN};
+use crate::sums::NO_SUM;
+use aud_event::OutOfMemory;
+use std::alloc::{Allocator, Global};
+
+/// What a step follows from: its cause alone, or the steps that the hints between these places name.
+#[derive(Clone, Copy)]
+pub(crate) enum Why {
+    Cause(Cause),
+    Units(usize, usize),
+}
+
+/// A step: its literals are those between these places.
+#[derive(Clone, Copy)]
+pub(crate) struct Logged {
+    pub from: usize,
+    pub to: usize,
+    pub why: Why,
+}
+
+pub(crate) const NOT_LOGGED: Logged = Logged {
+    from: 0,
+    to: 0,
+    why: Why::Cause(Cause::Tried),
+};
+
+/// The steps, with their literals and hints.
+#[derive(Drop)]
+pub(crate) struct Steps<A: Allocator + Copy = Global> {
+    pub steps: Vec<Logged, A>,
+    pub literals: Vec<u32, A>,
+    pub hints: Vec<u32, A>,
+}
+
+/// A literal or a step by the place of the trail that it is about.
+#[derive(Clone, Copy, PartialEq, Eq, PartialOrd, Ord)]
+struct Placed {
+    place: u32,
+    number: u32,
+}
+
+const NOT_PLACED: Placed = Placed {
+    place: 0,
+    number: 0,
+};
+
+/// What is written down of a search, if anything is.
+#[derive(Drop)]
+pub(crate) struct Log<A: Allocator + Copy = Global> {
+    pub is_on: bool,
+    pub steps: Steps<A>,
+    /// The step of the last clash.
+    pub last: u32,
+    /// For each cause of a clause the step that gives it; for each variable the step that gives the literal which holds in any case, and
+    /// the last step that it was forced by.
+    causes: Vec<u32, A>,
+    units: Vec<u32, A>,
+    forced: Vec<u32, A>,
+    is_needed: Vec<bool, A>,
+    needed: Vec<Placed, A>,
+    todo: Vec<u32, A>,
+    clause: Vec<u32, A>,
+}
+
+impl<A: Allocator + Copy> Log<A> {
+    pub(crate) fn empty(alloc: A, is_on: bool) -> Log<A> {
+        Log {
+            is_on,
+            steps: Steps {
+                steps: Vec::new(alloc),
+                literals: Vec::new(alloc),
+                hints: Vec::new(alloc),
+            },
+            last: NONE,
+            causes: Vec::new(alloc),
+            units: Vec::new(alloc),
+            forced: Vec::new(alloc),
+            is_needed: Vec::new(alloc),
+            needed: Vec::new(alloc),
+            todo: Vec::new(alloc),
+            clause: Vec::new(alloc),
+        }
+    }
+}
+
+/// Room for so many variables and causes.
+pub(crate) fn make_log<A: Allocator + Copy>(
+    log: &mut Log<A>,
+    variables: usize,
+    causes: usize,
+) -> Result<(), OutOfMemory> {
+    fill(&mut log.causes, causes, NONE)?;
+    fill(&mut log.units, variables, NONE)?;
+    fill(&mut log.forced, variables, NONE)?;
+    fill(&mut log.is_needed, variables, false)
+}
+
+/// How many bytes the steps take, about.
+pub(crate) fn bytes_logged<A: Allocator + Copy>(steps: &Steps<A>) -> usize {
+    let words = steps.literals.len().saturating_add(steps.hints.len());
+    let heads = steps.steps.len().saturating_mul(48);
+    words.saturating_mul(4).saturating_add(heads)
+}
+
+/// Adds a step, and gives its number.
+fn add_step<A: Allocator + Copy>(
+    steps: &mut Steps<A>,
+    literals: &[u32],
+    why: Why,
+) -> Result<u32, OutOfMemory> {
+    let number = short(steps.steps.len());
+    let from = steps.literals.len();
+    steps.literals.extend_from_slice(literals)?;
+    let to = steps.literals.len();
+    steps.steps.push(Logged { from, to, why })?;
+    Ok(number)
+}
+
+/// The step that gives the clause.
+fn step_of_clause<A: Allocator + Copy>(
+    steps: &mut Steps<A>,
+    causes: &mut [u32],
+    sight: &Sight<'_, A>,
+    clause: u32,
+) -> Result<u32, OutOfMemory> {
+    let place = clause as usize;
+    let cause = at(sight.arena, place.wrapping_add(CAUSE), NONE);
+    if cause == NONE {
+        return Ok(at(sight.arena, place.wrapping_add(STEP), NONE));
+    }
+    let known = at(causes, cause as usize, NONE);
+    if known != NONE {
+        return Ok(known);
+    }
+    let why = Why::Cause(at(sight.causes, cause as usize, Cause::Tried));
+    let number = add_step(steps, literals_of(sight.arena, clause), why)?;
+    set(causes, cause as usize, number);
+    Ok(number)
+}
+
+/// Why the literals force this one, where no clause does.
+fn cause_of<A: Allocator + Copy>(sight: &Sight<'_, A>, literal: u32, ground: Ground) -> Cause {
+    match ground {
+        Ground::Turn(row, other) => match pair_of(sight.roles, literal) {
+            Some((first, last)) => Cause::Turn(short(first), row, other, short(last)),
+            None => Cause::Tried,
+        },
+        Ground::Between(source, writer) => Cause::Between(source, writer),
+        Ground::Low(sum) | Ground::High(sum) => at(sight.sums, sum as usize, NO_SUM).cause,
+        Ground::Choice | Ground::Clause(_) => Cause::Tried,
+    }
+}
+
+/// Whether the step has these literals.
+fn is_step<A: Allocator + Copy>(steps: &Steps<A>, number: u32, literals: &[u32]) -> bool {
+    match steps.steps.get(number as usize) {
+        Some(step) => *between(&steps.literals, step.from, step.to) == *literals,
+        None => false,
+    }
+}
+
+/// Turns the literals into their opposites.
+fn turn_all(literals: &mut [u32]) {
+    for literal in literals.iter_mut() {
+        *literal = neg(*literal);
+    }
+}
+
+/// Puts the literals to the clause by which they force this one.
+fn make_clause<A: Allocator + Copy>(
+    clause: &mut Vec<u32, A>,
+    sight: &Sight<'_, A>,
+    helps: &mut Vec<Help, A>,
+    literal: u32,
+) -> Result<(), OutOfMemory> {
+    clause.clear();
+    add_grounds(sight, literal, helps, clause)?;
+    turn_all(clause);
+    clause.push(literal)?;
+    Ok(())
+}
+
+/// The step whose clause forced the literal. If it is the same as when one was last made of it, that one is taken.
+fn step_of<A: Allocator + Copy>(
+    log: &mut Log<A>,
+    sight: &Sight<'_, A>,
+    helps: &mut Vec<Help, A>,
+    literal: u32,
+) -> Result<u32, OutOfMemory> {
+    let ground = at(sight.states, var(literal), UNKNOWN).ground;
+    if let Ground::Clause(clause) = ground {
+        return step_of_clause(&mut log.steps, &mut log.causes, sight, clause);
+    }
+    make_clause(&mut log.clause, sight, helps, literal)?;
+    let known = at(&log.forced, var(literal), NONE);
+    if is_step(&log.steps, known, &log.clause) {
+        return Ok(known);
+    }
+    let why = Why::Cause(cause_of(sight, literal, ground));
+    let number = add_step(&mut log.steps, &log.clause, why)?;
+    set(&mut log.forced, var(literal), number);
+    Ok(number)
+}
+
+/// Why the clash cannot be, if it is of no clause.
+fn cause_of_clash<A: Allocator + Copy>(sight: &Sight<'_, A>, clash: Clash) -> Cause {
+    match clash {
+        Clash::Clause(_) => Cause::Tried,
+        Clash::Turn(row, from, to, other) => {
+            Cause::Turn(short(row), short(from), short(to), short(other))
+        }
+        Clash::Between(source, writer) => Cause::Between(source, writer),
+        Clash::Sum(sum, _) => at(sight.sums, sum as usize, NO_SUM).cause,
+    }
+}
+
+/// Notes the step of what cannot be. The literals are those that hold and cannot all do.
+pub(crate) fn log_clash<A: Allocator + Copy>(
+    log: &mut Log<A>,
+    sight: &Sight<'_, A>,
+    clash: Clash,
+    literals: &[u32],
+) -> Result<(), OutOfMemory> {
+    if let Clash::Clause(clause) = clash {
+        log.last = step_of_clause(&mut log.steps, &mut log.causes, sight, clause)?;
+        return Ok(());
+    }
+    log.clause.clear();
+    log.clause.extend_from_slice(literals)?;
+    turn_all(&mut log.clause);
+    let why = Why::Cause(cause_of_clash(sight, clash));
+    log.last = add_step(&mut log.steps, &log.clause, why)?;
+    Ok(())
+}
+
+/// Takes the next literal of which no step is needed yet, and notes that one is.
+fn take_needed<A: Allocator + Copy>(todo: &mut Vec<u32, A>, is_needed: &mut [bool]) -> Option<u32> {
+    for _ in 0..todo.len() {
+        let literal = todo.pop()?;
+        if var(literal) != 0 && !at(is_needed, var(literal), true) {
+            set(is_needed, var(literal), true);
+            return Some(literal);
+        }
+    }
+    None
+}
+
+/// No step of them is needed.
+fn forget_needed(needed: &[Placed], is_needed: &mut [bool]) {
+    for found in needed {
+        set(is_needed, var(found.number), false);
+    }
+}
+
+/// Finds what the literals need that hold in any case, themselves too, as far as no step gives it yet; in the order of the trail.
+fn find_needed<A: Allocator + Copy>(
+    log: &mut Log<A>,
+    sight: &Sight<'_, A>,
+    helps: &mut Vec<Help, A>,
+    literals: &[u32],
+) -> Result<(), OutOfMemory> {
+    log.needed.clear();
+    log.todo.clear();
+    log.todo.extend_from_slice(literals)?;
+    for _ in 0..u64::MAX {
+        let Some(number) = take_needed(&mut log.todo, &mut log.is_needed) else {
+            break;
+        };
+        let place = at(sight.states, var(number), UNKNOWN).place;
+        log.needed.push(Placed { place, number })?;
+        if at(&log.units, var(number), NONE) == NONE {
+            add_grounds(sight, number, helps, &mut log.todo)?;
+        }
+    }
+    log.needed.sort_unstable();
+    forget_needed(&log.needed, &mut log.is_needed);
+    Ok(())
+}
+
+/// Adds the step that the literal holds in any case, which follows from the step that forced it and from earlier such ones.
+fn log_unit<A: Allocator + Copy>(
+    log: &mut Log<A>,
+    sight: &Sight<'_, A>,
+    helps: &mut Vec<Help, A>,
+    literal: u32,
+) -> Result<(), OutOfMemory> {
+    let step = step_of(log, sight, helps, literal)?;
+    let from = log.steps.hints.len();
+    log.clause.clear();
+    add_grounds(sight, literal, helps, &mut log.clause)?;
+    for other in log.clause.iter() {
+        log.steps.hints.push(at(&log.units, var(*other), NONE))?;
+    }
+    let mut number = step;
+    if !log.clause.is_empty() {
+        log.steps.hints.push(step)?;
+        let to = log.steps.hints.len();
+        number = add_step(&mut log.steps, &[literal], Why::Units(from, to))?;
+    }
+    set(&mut log.units, var(literal), number);
+    Ok(())
+}
+
+/// Adds the steps that the literals hold in any case.
+fn log_units<A: Allocator + Copy>(
+    log: &mut Log<A>,
+    sight: &Sight<'_, A>,
+    helps: &mut Vec<Help, A>,
+    literals: &[u32],
+) -> Result<(), OutOfMemory> {
+    find_needed(log, sight, helps, literals)?;
+    for place in 0..log.needed.len() {
+        let literal = at(&log.needed, place, NOT_PLACED).number;
+        if at(&log.units, var(literal), NONE) == NONE {
+            log_unit(log, sight, helps, literal)?;
+        }
+    }
+    Ok(())
+}
+
+/// Puts the steps that give the literals to the hints, each once.
+fn push_units<A: Allocator + Copy>(log: &mut Log<A>, sure: &[u32]) -> Result<(), OutOfMemory> {
+    for literal in sure {
+        if !at(&log.is_needed, var(*literal), true) {
+            set(&mut log.is_needed, var(*literal), true);
+            log.steps.hints.push(at(&log.units, var(*literal), NONE))?;
+        }
+    }
+    for literal in sure {
+        set(&mut log.is_needed, var(*literal), false);
+    }
+    Ok(())
+}
+
+/// The steps that forced the literals, in the order of the trail.
+fn find_steps<A: Allocator + Copy>(
+    log: &mut Log<A>,
+    sight: &Sight<'_, A>,
+    helps: &mut Vec<Help, A>,
+    literals: &[u32],
+) -> Result<(), OutOfMemory> {
+    log.needed.clear();
+    for literal in literals {
+        let number = step_of(log, sight, helps, *literal)?;
+        let place = at(sight.states, var(*literal), UNKNOWN).place;
+        log.needed.push(Placed { place, number })?;
+    }
+    log.needed.sort_unstable();
+    Ok(())
+}
+
+/// Adds the step of a learned clause: it follows from those that give what holds in any case, from those that forced the literals that
+/// were used, and from the last clash.
+pub(crate) fn log_learned<A: Allocator + Copy>(
+    log: &mut Log<A>,
+    sight: &Sight<'_, A>,
+    analysis: &mut Analysis<A>,
+) -> Result<u32, OutOfMemory> {
+    log_units(log, sight, &mut analysis.helps, &analysis.sure)?;
+    find_steps(log, sight, &mut analysis.helps, &analysis.used)?;
+    let from = log.steps.hints.len();
+    push_units(log, &analysis.sure)?;
+    push_needed(&mut log.steps.hints, &log.needed)?;
+    log.steps.hints.push(log.last)?;
+    let to = log.steps.hints.len();
+    add_step(&mut log.steps, &analysis.clause, Why::Units(from, to))
+}
+
+/// The steps that give or force the literals that are needed, in their place.
+fn find_last_steps<A: Allocator + Copy>(
+    log: &mut Log<A>,
+    sight: &Sight<'_, A>,
+    helps: &mut Vec<Help, A>,
+) -> Result<(), OutOfMemory> {
+    for place in 0..log.needed.len() {
+        let mut found = at(&log.needed, place, NOT_PLACED);
+        let unit = at(&log.units, var(found.number), NONE);
+        if unit == NONE {
+            found.number = step_of(log, sight, helps, found.number)?;
+        } else {
+            found.number = unit;
+        }
+        set(&mut log.needed, place, found);
+    }
+    Ok(())
+}
+
+/// Puts the steps to the hints that were found.
+fn push_needed<A: Allocator + Copy>(
+    hints: &mut Vec<u32, A>,
+    needed: &[Placed],
+) -> Result<(), OutOfMemory> {
+    for found in needed {
+        hints.push(found.number)?;
+    }
+    Ok(())
+}
+
+/// Adds the step with no literal, where the last clash needs but what holds in any case.
+pub(crate) fn log_end<A: Allocator + Copy>(
+    log: &mut Log<A>,
+    sight: &Sight<'_, A>,
+    helps: &mut Vec<Help, A>,
+    literals: &[u32],
+) -> Result<(), OutOfMemory> {
+    if is_step(&log.steps, log.last, &[]) {
+        return Ok(());
+    }
+    find_needed(log, sight, helps, literals)?;
+    find_last_steps(log, sight, helps)?;
+    let from = log.steps.hints.len();
+    push_needed(&mut log.steps.hints, &log.needed)?;
+    log.steps.hints.push(log.last)?;
+    let to = log.steps.hints.len();
+    log.last = add_step(&mut log.steps, &[], Why::Units(from, to))?;
+    Ok(())
+}

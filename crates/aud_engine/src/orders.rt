@@ -1,0 +1,214 @@
+//! Orders that a search found, and their trial.
+
+use crate::closure::is_before;
+use crate::draft::{Cause, LITERALS, add_clause};
+use crate::items::{FALSE, NONE, TRUE, at, neg, set, short};
+use crate::known::{Ground, assign, value};
+use crate::solver::{Solver, go_back};
+use crate::spans::{Span, before, instant, span_of};
+use crate::visits::watch_both;
+use aud_event::OutOfMemory;
+use aud_order::{Cursor, Shape};
+use aud_witness::{Decision, Fate};
+use std::alloc::Allocator;
+
+/// The row that took effect first of those that are not placed and that no other one has to stand before.
+fn first_free(spans: &[Span], counts: &[u32]) -> usize {
+    let mut best = 0;
+    let mut found = spans.len();
+    for row in 0..spans.len() {
+        if at(counts, row, NONE) == 0 {
+            let key = instant(span_of(spans, row), 15);
+            if found == spans.len() || key < best {
+                best = key;
+                found = row;
+            }
+        }
+    }
+    found
+}
+
+/// How many rows stand before each one.
+fn count_ahead<A: Allocator + Copy>(
+    counts: &mut Vec<u32, A>,
+    solver: &Solver<A>,
+) -> Result<(), OutOfMemory> {
+    let words = solver.closure.words;
+    for row in 0..solver.problem.spans.len() {
+        let mut count: u32 = 0;
+        let from = row.wrapping_mul(words);
+        for word in crate::items::between(&solver.closure.ahead, from, from.wrapping_add(words)) {
+            count = count.wrapping_add(word.count_ones());
+        }
+        counts.push(count)?;
+    }
+    Ok(())
+}
+
+/// One less stands before each of those that the row stands before.
+fn let_go(counts: &mut [u32], behind: &[u64], words: usize, row: usize) {
+    set(counts, row, NONE);
+    for other in 0..counts.len() {
+        if is_before(behind, words, row, other) {
+            let count = counts[other];
+            counts[other] = count.wrapping_sub(1);
+        }
+    }
+}
+
+/// The rows in an order that the search found.
+pub(crate) fn order_of<A: Allocator + Copy>(
+    alloc: A,
+    solver: &Solver<A>,
+) -> Result<Vec<usize, A>, OutOfMemory> {
+    let spans = &solver.problem.spans[..];
+    let mut counts = Vec::new(alloc);
+    count_ahead(&mut counts, solver)?;
+    let mut order = Vec::new(alloc);
+    for _ in 0..spans.len() {
+        let row = first_free(spans, &counts);
+        let_go(
+            &mut counts,
+            &solver.closure.behind,
+            solver.closure.words,
+            row,
+        );
+        order.push(row)?;
+    }
+    Ok(order)
+}
+
+/// The rows in their order as decisions.
+pub(crate) fn decisions_of<A: Allocator + Copy>(
+    alloc: A,
+    solver: &Solver<A>,
+    order: &[usize],
+) -> Result<Vec<Decision, A>, OutOfMemory> {
+    let mut decisions = Vec::new(alloc);
+    for row in order {
+        let found = span_of(&solver.problem.spans, *row);
+        let is_kept = value(&solver.known.values, found.kept) == 1;
+        decisions.push(Decision {
+            tx: found.tx,
+            fate: if is_kept { Fate::C } else { Fate::A },
+        })?;
+    }
+    Ok(decisions)
+}
+
+/// The place of the first decision that is not good behind those of the cursor, if there is one.
+fn first_refused<A: Allocator + Copy>(
+    cursor: &mut Cursor<'_, A>,
+    decisions: &[Decision],
+) -> Result<Option<usize>, OutOfMemory> {
+    for (place, decision) in decisions.iter().enumerate() {
+        if !cursor.push(*decision)?.is_good() {
+            return Ok(Some(place));
+        }
+    }
+    if cursor.full() {
+        return Ok(None);
+    }
+    Ok(Some(decisions.len()))
+}
+
+/// The place of the first decision that is not good, if there is one.
+pub(crate) fn first_bad<A: Allocator + Copy>(
+    alloc: A,
+    shape: &Shape<A>,
+    decisions: &[Decision],
+) -> Result<Option<usize>, OutOfMemory> {
+    let mut cursor = Cursor::root(alloc, shape)?;
+    first_refused(&mut cursor, decisions)
+}
+
+/// Adds the literals that those that are kept before the place do not stand there in this order.
+fn deny_before<A: Allocator + Copy>(
+    clause: &mut Vec<u32, A>,
+    solver: &Solver<A>,
+    order: &[usize],
+    place: usize,
+) -> Result<(), OutOfMemory> {
+    let spans = &solver.problem.spans[..];
+    let mut last = NONE as usize;
+    for row in crate::items::between(order, 0, place.saturating_add(1)) {
+        let kept = span_of(spans, *row).kept;
+        let is_last = at(order, place, 0) == *row;
+        if is_last || value(&solver.known.values, kept) == 1 {
+            if last != NONE as usize {
+                clause.push(before(spans, *row, last))?;
+            }
+            if !is_last {
+                clause.push(neg(kept))?;
+            }
+            last = *row;
+        }
+    }
+    Ok(())
+}
+
+/// Adds the literals that another one is kept and stands before the row at the place.
+fn deny_after<A: Allocator + Copy>(
+    clause: &mut Vec<u32, A>,
+    solver: &Solver<A>,
+    order: &[usize],
+    place: usize,
+) -> Result<(), OutOfMemory> {
+    let spans = &solver.problem.spans[..];
+    let row = at(order, place, 0);
+    for (index, other) in order.iter().enumerate() {
+        let kept = span_of(spans, *other).kept;
+        let holds = value(&solver.known.values, kept) == 1;
+        if index != place && kept != FALSE {
+            if holds && index > place {
+                clause.push(before(spans, *other, row))?;
+            } else if !holds {
+                clause.push(kept)?;
+            }
+        }
+    }
+    Ok(())
+}
+
+/// Brings the literals to the front that do not fail, and counts them.
+fn sort_open(literals: &mut [u32], values: &[i8]) -> usize {
+    let mut count: usize = 0;
+    for place in 0..literals.len() {
+        let literal = literals[place];
+        if value(values, literal) != -1 {
+            let first = at(literals, count, literal);
+            set(literals, place, first);
+            set(literals, count, literal);
+            count = count.wrapping_add(1);
+        }
+    }
+    count
+}
+
+/// The row at the place is not legal after exactly those that are kept before it, in this order: the search goes on without that. False
+/// where nothing is left.
+pub(crate) fn block<A: Allocator + Copy>(
+    alloc: A,
+    solver: &mut Solver<A>,
+    order: &[usize],
+    place: usize,
+) -> Result<bool, OutOfMemory> {
+    let mut clause = Vec::new(alloc);
+    deny_before(&mut clause, solver, order, place)?;
+    deny_after(&mut clause, solver, order, place)?;
+    go_back(solver, 0);
+    let open = sort_open(&mut clause, &solver.known.values);
+    let number = short(solver.problem.clauses.arena.len());
+    let clauses = &mut solver.problem.clauses;
+    add_clause(clauses, Cause::Tried, &clause)?;
+    watch_both(&mut clauses.arena, &mut clauses.heads, number);
+    let first = at(
+        &clauses.arena,
+        (number as usize).wrapping_add(LITERALS),
+        TRUE,
+    );
+    if open == 1 {
+        assign(&mut solver.known, first, Ground::Clause(number));
+    }
+    Ok(open > 0)
+}

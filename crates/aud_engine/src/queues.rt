@@ -1,0 +1,698 @@
+//! Queues: which addition is taken, how many are taken and added before, and what was added before is taken before.
+
+use crate::draft::{Cause, Clauses, Role, Variables, add_clause, add_variable, ask};
+use crate::items::{FALSE, NONE, TRUE, at, between, neg, set, short};
+use crate::problem::{Problem, is_large, spend};
+use crate::spans::{Span, before, instant, span_of};
+use crate::sums::{Beside, Sums, add_terms, end_sum, find_beside, sum_ended};
+use aud_event::OutOfMemory;
+use std::alloc::{Allocator, Global};
+
+/// What a transaction does on a queue.
+#[derive(Clone, Copy, PartialEq, Eq)]
+pub(crate) enum Deed {
+    Adds(i64),
+    Takes(i64),
+    SeesEmpty,
+}
+
+/// A deed, with the place of its row among those that touch the queue, and its place in the block.
+#[derive(Clone, Copy)]
+pub(crate) struct Move {
+    pub place: usize,
+    pub number: u32,
+    pub deed: Deed,
+}
+
+/// A take, or that the queue is seen empty, by the number of the take or the place in the block.
+#[derive(Clone, Copy)]
+pub(crate) struct TakeOf {
+    pub row: usize,
+    pub object: u16,
+    pub number: u32,
+}
+
+/// That what is taken is that addition of the row.
+#[derive(Clone, Copy)]
+pub(crate) struct ItemOf {
+    pub take: u32,
+    pub row: usize,
+    pub addition: u32,
+    /// The sum of what is taken and added before.
+    pub sum: u32,
+}
+
+/// That the row's value is taken before, as it was added before the item, or, if that is none, before the queue was empty.
+#[derive(Clone, Copy)]
+pub(crate) struct GoneOf {
+    pub take: TakeOf,
+    pub item: u32,
+    pub row: usize,
+    pub value: i64,
+}
+
+pub(crate) const NO_TAKE: TakeOf = TakeOf {
+    row: 0,
+    object: 0,
+    number: 0,
+};
+
+pub(crate) const NO_ITEM: ItemOf = ItemOf {
+    take: 0,
+    row: 0,
+    addition: 0,
+    sum: NONE,
+};
+
+/// What the clauses of queues are about, by numbers.
+#[derive(Drop)]
+pub(crate) struct Items<A: Allocator + Copy = Global> {
+    pub takes: Vec<TakeOf, A>,
+    pub items: Vec<ItemOf, A>,
+    pub gone: Vec<GoneOf, A>,
+}
+
+impl<A: Allocator + Copy> Items<A> {
+    pub(crate) fn empty(alloc: A) -> Items<A> {
+        Items {
+            takes: Vec::new(alloc),
+            items: Vec::new(alloc),
+            gone: Vec::new(alloc),
+        }
+    }
+}
+
+/// A value that a row adds or takes: the place of the row, and how many of its additions were before.
+#[derive(Clone, Copy, PartialEq, Eq, PartialOrd, Ord)]
+struct Held {
+    value: i64,
+    place: usize,
+    index: u32,
+}
+
+/// A value that a row adds, who may take it, when the first of those ended, and the next one that matters.
+#[derive(Clone, Copy)]
+struct Added {
+    place: usize,
+    value: i64,
+    takers: usize,
+    takers_end: usize,
+    taken: u32,
+    next: usize,
+}
+
+/// What is known of one queue while its clauses are made.
+#[derive(Drop)]
+struct Queue<A: Allocator + Copy = Global> {
+    /// The rows that touch it, and how many each one takes, and less how many it adds, if it may be kept; and both together.
+    rows: Vec<usize, A>,
+    takes: Vec<i64, A>,
+    adds: Vec<i64, A>,
+    both: Vec<i64, A>,
+    /// Who adds and who takes each value.
+    adders: Vec<Held, A>,
+    takers: Vec<Held, A>,
+    added: Vec<Added, A>,
+}
+
+/// The same by what ended before each row.
+#[derive(Drop)]
+struct Ended<A: Allocator + Copy = Global> {
+    takes: Vec<i64, A>,
+    adds: Vec<i64, A>,
+    both: Vec<i64, A>,
+}
+
+const NOT_HELD: Held = Held {
+    value: 0,
+    place: 0,
+    index: 0,
+};
+
+const NOT_ADDED: Added = Added {
+    place: 0,
+    value: 0,
+    takers: 0,
+    takers_end: 0,
+    taken: 0,
+    next: 0,
+};
+
+/// The first place in the order of values whose value is not below, or, if it is to be above, is above that one.
+fn place_of(held: &[Held], value: i64, above: bool) -> usize {
+    let mut low = 0;
+    let mut high = held.len();
+    for _ in 0..64 {
+        if low >= high {
+            break;
+        }
+        let middle = low.midpoint(high);
+        let found = at(held, middle, NOT_HELD).value;
+        if found > value || (found == value && !above) {
+            high = middle;
+        } else {
+            low = middle.saturating_add(1);
+        }
+    }
+    low
+}
+
+/// Adds the amount to the count of the place.
+fn count(counts: &mut [i64], place: usize, amount: i64) {
+    let known = at(counts, place, 0);
+    set(counts, place, known.wrapping_add(amount));
+}
+
+/// Reads who adds what, as which of its own additions.
+fn read_adders<A: Allocator + Copy>(
+    adders: &mut Vec<Held, A>,
+    moves: &[Move],
+) -> Result<(), OutOfMemory> {
+    let mut index: u32 = 0;
+    let mut last = usize::MAX;
+    for found in moves {
+        let place = found.place;
+        if place != last {
+            index = 0;
+            last = place;
+        }
+        if let Deed::Adds(value) = found.deed {
+            adders.push(Held {
+                value,
+                place,
+                index,
+            })?;
+            index = index.wrapping_add(1);
+        }
+    }
+    adders.sort_unstable();
+    Ok(())
+}
+
+/// Reads who takes what, of those that may be kept.
+fn read_takers<A: Allocator + Copy>(
+    takers: &mut Vec<Held, A>,
+    rows: &[usize],
+    spans: &[Span],
+    moves: &[Move],
+) -> Result<(), OutOfMemory> {
+    for found in moves {
+        let place = found.place;
+        if let Deed::Takes(value) = found.deed {
+            if span_of(spans, at(rows, place, 0)).kept != FALSE {
+                let index = 0;
+                takers.push(Held {
+                    value,
+                    place,
+                    index,
+                })?;
+            }
+        }
+    }
+    takers.sort_unstable();
+    Ok(())
+}
+
+/// Counts what each row takes, and less what it adds, if it may be kept.
+fn count_moves(
+    takes: &mut [i64],
+    adds: &mut [i64],
+    rows: &[usize],
+    spans: &[Span],
+    moves: &[Move],
+) {
+    for found in moves {
+        if span_of(spans, at(rows, found.place, 0)).kept != FALSE {
+            match found.deed {
+                Deed::Adds(_) => count(adds, found.place, -1),
+                Deed::Takes(_) => count(takes, found.place, 1),
+                Deed::SeesEmpty => {}
+            }
+        }
+    }
+}
+
+/// When the first of the takers ended.
+fn first_end(takers: &[Held], rows: &[usize], spans: &[Span]) -> u32 {
+    let mut first = NONE;
+    for taker in takers {
+        first = first.min(span_of(spans, at(rows, taker.place, 0)).last);
+    }
+    first
+}
+
+/// Lists the values that are added by those that may be kept, in the order of their rows, behind one that is none. A row's value after
+/// itself counts once.
+fn list_added<A: Allocator + Copy>(
+    queue: &mut Queue<A>,
+    spans: &[Span],
+    moves: &[Move],
+) -> Result<(), OutOfMemory> {
+    let mut last = NOT_ADDED;
+    last.place = usize::MAX;
+    last.next = 1;
+    queue.added.push(last)?;
+    for found in moves {
+        let Deed::Adds(value) = found.deed else {
+            continue;
+        };
+        let row = at(&queue.rows, found.place, 0);
+        let is_same = last.place == found.place && last.value == value;
+        if span_of(spans, row).kept == FALSE || is_same {
+            continue;
+        }
+        let takers = place_of(&queue.takers, value, false);
+        let takers_end = place_of(&queue.takers, value, true);
+        let found_takers = between(&queue.takers, takers, takers_end);
+        last = Added {
+            place: found.place,
+            value,
+            takers,
+            takers_end,
+            taken: first_end(found_takers, &queue.rows, spans),
+            next: queue.added.len().wrapping_add(1),
+        };
+        queue.added.push(last)?;
+    }
+    Ok(())
+}
+
+/// What a row asks of the queue at one of its deeds.
+#[derive(Clone, Copy)]
+struct Asked {
+    take: TakeOf,
+    number: u32,
+    place: usize,
+    taken: i64,
+    added: i64,
+}
+
+/// The clause that the value, which was added before, is taken before.
+fn add_gone<A: Allocator + Copy>(
+    alloc: A,
+    queue: &Queue<A>,
+    variables: &mut Variables<A>,
+    clauses: &mut Clauses<A>,
+    spans: &[Span],
+    asked: Asked,
+    added: Added,
+    ahead: u32,
+    guard: u32,
+    number: u32,
+) -> Result<(), OutOfMemory> {
+    let kept = span_of(spans, at(&queue.rows, added.place, 0)).kept;
+    let mut clause = Vec::new(alloc);
+    clause.push(neg(ahead))?;
+    clause.push(neg(guard))?;
+    clause.push(neg(kept))?;
+    let mut last = usize::MAX;
+    for taker in between(&queue.takers, added.takers, added.takers_end) {
+        if taker.place != asked.place && taker.place != last {
+            last = taker.place;
+            let row = at(&queue.rows, taker.place, 0);
+            clause.push(before(spans, row, asked.take.row))?;
+        }
+    }
+    for literal in clause.iter() {
+        ask(&mut variables.decided, *literal);
+    }
+    add_clause(clauses, Cause::Gone(number), &clause)
+}
+
+/// Whether the row takes the value from the queue. Its moves are given.
+fn takes_value(moves: &[Move], value: i64) -> bool {
+    for found in moves {
+        if found.deed == Deed::Takes(value) {
+            return true;
+        }
+    }
+    false
+}
+
+/// What was added before the item of the row at that place, or before the queue is empty, is taken before. Values that are surely taken
+/// before are let go for all rows that follow.
+fn add_all_gone<A: Allocator + Copy>(
+    alloc: A,
+    queue: &mut Queue<A>,
+    problem: &mut Problem<A>,
+    own: &[Move],
+    asked: Asked,
+    adder: usize,
+    guard: u32,
+    item: u32,
+) -> Result<(), OutOfMemory> {
+    let spans = &problem.spans[..];
+    let began = span_of(spans, asked.take.row).first;
+    let row = at(&queue.rows, adder, 0);
+    let last = span_of(spans, row).last;
+    let count = queue.added.len();
+    let mut known = 0;
+    for _ in 0..count {
+        spend(&mut problem.work, 1);
+        let place = at(&queue.added, known, NOT_ADDED).next;
+        let found = at(&queue.added, place, NOT_ADDED);
+        if place >= count {
+            break;
+        }
+        if found.taken < began {
+            if let Some(before) = queue.added.get_mut(known) {
+                before.next = found.next;
+            }
+            continue;
+        }
+        known = place;
+        let other = at(&queue.rows, found.place, 0);
+        if span_of(spans, other).first > last {
+            break;
+        }
+        let ahead = before(spans, other, row);
+        let is_own = found.place == asked.place || found.place == adder;
+        if is_own || ahead == FALSE || takes_value(own, found.value) {
+            continue;
+        }
+        let number = short(problem.items.gone.len());
+        problem.items.gone.push(GoneOf {
+            take: asked.take,
+            item,
+            row: other,
+            value: found.value,
+        })?;
+        let (variables, clauses) = (&mut problem.variables, &mut problem.clauses);
+        add_gone(
+            alloc, queue, variables, clauses, spans, asked, found, ahead, guard, number,
+        )?;
+    }
+    Ok(())
+}
+
+/// Whether the addition may be what the row at the place takes: neither is it not kept, nor did it begin too late.
+fn may_be_taken(queue_rows: &[usize], spans: &[Span], adder: usize, place: usize) -> bool {
+    let row = at(queue_rows, adder, 0);
+    let taker = at(queue_rows, place, 0);
+    span_of(spans, row).kept != FALSE && before(spans, row, taker) != FALSE
+}
+
+/// The additions that the row may take the value from: first its own ones before, then those of others.
+fn find_items<A: Allocator + Copy>(
+    found: &mut Vec<Held, A>,
+    queue: &Queue<A>,
+    spans: &[Span],
+    own: &[Move],
+    asked: Asked,
+    value: i64,
+) -> Result<(), OutOfMemory> {
+    let mut index: u32 = 0;
+    for known in own {
+        if known.number >= asked.number {
+            break;
+        }
+        if let Deed::Adds(added) = known.deed {
+            if added == value {
+                let place = asked.place;
+                found.push(Held {
+                    value,
+                    place,
+                    index,
+                })?;
+            }
+            index = index.wrapping_add(1);
+        }
+    }
+    let from = place_of(&queue.adders, value, false);
+    let to = place_of(&queue.adders, value, true);
+    for held in between(&queue.adders, from, to) {
+        if held.place != asked.place && may_be_taken(&queue.rows, spans, held.place, asked.place) {
+            found.push(*held)?;
+        }
+    }
+    Ok(())
+}
+
+/// An addition that is taken stands before the taker, is kept, and as many are taken before as were added before it.
+fn add_item<A: Allocator + Copy>(
+    queue: &Queue<A>,
+    ended: &Ended<A>,
+    beside: &Beside<A>,
+    problem: &mut Problem<A>,
+    asked: Asked,
+    held: Held,
+    literal: u32,
+    item: u32,
+) -> Result<(), OutOfMemory> {
+    let spans = &problem.spans[..];
+    let (sums, decided) = (&mut problem.sums, &mut problem.variables.decided);
+    let clauses = &mut problem.clauses;
+    let rows = &queue.rows[..];
+    let (place, adder) = (asked.place, held.place);
+    let from = sums.terms.len();
+    let mut wanted = i64::from(held.index).wrapping_sub(asked.taken);
+    if adder == place {
+        wanted = wanted.wrapping_sub(at(&ended.both, place, 0));
+        add_terms(
+            sums,
+            decided,
+            spans,
+            beside,
+            rows,
+            &queue.both,
+            place,
+            usize::MAX,
+        )?;
+        return end_sum(sums, from, literal, wanted, Cause::Place(item));
+    }
+    let row = at(rows, adder, 0);
+    let stands = before(spans, row, asked.take.row);
+    ask(decided, stands);
+    let cause = Cause::ItemStands(item);
+    add_clause(clauses, cause, &[neg(literal), stands])?;
+    add_clause(clauses, cause, &[neg(literal), span_of(spans, row).kept])?;
+    wanted = wanted.wrapping_sub(at(&ended.takes, place, 0));
+    wanted = wanted.wrapping_sub(at(&ended.adds, adder, 0));
+    add_terms(
+        sums,
+        decided,
+        spans,
+        beside,
+        rows,
+        &queue.takes,
+        place,
+        usize::MAX,
+    )?;
+    add_terms(
+        sums,
+        decided,
+        spans,
+        beside,
+        rows,
+        &queue.adds,
+        adder,
+        place,
+    )?;
+    end_sum(sums, from, literal, wanted, Cause::Place(item))
+}
+
+/// Which of the additions is tried first: the first that took effect before the taker did.
+fn favoured(found: &[Held], queue_rows: &[usize], spans: &[Span], row: usize) -> usize {
+    let own = instant(span_of(spans, row), 15);
+    for (index, held) in found.iter().enumerate() {
+        if instant(span_of(spans, at(queue_rows, held.place, 0)), 15) <= own {
+            return index;
+        }
+    }
+    usize::MAX
+}
+
+/// Adds what a take of the value asks.
+fn add_take<A: Allocator + Copy>(
+    alloc: A,
+    queue: &mut Queue<A>,
+    ended: &Ended<A>,
+    beside: &Beside<A>,
+    problem: &mut Problem<A>,
+    own: &[Move],
+    asked: Asked,
+    value: i64,
+) -> Result<(), OutOfMemory> {
+    let mut found = Vec::new(alloc);
+    spend(&mut problem.work, own.len());
+    find_items(&mut found, queue, &problem.spans, own, asked, value)?;
+    let best = favoured(&found, &queue.rows, &problem.spans, asked.take.row);
+    let take = short(problem.items.takes.len());
+    problem.items.takes.push(asked.take)?;
+    let mut clause = Vec::new(alloc);
+    for (index, held) in found.iter().enumerate() {
+        let row = at(&queue.rows, held.place, 0);
+        let item = short(problem.items.items.len());
+        problem.items.items.push(ItemOf {
+            take,
+            row,
+            addition: held.index,
+            sum: short(problem.sums.sums.len()),
+        })?;
+        let role = Role::Item(item);
+        let literal = add_variable(&mut problem.variables, role, index == best, true)?;
+        clause.push(literal)?;
+        add_item(queue, ended, beside, problem, asked, *held, literal, item)?;
+        add_all_gone(alloc, queue, problem, own, asked, held.place, literal, item)?;
+    }
+    add_clause(&mut problem.clauses, Cause::Items(take), &clause)
+}
+
+/// Adds what it asks that the queue is seen empty.
+fn add_empty<A: Allocator + Copy>(
+    alloc: A,
+    queue: &mut Queue<A>,
+    ended: &Ended<A>,
+    beside: &Beside<A>,
+    problem: &mut Problem<A>,
+    own: &[Move],
+    asked: Asked,
+) -> Result<(), OutOfMemory> {
+    let spans = &problem.spans[..];
+    let (sums, decided) = (&mut problem.sums, &mut problem.variables.decided);
+    let from = sums.terms.len();
+    let place = asked.place;
+    let wanted = asked.added.wrapping_sub(asked.taken);
+    let wanted = wanted.wrapping_sub(at(&ended.both, place, 0));
+    let both = &queue.both[..];
+    add_terms(
+        sums,
+        decided,
+        spans,
+        beside,
+        &queue.rows,
+        both,
+        place,
+        usize::MAX,
+    )?;
+    let cause = Cause::Empty(short(asked.take.row), asked.take.object, asked.number);
+    end_sum(sums, from, TRUE, wanted, cause)?;
+    add_all_gone(alloc, queue, problem, own, asked, place, TRUE, NONE)
+}
+
+/// Adds what the moves of one row ask.
+fn add_row<A: Allocator + Copy>(
+    alloc: A,
+    queue: &mut Queue<A>,
+    ended: &Ended<A>,
+    beside: &Beside<A>,
+    problem: &mut Problem<A>,
+    own: &[Move],
+    object: u16,
+) -> Result<(), OutOfMemory> {
+    let (mut taken, mut added): (i64, i64) = (0, 0);
+    for found in own {
+        if is_large(problem) {
+            break;
+        }
+        let row = at(&queue.rows, found.place, 0);
+        let is_empty = found.deed == Deed::SeesEmpty;
+        let number = if is_empty {
+            found.number
+        } else {
+            (taken & 0xffff_ffff) as u32
+        };
+        let asked = Asked {
+            take: TakeOf {
+                row,
+                object,
+                number,
+            },
+            number: found.number,
+            place: found.place,
+            taken,
+            added,
+        };
+        match found.deed {
+            Deed::Adds(_) => added = added.wrapping_add(1),
+            Deed::Takes(value) => {
+                add_take(alloc, queue, ended, beside, problem, own, asked, value)?;
+                taken = taken.wrapping_add(1);
+            }
+            Deed::SeesEmpty => {
+                add_empty(alloc, queue, ended, beside, problem, own, asked)?;
+            }
+        }
+    }
+    Ok(())
+}
+
+/// The queue of these rows, before its moves are read.
+fn queue_of<A: Allocator + Copy>(alloc: A, rows: Vec<usize, A>) -> Queue<A> {
+    Queue {
+        rows,
+        takes: Vec::new(alloc),
+        adds: Vec::new(alloc),
+        both: Vec::new(alloc),
+        adders: Vec::new(alloc),
+        takers: Vec::new(alloc),
+        added: Vec::new(alloc),
+    }
+}
+
+/// Reads the moves.
+fn read_queue<A: Allocator + Copy>(
+    queue: &mut Queue<A>,
+    spans: &[Span],
+    moves: &[Move],
+) -> Result<(), OutOfMemory> {
+    let count = queue.rows.len();
+    crate::items::fill(&mut queue.takes, count, 0)?;
+    crate::items::fill(&mut queue.adds, count, 0)?;
+    read_adders(&mut queue.adders, moves)?;
+    read_takers(&mut queue.takers, &queue.rows, spans, moves)?;
+    let (takes, adds) = (&mut queue.takes, &mut queue.adds);
+    count_moves(takes, adds, &queue.rows, spans, moves);
+    for place in 0..count {
+        let both = at(&queue.takes, place, 0).wrapping_add(at(&queue.adds, place, 0));
+        queue.both.push(both)?;
+    }
+    list_added(queue, spans, moves)
+}
+
+/// Adds up what ended before each row.
+fn read_ended<A: Allocator + Copy>(
+    ended: &mut Ended<A>,
+    queue: &Queue<A>,
+    beside: &Beside<A>,
+    spans: &[Span],
+) -> Result<(), OutOfMemory> {
+    let (rows, places) = (&queue.rows[..], &beside.ended[..]);
+    sum_ended(&mut ended.takes, places, spans, rows, &queue.takes)?;
+    sum_ended(&mut ended.adds, places, spans, rows, &queue.adds)?;
+    sum_ended(&mut ended.both, places, spans, rows, &queue.both)
+}
+
+/// Adds a queue: the rows that touch it, and their moves in the order of the rows and of their blocks.
+pub(crate) fn add_queue<A: Allocator + Copy>(
+    alloc: A,
+    problem: &mut Problem<A>,
+    beside: &mut Beside<A>,
+    object: u16,
+    rows: Vec<usize, A>,
+    moves: &[Move],
+) -> Result<(), OutOfMemory> {
+    let mut queue = queue_of(alloc, rows);
+    read_queue(&mut queue, &problem.spans, moves)?;
+    find_beside(beside, &problem.spans, &queue.rows)?;
+    let mut ended = Ended {
+        takes: Vec::new(alloc),
+        adds: Vec::new(alloc),
+        both: Vec::new(alloc),
+    };
+    read_ended(&mut ended, &queue, beside, &problem.spans)?;
+    let mut from = 0;
+    for place in 0..moves.len() {
+        let next = place.wrapping_add(1);
+        let is_last = match moves.get(next) {
+            Some(other) => other.place != moves[place].place,
+            None => true,
+        };
+        if is_last {
+            let own = between(moves, from, next);
+            add_row(alloc, &mut queue, &ended, beside, problem, own, object)?;
+            from = next;
+        }
+    }
+    Ok(())
+}

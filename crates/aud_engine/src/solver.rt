@@ -1,0 +1,549 @@
+//! The search for values of all variables.
+
+use crate::analysis::{Analysis, count_levels, learn, make_marks, read_clash};
+use crate::betweens::{judge_kept, judge_pair, judge_source};
+use crate::bounds::{count_terms, judge_waiting, let_wait, wake_guarded};
+use crate::closure::{Closure, close, close_spans, reopen};
+use crate::draft::{LITERALS, Role, append};
+use crate::grounds::{Sight, pair_of};
+use crate::heap::{Heap, insert, make_heap, take_heaviest};
+use crate::items::{NONE, at, between, neg, set, short, var};
+use crate::known::{Clash, Ground, Known, assign, make_room, value};
+use crate::log::{Log, bytes_logged, log_clash, log_end, log_learned, make_log};
+use crate::problem::{Problem, bytes_of};
+use crate::queues::NO_ITEM;
+use crate::reduce::reduce;
+use crate::spans::{Span, instant, span_of};
+use crate::sums::Sums;
+use crate::visits::{follow_clauses, watch_all, watch_both};
+use aud_event::OutOfMemory;
+use std::alloc::{Allocator, Global};
+
+/// After how many conflicts learned clauses are let go.
+const REDUCED: u64 = 3000;
+
+/// A search, as far as it is.
+#[derive(Drop)]
+pub(crate) struct Solver<A: Allocator + Copy = Global> {
+    pub alloc: A,
+    pub problem: Problem<A>,
+    pub known: Known<A>,
+    pub closure: Closure<A>,
+    pub heap: Heap<A>,
+    pub analysis: Analysis<A>,
+    pub log: Log<A>,
+    pub conflicts: u64,
+    /// Literals that are taken to hold for a while.
+    pub assumed: Vec<u32, A>,
+    /// The phases of the longest trail, its length, and whether they are tried.
+    best: Vec<bool, A>,
+    best_count: usize,
+    pub tries_best: bool,
+    reduced: u64,
+}
+
+/// What a search came to.
+#[derive(Clone, Copy, PartialEq, Eq)]
+pub(crate) enum Found {
+    /// All that is decided is assigned.
+    All,
+    /// There is no order.
+    Nothing,
+    /// Nothing yet.
+    Spent,
+    /// Not all that was assumed holds.
+    NotAssumed,
+}
+
+/// A search of the problem, for which no room is made yet.
+pub(crate) fn solver_of<A: Allocator + Copy>(
+    alloc: A,
+    problem: Problem<A>,
+    logs: bool,
+) -> Result<Solver<A>, OutOfMemory> {
+    let closure = close_spans(alloc, &problem.spans)?;
+    Ok(Solver {
+        alloc,
+        problem,
+        known: Known::empty(alloc),
+        closure,
+        heap: Heap::empty(alloc),
+        analysis: Analysis::empty(alloc),
+        log: Log::empty(alloc, logs),
+        conflicts: 0,
+        assumed: Vec::new(alloc),
+        best: Vec::new(alloc),
+        best_count: 0,
+        tries_best: false,
+        reduced: REDUCED,
+    })
+}
+
+/// Makes room for what is known and learned.
+fn make_room_to_learn<A: Allocator + Copy>(
+    solver: &mut Solver<A>,
+    count: usize,
+) -> Result<(), OutOfMemory> {
+    make_heap(&mut solver.heap, count)?;
+    make_marks(&mut solver.analysis, count)?;
+    let causes = solver.problem.clauses.causes.len();
+    make_log(&mut solver.log, count, causes)
+}
+
+/// Makes room.
+fn make_all_room<A: Allocator + Copy>(solver: &mut Solver<A>) -> Result<(), OutOfMemory> {
+    let count = solver.problem.variables.roles.len();
+    make_room(&mut solver.known, count)?;
+    solver.known.looks = solver.problem.work.looks;
+    make_room_to_learn(solver, count)?;
+    watch_all(&mut solver.problem.clauses, count.saturating_mul(2))
+}
+
+/// The stamp of the last event.
+fn last_stamp(spans: &[Span]) -> u32 {
+    let mut last = 0;
+    for span in spans {
+        last = span.until.max(last);
+    }
+    last
+}
+
+/// Tries pairs first as they took effect, the earlier ones first.
+fn weigh_pairs(roles: &[Role], spans: &[Span], phases: &mut [bool], weights: &mut [f64]) {
+    let whole = f64::from(last_stamp(spans)) * 20.0 + 20.0;
+    for variable in 1..roles.len() {
+        if let Role::Pair(row, other) = roles[variable] {
+            let one = instant(span_of(spans, row as usize), 15);
+            let two = instant(span_of(spans, other as usize), 15);
+            set(phases, variable, one < two);
+            let late = f64::from(short(one.max(two) as usize));
+            set(weights, variable, 1.0 - 0.5 * (late / whole));
+        }
+    }
+}
+
+/// What is decided is decided in turn.
+fn insert_all<A: Allocator + Copy>(heap: &mut Heap<A>, decided: &[bool]) {
+    for variable in 1..decided.len() {
+        if decided[variable] {
+            insert(heap, variable);
+        }
+    }
+}
+
+/// Makes room, and decides first what comes first.
+pub(crate) fn prepare<A: Allocator + Copy>(solver: &mut Solver<A>) -> Result<(), OutOfMemory> {
+    make_all_room(solver)?;
+    let variables = &mut solver.problem.variables;
+    let (spans, weights) = (&solver.problem.spans[..], &mut solver.heap.weights);
+    weigh_pairs(&variables.roles, spans, &mut variables.phases, weights);
+    insert_all(&mut solver.heap, &variables.decided);
+    Ok(())
+}
+
+/// Looks at the next literal that holds with all but clauses.
+fn judge_next<A: Allocator + Copy>(
+    problem: &mut Problem<A>,
+    known: &mut Known<A>,
+    closure: &mut Closure<A>,
+) -> Option<Clash> {
+    let literal = at(&known.trail, known.judged, 0);
+    known.judged = known.judged.wrapping_add(1);
+    let count = count_terms(&mut problem.sums, literal, true);
+    known.looks = known.looks.wrapping_add(count as u64);
+    if let Some((row, other)) = pair_of(&problem.variables.roles, literal) {
+        let clash = close(known, closure, &problem.spans, row, other);
+        if clash.is_some() {
+            return clash;
+        }
+        return judge_pair(known, &problem.cells, &problem.spans, row, other);
+    }
+    if literal & 1 == 1 {
+        return None;
+    }
+    match at(&problem.variables.roles, var(literal), Role::Nothing) {
+        Role::Source(source) => judge_source(known, &problem.cells, &problem.spans, source),
+        Role::Kept(row) => judge_kept(known, &problem.cells, &problem.spans, row as usize),
+        Role::Item(item) => {
+            let sum = at(&problem.items.items, item as usize, NO_ITEM).sum;
+            wake_guarded(&mut problem.sums, sum);
+            None
+        }
+        _ => None,
+    }
+}
+
+/// Follows what holds as far as it forces more.
+fn propagate<A: Allocator + Copy>(
+    problem: &mut Problem<A>,
+    known: &mut Known<A>,
+    closure: &mut Closure<A>,
+) -> Option<Clash> {
+    for _ in 0..u64::MAX {
+        let clash = follow_clauses(known, &mut problem.clauses);
+        if clash.is_some() {
+            return clash;
+        }
+        if known.judged < known.count {
+            let clash = judge_next(problem, known, closure);
+            if clash.is_some() {
+                return clash;
+            }
+            continue;
+        }
+        if problem.sums.waiting.is_empty() {
+            return None;
+        }
+        let clash = judge_waiting(known, &mut problem.sums);
+        if clash.is_some() {
+            return clash;
+        }
+    }
+    None
+}
+
+/// The literal is open again.
+fn reopen_literal(values: &mut [i8], phases: &mut [bool], literal: u32) {
+    set(values, literal as usize, 0);
+    set(values, neg(literal) as usize, 0);
+    set(phases, var(literal), literal & 1 == 0);
+}
+
+/// The literal no longer holds.
+fn unassign<A: Allocator + Copy>(
+    problem: &mut Problem<A>,
+    known: &mut Known<A>,
+    closure: &mut Closure<A>,
+    heap: &mut Heap<A>,
+    literal: u32,
+) {
+    if let Some((row, other)) = pair_of(&problem.variables.roles, literal) {
+        reopen(closure, row, other);
+    }
+    reopen_literal(&mut known.values, &mut problem.variables.phases, literal);
+    if at(&problem.variables.decided, var(literal), false) {
+        insert(heap, var(literal));
+    }
+}
+
+/// The literals between those places of the trail hold no longer, as the terms count them.
+fn uncount<A: Allocator + Copy>(sums: &mut Sums<A>, trail: &[u32], from: usize, to: usize) {
+    for literal in between(trail, from, to) {
+        let _count = count_terms(sums, *literal, false);
+    }
+}
+
+/// The literals of the trail from the place on hold no longer.
+fn unassign_from<A: Allocator + Copy>(
+    problem: &mut Problem<A>,
+    known: &mut Known<A>,
+    closure: &mut Closure<A>,
+    heap: &mut Heap<A>,
+    from: usize,
+) {
+    for place in from..known.count {
+        let literal = at(&known.trail, place, 0);
+        unassign(problem, known, closure, heap, literal);
+    }
+    known.count = from;
+    known.seen = from;
+    known.judged = known.judged.min(from);
+}
+
+/// Goes back to the level.
+pub(crate) fn go_back<A: Allocator + Copy>(solver: &mut Solver<A>, level: u32) {
+    if solver.known.levels.len() <= level as usize {
+        return;
+    }
+    let to = at(&solver.known.levels, level as usize, 0);
+    let (problem, known) = (&mut solver.problem, &mut solver.known);
+    uncount(&mut problem.sums, &known.trail, to, known.judged);
+    unassign_from(problem, known, &mut solver.closure, &mut solver.heap, to);
+    known.levels.truncate(level as usize);
+    let_wait(&mut problem.sums);
+}
+
+/// Notes the phases of the first literals of the trail, so many, if none longer was noted.
+fn note_best<A: Allocator + Copy>(solver: &mut Solver<A>, count: usize) -> Result<(), OutOfMemory> {
+    if count <= solver.best_count {
+        return Ok(());
+    }
+    solver.best_count = count;
+    solver.best.clear();
+    solver
+        .best
+        .extend_from_slice(&solver.problem.variables.phases)?;
+    for literal in between(&solver.known.trail, 0, count) {
+        set(&mut solver.best, var(*literal), *literal & 1 == 0);
+    }
+    Ok(())
+}
+
+/// What grounds are read from.
+macro_rules! sight_of {
+    ($solver:expr) => {
+        Sight {
+            values: &$solver.known.values,
+            states: &$solver.known.states,
+            arena: &$solver.problem.clauses.arena,
+            causes: &$solver.problem.clauses.causes,
+            roles: &$solver.problem.variables.roles,
+            spans: &$solver.problem.spans,
+            cells: &$solver.problem.cells,
+            sums: &$solver.problem.sums.sums,
+            terms: &$solver.problem.sums.terms,
+        }
+    };
+}
+
+/// Adds the learned clause, and what it forces.
+fn add_learned<A: Allocator + Copy>(
+    solver: &mut Solver<A>,
+    levels: u32,
+    step: u32,
+) -> Result<(), OutOfMemory> {
+    let clauses = &mut solver.problem.clauses;
+    let clause = append(
+        &mut clauses.arena,
+        &solver.analysis.clause,
+        levels,
+        NONE,
+        step,
+    )?;
+    clauses.learned.push(clause)?;
+    watch_both(&mut clauses.arena, &mut clauses.heads, clause);
+    let first = at(&solver.analysis.clause, 0, 0);
+    assign(&mut solver.known, first, Ground::Clause(clause));
+    Ok(())
+}
+
+/// Notes what the clash needs. Its literals are those that hold and cannot all do.
+fn note_clash<A: Allocator + Copy>(
+    solver: &mut Solver<A>,
+    clash: Clash,
+    is_end: bool,
+) -> Result<(), OutOfMemory> {
+    let sight = sight_of!(solver);
+    let literals = &solver.analysis.todo[..];
+    log_clash(&mut solver.log, &sight, clash, literals)?;
+    if is_end {
+        log_end(
+            &mut solver.log,
+            &sight,
+            &mut solver.analysis.helps,
+            literals,
+        )?;
+    }
+    Ok(())
+}
+
+/// Makes a clause of the clash, whose highest level is given; and gives the level at which the clause forces a literal.
+fn make_clause<A: Allocator + Copy>(solver: &mut Solver<A>, top: u32) -> Result<u32, OutOfMemory> {
+    let sight = sight_of!(solver);
+    let trail = between(&solver.known.trail, 0, solver.known.count);
+    learn(&mut solver.analysis, &mut solver.heap, &sight, trail, top)
+}
+
+/// Writes down what the clause follows from, if that is asked for, and gives the step.
+fn write_clause<A: Allocator + Copy>(solver: &mut Solver<A>) -> Result<u32, OutOfMemory> {
+    if !solver.log.is_on {
+        return Ok(NONE);
+    }
+    let sight = sight_of!(solver);
+    log_learned(&mut solver.log, &sight, &mut solver.analysis)
+}
+
+/// Learns a clause from the clash, whose highest level is given, and goes back to where the clause forces a literal.
+fn learn_clause<A: Allocator + Copy>(solver: &mut Solver<A>, top: u32) -> Result<(), OutOfMemory> {
+    let level = make_clause(solver, top)?;
+    let levels = count_levels(&mut solver.analysis, &solver.known.states);
+    let step = write_clause(solver)?;
+    go_back(solver, level);
+    add_learned(solver, levels, step)
+}
+
+/// Lets go of learned clauses, if it is time.
+fn let_go<A: Allocator + Copy>(solver: &mut Solver<A>) -> Result<(), OutOfMemory> {
+    if solver.conflicts >= solver.reduced {
+        reduce(solver.alloc, &mut solver.problem.clauses, &mut solver.known)?;
+        solver.reduced = solver.conflicts.saturating_add(REDUCED);
+    }
+    Ok(())
+}
+
+/// Reads what the clash needs, and notes it, if that is asked for or is the end. The highest level of it is given.
+fn read_top<A: Allocator + Copy>(solver: &mut Solver<A>, clash: Clash) -> Result<u32, OutOfMemory> {
+    let sight = sight_of!(solver);
+    let top = read_clash(&mut solver.analysis, &sight, clash)?;
+    if solver.log.is_on || (top == 0 && solver.problem.clauses.learned.is_empty()) {
+        note_clash(solver, clash, top == 0)?;
+    }
+    Ok(top)
+}
+
+/// Learns from the clash, and goes back. None where the search goes on.
+fn resolve<A: Allocator + Copy>(
+    solver: &mut Solver<A>,
+    clash: Clash,
+) -> Result<Option<Found>, OutOfMemory> {
+    solver.conflicts = solver.conflicts.wrapping_add(1);
+    let last = solver.known.levels.len().wrapping_sub(1);
+    let begun = at(&solver.known.levels, last, 0);
+    note_best(solver, begun)?;
+    let top = read_top(solver, clash)?;
+    if top == 0 {
+        return Ok(Some(Found::Nothing));
+    }
+    if top == 1 && !solver.assumed.is_empty() {
+        go_back(solver, 0);
+        return Ok(Some(Found::NotAssumed));
+    }
+    go_back(solver, top);
+    learn_clause(solver, top)?;
+    solver.heap.step /= 0.95;
+    let_go(solver)?;
+    Ok(None)
+}
+
+/// Takes the literal to hold, if it is open. False where that cannot be.
+fn assume_one<A: Allocator + Copy>(solver: &mut Solver<A>, literal: u32) -> bool {
+    if value(&solver.known.values, literal) != 0 {
+        return true;
+    }
+    assign(&mut solver.known, literal, Ground::Choice);
+    propagate(&mut solver.problem, &mut solver.known, &mut solver.closure).is_none()
+}
+
+/// Takes the assumed literals to hold, at a level of their own. False where they cannot all.
+fn assume<A: Allocator + Copy>(solver: &mut Solver<A>) -> Result<bool, OutOfMemory> {
+    solver.known.levels.push(solver.known.count)?;
+    for place in 0..solver.assumed.len() {
+        let literal = at(&solver.assumed, place, 0);
+        if !assume_one(solver, literal) {
+            return Ok(false);
+        }
+    }
+    Ok(true)
+}
+
+/// Which of the variable's literals is tried first.
+fn first_literal<A: Allocator + Copy>(solver: &Solver<A>, variable: u32) -> u32 {
+    let phases = if solver.tries_best && solver.best_count > 0 {
+        &solver.best[..]
+    } else {
+        &solver.problem.variables.phases[..]
+    };
+    let literal = variable.wrapping_mul(2);
+    if at(phases, variable as usize, false) {
+        literal
+    } else {
+        neg(literal)
+    }
+}
+
+/// Decides the next variable. False where none is left.
+fn decide<A: Allocator + Copy>(solver: &mut Solver<A>) -> Result<bool, OutOfMemory> {
+    for _ in 0..solver.known.values.len() {
+        let Some(variable) = take_heaviest(&mut solver.heap) else {
+            return Ok(false);
+        };
+        if value(&solver.known.values, variable.wrapping_mul(2)) == 0 {
+            let literal = first_literal(solver, variable);
+            solver.known.levels.push(solver.known.count)?;
+            assign(&mut solver.known, literal, Ground::Choice);
+            return Ok(true);
+        }
+    }
+    Ok(false)
+}
+
+/// The clauses of one literal hold. The first that cannot is given.
+fn begin_clauses<A: Allocator + Copy>(solver: &mut Solver<A>) -> Option<Clash> {
+    let mut place: usize = 0;
+    for _ in 0..solver.problem.clauses.arena.len() {
+        if place >= solver.problem.clauses.arena.len() {
+            break;
+        }
+        let length = at(&solver.problem.clauses.arena, place, 0);
+        let literal = at(
+            &solver.problem.clauses.arena,
+            place.wrapping_add(LITERALS),
+            0,
+        );
+        let clause = short(place);
+        let known = value(&solver.known.values, literal);
+        if length == 0 || (length == 1 && known == -1) {
+            return Some(Clash::Clause(clause));
+        }
+        if length == 1 && known == 0 {
+            assign(&mut solver.known, literal, Ground::Clause(clause));
+        }
+        place = place.wrapping_add(LITERALS).wrapping_add(length as usize);
+    }
+    propagate(&mut solver.problem, &mut solver.known, &mut solver.closure)
+}
+
+/// Follows what holds in any case. False where that cannot be.
+pub(crate) fn begin<A: Allocator + Copy>(solver: &mut Solver<A>) -> Result<bool, OutOfMemory> {
+    let Some(clash) = begin_clauses(solver) else {
+        return Ok(true);
+    };
+    let sight = sight_of!(solver);
+    read_clash(&mut solver.analysis, &sight, clash)?;
+    note_clash(solver, clash, true)?;
+    Ok(false)
+}
+
+/// How far a search may go.
+#[derive(Clone, Copy)]
+pub(crate) struct Bounds {
+    pub conflicts: u64,
+    pub looks: u64,
+    pub bytes: usize,
+}
+
+/// How many bytes the search takes, about.
+pub(crate) fn bytes_held<A: Allocator + Copy>(solver: &Solver<A>) -> usize {
+    bytes_of(&solver.problem).saturating_add(bytes_logged(&solver.log.steps))
+}
+
+/// Whether the search is past its bounds.
+fn is_spent<A: Allocator + Copy>(solver: &Solver<A>, bounds: Bounds) -> bool {
+    solver.conflicts >= bounds.conflicts
+        || solver.known.looks >= bounds.looks
+        || bytes_held(solver) > bounds.bytes
+}
+
+/// Searches within the bounds.
+pub(crate) fn search<A: Allocator + Copy>(
+    solver: &mut Solver<A>,
+    bounds: Bounds,
+) -> Result<Found, OutOfMemory> {
+    for _ in 0..u64::MAX {
+        let clash = propagate(&mut solver.problem, &mut solver.known, &mut solver.closure);
+        if let Some(clash) = clash {
+            if let Some(found) = resolve(solver, clash)? {
+                return Ok(found);
+            }
+            continue;
+        }
+        if is_spent(solver, bounds) {
+            let count = solver.known.count;
+            note_best(solver, count)?;
+            go_back(solver, 0);
+            return Ok(Found::Spent);
+        }
+        if solver.known.levels.is_empty() && !solver.assumed.is_empty() {
+            if !assume(solver)? {
+                solver.conflicts = solver.conflicts.wrapping_add(1);
+                go_back(solver, 0);
+                return Ok(Found::NotAssumed);
+            }
+            continue;
+        }
+        if !decide(solver)? {
+            return Ok(Found::All);
+        }
+    }
+    Ok(Found::Spent)
+}

@@ -1,0 +1,279 @@
+//! Sums: of those that stand before one, each changes a count, and what that sees is the sum.
+
+use crate::draft::{Cause, Variables, ask};
+use crate::items::{FALSE, NONE, TRUE, at, fill, set, short, var};
+use crate::spans::{Span, before, span_of};
+use aud_event::OutOfMemory;
+use std::alloc::{Allocator, Global};
+
+/// What is added if both literals hold.
+#[derive(Clone, Copy)]
+pub(crate) struct Term {
+    pub sum: u32,
+    pub gain: i64,
+    pub literals: [u32; 2],
+    /// How many of the literals are known to hold, and to fail.
+    pub holding: u8,
+    pub failing: u8,
+}
+
+/// If the guard holds, the terms sum up to what is wanted.
+#[derive(Clone, Copy)]
+pub(crate) struct Sum {
+    pub cause: Cause,
+    pub guard: u32,
+    pub from: usize,
+    pub to: usize,
+    pub wanted: i64,
+    /// The bounds of the sum by what is known, and the greatest part of it.
+    pub low: i64,
+    pub high: i64,
+    pub most: i64,
+    /// Whether it waits to be looked at.
+    pub waits: bool,
+}
+
+pub(crate) const NO_TERM: Term = Term {
+    sum: NONE,
+    gain: 0,
+    literals: [FALSE, FALSE],
+    holding: 0,
+    failing: 0,
+};
+
+pub(crate) const NO_SUM: Sum = Sum {
+    cause: Cause::Tried,
+    guard: FALSE,
+    from: 0,
+    to: 0,
+    wanted: 0,
+    low: 0,
+    high: 0,
+    most: 0,
+    waits: false,
+};
+
+/// The sums with their terms.
+#[derive(Drop)]
+pub(crate) struct Sums<A: Allocator + Copy = Global> {
+    pub sums: Vec<Sum, A>,
+    pub terms: Vec<Term, A>,
+    /// The terms of each variable, as twice their number, and one more where it is the opposite; and where those of each begin.
+    pub uses: Vec<u32, A>,
+    pub starts: Vec<usize, A>,
+    /// The sums that wait.
+    pub waiting: Vec<u32, A>,
+}
+
+impl<A: Allocator + Copy> Sums<A> {
+    pub(crate) fn empty(alloc: A) -> Sums<A> {
+        Sums {
+            sums: Vec::new(alloc),
+            terms: Vec::new(alloc),
+            uses: Vec::new(alloc),
+            starts: Vec::new(alloc),
+            waiting: Vec::new(alloc),
+        }
+    }
+}
+
+/// For the rows that touch one object, in their order: which of them ran beside each one, and after which each one had ended.
+#[derive(Drop)]
+pub(crate) struct Beside<A: Allocator + Copy = Global> {
+    pub starts: Vec<usize, A>,
+    pub others: Vec<usize, A>,
+    /// The first of the rows that began after it ended.
+    pub ended: Vec<usize, A>,
+    active: Vec<usize, A>,
+}
+
+impl<A: Allocator + Copy> Beside<A> {
+    pub(crate) fn empty(alloc: A) -> Beside<A> {
+        Beside {
+            starts: Vec::new(alloc),
+            others: Vec::new(alloc),
+            ended: Vec::new(alloc),
+            active: Vec::new(alloc),
+        }
+    }
+}
+
+/// Leaves those active that had not ended before the row began, and notes of the others that they had.
+fn let_end(
+    active: &mut [usize],
+    ended: &mut [usize],
+    rows: &[usize],
+    spans: &[Span],
+    place: usize,
+) -> usize {
+    let began = span_of(spans, at(rows, place, 0)).first;
+    let mut kept: usize = 0;
+    for index in 0..active.len() {
+        let other = active[index];
+        if span_of(spans, at(rows, other, 0)).last < began {
+            set(ended, other, place);
+        } else {
+            set(active, kept, other);
+            kept = kept.wrapping_add(1);
+        }
+    }
+    kept
+}
+
+/// Finds which of the rows ran beside which.
+pub(crate) fn find_beside<A: Allocator + Copy>(
+    beside: &mut Beside<A>,
+    spans: &[Span],
+    rows: &[usize],
+) -> Result<(), OutOfMemory> {
+    beside.starts.clear();
+    beside.others.clear();
+    beside.ended.clear();
+    beside.active.clear();
+    fill(&mut beside.ended, rows.len(), rows.len())?;
+    for place in 0..rows.len() {
+        let kept = let_end(&mut beside.active, &mut beside.ended, rows, spans, place);
+        beside.active.truncate(kept);
+        beside.starts.push(beside.others.len())?;
+        beside.others.extend_from_slice(&beside.active)?;
+        let end = span_of(spans, rows[place]).end;
+        for later in place.wrapping_add(1)..rows.len() {
+            if rows[later] >= end {
+                break;
+            }
+            beside.others.push(later)?;
+        }
+        beside.active.push(place)?;
+    }
+    beside.starts.push(beside.others.len())?;
+    Ok(())
+}
+
+/// Adds what each of the rows gains that is kept to the place after which it had ended.
+fn add_gains(sums: &mut [i64], ended: &[usize], spans: &[Span], rows: &[usize], gains: &[i64]) {
+    for place in 0..rows.len() {
+        if span_of(spans, rows[place]).kept == TRUE {
+            let first = at(ended, place, 0);
+            let known = at(sums, first, 0);
+            set(sums, first, known.wrapping_add(at(gains, place, 0)));
+        }
+    }
+}
+
+/// Adds to each number all before it.
+fn sum_up(sums: &mut [i64]) {
+    let mut sum: i64 = 0;
+    for place in 0..sums.len() {
+        sum = sum.wrapping_add(sums[place]);
+        sums[place] = sum;
+    }
+}
+
+/// For each of the rows what those add up to that had ended before it began and are kept.
+pub(crate) fn sum_ended<A: Allocator + Copy>(
+    sums: &mut Vec<i64, A>,
+    ended: &[usize],
+    spans: &[Span],
+    rows: &[usize],
+    gains: &[i64],
+) -> Result<(), OutOfMemory> {
+    sums.clear();
+    fill(sums, rows.len().wrapping_add(1), 0)?;
+    add_gains(sums, ended, spans, rows, gains);
+    sum_up(sums);
+    Ok(())
+}
+
+/// Adds a term to the sum that is being made: the row stands before the other one, and is kept.
+pub(crate) fn add_term<A: Allocator + Copy>(
+    terms: &mut Vec<Term, A>,
+    decided: &mut [bool],
+    spans: &[Span],
+    sum: u32,
+    gain: i64,
+    row: usize,
+    other: usize,
+) -> Result<(), OutOfMemory> {
+    let kept = span_of(spans, row).kept;
+    let stands = before(spans, row, other);
+    if gain == 0 || kept == FALSE || stands == FALSE {
+        return Ok(());
+    }
+    ask(decided, stands);
+    terms.push(Term {
+        sum,
+        gain,
+        literals: [stands, kept],
+        holding: u8::from(stands == TRUE).wrapping_add(u8::from(kept == TRUE)),
+        failing: 0,
+    })?;
+    Ok(())
+}
+
+/// Adds the terms of those that ran beside the row of that place, but for the one that is skipped.
+pub(crate) fn add_terms<A: Allocator + Copy>(
+    sums: &mut Sums<A>,
+    decided: &mut [bool],
+    spans: &[Span],
+    beside: &Beside<A>,
+    rows: &[usize],
+    gains: &[i64],
+    place: usize,
+    skipped: usize,
+) -> Result<(), OutOfMemory> {
+    let number = short(sums.sums.len());
+    let row = at(rows, place, 0);
+    for other in others_of(&beside.starts, &beside.others, place) {
+        if *other != skipped {
+            let (gain, from) = (at(gains, *other, 0), at(rows, *other, 0));
+            add_term(&mut sums.terms, decided, spans, number, gain, from, row)?;
+        }
+    }
+    Ok(())
+}
+
+/// Those that ran beside the row of that place.
+pub(crate) fn others_of<'a>(starts: &[usize], others: &'a [usize], place: usize) -> &'a [usize] {
+    let from = at(starts, place, 0);
+    crate::items::between(others, from, at(starts, place.wrapping_add(1), 0))
+}
+
+/// The greatest sum of amounts that is counted here. The trial of an order still asks for the others.
+const GREATEST: i64 = 1_099_511_627_776;
+
+/// Ends the sum of the terms from the place on. Where it cannot be reached, the bounds say so.
+pub(crate) fn end_sum<A: Allocator + Copy>(
+    sums: &mut Sums<A>,
+    from: usize,
+    guard: u32,
+    wanted: i64,
+    cause: Cause,
+) -> Result<(), OutOfMemory> {
+    let (mut low, mut high, mut most): (i64, i64, i64) = (0, 0, 1);
+    for term in crate::items::between(&sums.terms, from, sums.terms.len()) {
+        most = most.max(term.gain.saturating_abs());
+        if term.gain > 0 {
+            high = high.saturating_add(term.gain);
+        } else {
+            low = low.saturating_add(term.gain);
+        }
+    }
+    if high > GREATEST || low < -GREATEST || wanted == i64::MAX {
+        sums.terms.truncate(from);
+        return Ok(());
+    }
+    sums.waiting.push(short(sums.sums.len()))?;
+    let to = sums.terms.len();
+    sums.sums.push(Sum {
+        cause,
+        guard,
+        from,
+        to,
+        wanted,
+        low,
+        high,
+        most,
+        waits: true,
+    })?;
+    Ok(())
+}

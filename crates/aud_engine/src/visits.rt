@@ -1,0 +1,161 @@
+//! Clauses that a literal fails in: two literals of each clause are watched that do not fail, as long as there are two.
+
+use crate::draft::{Clauses, LENGTH, LINK, LITERALS};
+use crate::items::{NONE, at, fill, neg, set};
+use crate::known::{Clash, Ground, Known, assign, value};
+use aud_event::OutOfMemory;
+use std::alloc::Allocator;
+
+/// Puts the clause at the front of those that watch the literal, which is its first or second.
+fn watch(arena: &mut [u32], heads: &mut [u32], clause: u32, side: usize, literal: u32) {
+    let place = (clause as usize).wrapping_add(LINK).wrapping_add(side);
+    set(arena, place, at(heads, literal as usize, NONE));
+    set(heads, literal as usize, clause);
+}
+
+/// The first two literals of the clause are watched, if it has two.
+pub(crate) fn watch_both(arena: &mut [u32], heads: &mut [u32], clause: u32) {
+    let place = clause as usize;
+    if at(arena, place, 0) < 2 {
+        return;
+    }
+    let first = at(arena, place.wrapping_add(LITERALS), 0);
+    let second = at(arena, place.wrapping_add(LITERALS + 1), 0);
+    watch(arena, heads, clause, 0, first);
+    watch(arena, heads, clause, 1, second);
+}
+
+/// Watches all clauses anew, by their first two literals.
+pub(crate) fn watch_all<A: Allocator + Copy>(
+    clauses: &mut Clauses<A>,
+    count: usize,
+) -> Result<(), OutOfMemory> {
+    clauses.heads.clear();
+    fill(&mut clauses.heads, count, NONE)?;
+    let mut place: usize = 0;
+    for _ in 0..clauses.arena.len() {
+        if place >= clauses.arena.len() {
+            break;
+        }
+        let length = at(&clauses.arena, place.wrapping_add(LENGTH), 0) as usize;
+        let clause = crate::items::short(place);
+        watch_both(&mut clauses.arena, &mut clauses.heads, clause);
+        place = place.wrapping_add(LITERALS).wrapping_add(length);
+    }
+    Ok(())
+}
+
+/// The place of a literal of the clause behind the first two that does not fail, or 0.
+fn find_other(values: &[i8], arena: &[u32], place: usize) -> usize {
+    let length = at(arena, place, 0) as usize;
+    let from = place.wrapping_add(LITERALS);
+    for found in from.wrapping_add(2)..from.wrapping_add(length) {
+        if value(values, at(arena, found, 0)) != -1 {
+            return found;
+        }
+    }
+    0
+}
+
+/// What becomes of a clause that watches a literal which fails: another one is watched, or the only other one is given, which has to
+/// hold. It stays in the list if no other is watched.
+fn visit(
+    values: &[i8],
+    arena: &mut [u32],
+    heads: &mut [u32],
+    clause: u32,
+    failing: u32,
+) -> Option<u32> {
+    let place = clause as usize;
+    let first = place.wrapping_add(LITERALS);
+    let side = usize::from(at(arena, first, 0) != failing);
+    let other = at(arena, first.wrapping_add(1).wrapping_sub(side), 0);
+    if value(values, other) != 1 {
+        let found = find_other(values, arena, place);
+        if found != 0 {
+            let literal = at(arena, found, 0);
+            set(arena, first.wrapping_add(side), literal);
+            set(arena, found, failing);
+            watch(arena, heads, clause, side, literal);
+            return None;
+        }
+    }
+    watch(arena, heads, clause, side, failing);
+    Some(other)
+}
+
+/// The next clause that watches the literal.
+fn next_of(arena: &[u32], clause: u32, failing: u32) -> u32 {
+    let first = (clause as usize).wrapping_add(LITERALS);
+    let side = usize::from(at(arena, first, 0) != failing);
+    at(
+        arena,
+        (clause as usize).wrapping_add(LINK).wrapping_add(side),
+        NONE,
+    )
+}
+
+/// The clause goes on watching the literal.
+fn keep(arena: &mut [u32], heads: &mut [u32], clause: u32, failing: u32) {
+    let first = at(arena, (clause as usize).wrapping_add(LITERALS), 0);
+    let side = usize::from(first != failing);
+    watch(arena, heads, clause, side, failing);
+}
+
+/// Looks at the clauses in which a literal fails, as its opposite holds. Where a clause fails the rest is not looked at.
+fn visit_all<A: Allocator + Copy>(
+    known: &mut Known<A>,
+    clauses: &mut Clauses<A>,
+    failing: u32,
+) -> Option<Clash> {
+    let mut next = at(&clauses.heads, failing as usize, NONE);
+    set(&mut clauses.heads, failing as usize, NONE);
+    let mut clash = None;
+    for _ in 0..clauses.arena.len() {
+        if next == NONE {
+            break;
+        }
+        let clause = next;
+        next = next_of(&clauses.arena, clause, failing);
+        known.looks = known.looks.wrapping_add(1);
+        if clash.is_some() {
+            keep(&mut clauses.arena, &mut clauses.heads, clause, failing);
+            continue;
+        }
+        let forced = visit(
+            &known.values,
+            &mut clauses.arena,
+            &mut clauses.heads,
+            clause,
+            failing,
+        );
+        let Some(other) = forced else {
+            continue;
+        };
+        match value(&known.values, other) {
+            0 => assign(known, other, Ground::Clause(clause)),
+            1 => {}
+            _ => clash = Some(Clash::Clause(clause)),
+        }
+    }
+    clash
+}
+
+/// Follows the clauses from all literals that they have not seen.
+pub(crate) fn follow_clauses<A: Allocator + Copy>(
+    known: &mut Known<A>,
+    clauses: &mut Clauses<A>,
+) -> Option<Clash> {
+    for _ in known.seen..known.trail.len() {
+        if known.seen >= known.count {
+            break;
+        }
+        let literal = at(&known.trail, known.seen, 0);
+        known.seen = known.seen.wrapping_add(1);
+        let clash = visit_all(known, clauses, neg(literal));
+        if clash.is_some() {
+            return clash;
+        }
+    }
+    None
+}
