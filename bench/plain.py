@@ -584,16 +584,13 @@ def certificate_at(lines):
 
 
 NEEDS = {"kids": set(), "silent": {"d"}, "same": {"as"}}
-# the words that may stand where the header names the second rules
-LATER = {"ahead": set(), "first": {"d"}}
 
 
-def certificate_line(line, has_rules):
+def certificate_line(line):
     """The line's prefix, and by what it is refuted: (by, prefix, its further order)."""
     value = value_of(line, 65536)
     by, faults, orders = value.get("by"), [], {}
-    words = {**NEEDS, **LATER} if has_rules else NEEDS
-    needs = words.get(by) if isinstance(by, str) else None
+    needs = NEEDS.get(by) if isinstance(by, str) else None
     must = {"by", "p"} | (needs or set())
     if not must <= value.keys():
         faults.append(4)
@@ -623,13 +620,11 @@ def read_certificate(lines, after):
     found = []
     try:
         value = value_of(header, 4096)
-        has_keys(value, {"cert"}, {"rules"})
+        has_keys(value, {"cert"}, set())
         if not (is_whole(value["cert"]) and value["cert"] >= 0):
             raise Fault(6)
-        if "rules" in value and not (is_whole(value["rules"]) and value["rules"] == 2):
-            raise Fault(6)
         for at, line in lines[1 : value["cert"] + 1]:
-            found.append(certificate_line(line, "rules" in value))
+            found.append(certificate_line(line))
         if len(found) < value["cert"]:
             at = after
             raise Fault(4)
@@ -651,20 +646,10 @@ def accepts(history, earlier, line):
         return len(where[0]) < len(history.table) and all(kid in earlier for kid in kids)
     if by == "same":
         return other in earlier and history.walk(other)[0] == where
-    if by == "ahead":
-        return history.search(where, set()) is None
     (tx, fate) = other[0]
     block = history.table.get(tx)
     longer = (*prefix, other[0])
-    if by == "first":
-        return fate == "c" and not history.walk(longer)[1] and longer in earlier and history.search(where, set()) is None
     return block is not None and block.silent() == fate and not history.walk(longer)[1] and longer in earlier
-
-
-def may_miss(data):
-    """Whether the certificate has lines of which the program may fail to see that they hold."""
-    lines, after = lines_of(data)
-    return any(by in LATER for by, _, _ in read_certificate(lines[certificate_at(lines) :], after))
 
 
 def is_accepted(history, certificate):

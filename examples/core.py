@@ -10,8 +10,9 @@ run is not, for the reason that the core has.
 The core is printed as a table in the order of its stamps. Transactions and objects keep their names; stamps, places and logs are numbered anew,
 and the table has the old numbers beside the new ones. The core goes to the file OUT, as a run that opaq reads.
 
-A question that takes opaq more than N expanded beginnings of orders (10,000) is given up, and the part stays. When opaq was asked about more
-than M records in all (1,500,000, less than a minute) no more is left out. Where that happened it is said: the core may not be a smallest one.
+A question that takes opaq more than N expanded beginnings of orders (10,000) is asked again as one for a refutation. One that takes more than
+20 seconds then, or where N is 0, is given up, and the part stays. When opaq was asked about more than M records in all (1,500,000, mostly less than a
+minute) no more is left out. Where that happened it is said: the core may not be a smallest one.
 
 Where opaq gives up on the whole run, each object is tried alone: one that is not opaque shows that the run is not.
 
@@ -32,6 +33,7 @@ COUNTING = {"inc": 1, "dec": -1}
 OPENING_MOST = 1 << 62
 CUT_FIRST = 20_000
 SOON = 3_000
+SECONDS = 20
 NEVER = float("inf")
 TABLE_MOST = 500
 TRIED_FIRST = ("counter", "queue", "set", "map", "register")
@@ -282,6 +284,14 @@ def without_early(part, thing, start):
     return without_calls(part, stamps)
 
 
+def answer(program, budget, text):
+    """What opaq answers of a text in bytes within the budget, or else by clauses: its exit status, and its line."""
+    status, line = recorded.ask(program, ["decide", "--budget", str(budget)], text)
+    if status == UNFINISHED and budget > 0:
+        status, line = recorded.ask(program, ["refute"], text, SECONDS) or (UNFINISHED, line)
+    return status, line.split("\n", 1)[0]
+
+
 class Search:
     """The least part that was found not to be opaque, and how often opaq was asked."""
 
@@ -300,7 +310,7 @@ class Search:
         if self.left < 0:
             return False
         self.asked += 1
-        status, line = recorded.ask(self.program, ["decide", "--budget", str(self.budget)], part.text().encode())
+        status, line = answer(self.program, self.budget, part.text().encode())
         if status not in (OPAQUE, NOT_OPAQUE, UNFINISHED):
             fail(FAILED, f"a part of the run: {line}")
         self.given_up += status == UNFINISHED
@@ -461,7 +471,7 @@ def main(words):
     try:
         with open(name, "rb") as file:
             text = file.read()
-        status, line = recorded.ask(program, ["decide", "--budget", str(min(budget, SOON))], text)
+        status, line = answer(program, min(budget, SOON), text)
         if status in (OPAQUE, REFUSED):
             print(line)
             return status
@@ -470,7 +480,7 @@ def main(words):
         run = recorded.read(text.decode())
         search = core_of(program, budget, most, run, status == NOT_OPAQUE)
         if not search.has_found:
-            status, line = recorded.ask(program, ["decide", "--budget", str(budget)], text)
+            status, line = answer(program, budget, text)
             if status in (OPAQUE, UNFINISHED):
                 print(line)
                 return status

@@ -116,9 +116,12 @@ def spelled(value):
     return value if isinstance(value, str) else json.dumps(value)
 
 
-def ask(program, words, text):
-    """What opaq answers of a text in bytes: its exit status, and its line."""
-    answer = subprocess.run([program, *words], input=text, stdout=subprocess.PIPE, stderr=subprocess.PIPE)
+def ask(program, words, text, seconds=None):
+    """What opaq answers of a text in bytes: its exit status, and its line; or None where it takes longer than so many seconds."""
+    try:
+        answer = subprocess.run([program, *words], input=text, stdout=subprocess.PIPE, stderr=subprocess.PIPE, timeout=seconds)
+    except subprocess.TimeoutExpired:
+        return None
     return answer.returncode, (answer.stdout or answer.stderr).decode().rstrip("\n")
 
 

@@ -1,29 +1,23 @@
 -- Lines in memory of another kind are accepted alike.
 use Rattle.std.specs.Prelude.{◌≡◌, ◌↔◌, List, [], ◌∷◌, ◌++◌, map, refl}
-use Rattle.std.specs.List.{All}
 use Rattle.std.proofs.Common.{sym, ap, subst}
-use Rattle.std.proofs.lemmas.List.Elements.{All-nil, All-cons, All-head, All-tail}
 use Rattle.aud_event.specs.Meanings.{Declared}
 use Rattle.aud_history.specs.Histories.{History}
 use Rattle.aud_witness.specs.declared.decision.Decision.{Decision}
 use Rattle.aud_accept.specs.declared.cert.CertLine.{CertLine}
-use Rattle.aud_accept.specs.declared.cert.CertLine.TheVariants.{Kids, Silent, Same, Ahead, First}
-use Rattle.aud_accept.specs.Acceptance.{elsewhere, prefix_in, IsPlain, IsAcceptedLine, AreAccepted, EndsEmpty, IsAccepted}
+use Rattle.aud_accept.specs.declared.cert.CertLine.TheVariants.{Kids, Silent, Same}
+use Rattle.aud_accept.specs.Acceptance.{elsewhere, prefix_in, IsAcceptedLine, AreAccepted, EndsEmpty, IsAccepted}
 
 module _ {X : Type 0} (Y : Type 0) (objects : List Declared) (h : History) where
   same-prefix : (line : CertLine X) → prefix_in (elsewhere {Y = Y} line) ≡ prefix_in line
   same-prefix (Kids p) = refl
   same-prefix (Silent p d) = refl
   same-prefix (Same p q) = refl
-  same-prefix (Ahead p) = refl
-  same-prefix (First p d) = refl
 
   same-line : (earlier : List (List Decision)) (line : CertLine X) → IsAcceptedLine objects h earlier (elsewhere {Y = Y} line) ↔ IsAcceptedLine objects h earlier line
   same-line earlier (Kids p) = ((λ a. record { good = a.good; rests = a.rests }), λ a. record { good = a.good; rests = a.rests })
   same-line earlier (Silent p d) = ((λ a. record { good = a.good; rests = a.rests }), λ a. record { good = a.good; rests = a.rests })
   same-line earlier (Same p q) = ((λ a. record { good = a.good; rests = a.rests }), λ a. record { good = a.good; rests = a.rests })
-  same-line earlier (Ahead p) = ((λ a. record { good = a.good; rests = a.rests }), λ a. record { good = a.good; rests = a.rests })
-  same-line earlier (First p d) = ((λ a. record { good = a.good; rests = a.rests }), λ a. record { good = a.good; rests = a.rests })
 
   same-lines : (earlier : List (List Decision)) (lines : List (CertLine X)) → AreAccepted objects h earlier (map (elsewhere {Y = Y}) lines) ↔ AreAccepted objects h earlier lines
   same-lines earlier [] = ((λ a. a), λ a. a)
@@ -43,17 +37,3 @@ module _ {X : Type 0} (Y : Type 0) (objects : List Declared) (h : History) where
     (λ a. record { each = (same-lines [] lines).0 a.each; last = subst EndsEmpty (same-prefixes lines) a.last }),
     λ a. record { each = (same-lines [] lines).1 a.each; last = subst EndsEmpty (sym (same-prefixes lines)) a.last },
   )
-
--- and are of the first rules alike
-plain-line : {X : Type 0} (Y : Type 0) (line : CertLine X) → IsPlain (elsewhere {Y = Y} line) → IsPlain line
-plain-line Y (Kids p) plain = plain
-plain-line Y (Silent p d) plain = plain
-plain-line Y (Same p q) plain = plain
-plain-line Y (Ahead p) plain = plain
-plain-line Y (First p d) plain = plain
-
-pub plain-elsewhere : {X : Type 0} (Y : Type 0) (lines : List (CertLine X)) → All IsPlain (map (elsewhere {Y = Y}) lines) → All IsPlain lines
-plain-elsewhere Y [] all = All-nil IsPlain
-plain-elsewhere Y (line ∷ lines) all =
-    let rest : List (CertLine Y) = map (elsewhere {Y = Y}) lines in
-    All-cons IsPlain line lines (plain-line Y line (All-head IsPlain (elsewhere line) rest all)) (plain-elsewhere Y lines (All-tail IsPlain (elsewhere line) rest all))

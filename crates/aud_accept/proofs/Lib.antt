@@ -3,4 +3,3 @@ pub mod Ends
 pub mod Kids
 pub mod Lines
 pub mod Refutes
-mod Found

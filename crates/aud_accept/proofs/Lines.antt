@@ -3,15 +3,15 @@ use Rattle.std.specs.Prelude.{◌≡◌, ◌↔◌, ◌⊎◌, ℕ, ◌+◌, ◌
 use Rattle.std.specs.List.{Contains}
 use Rattle.std.proofs.Common.{sym, ◌∙◌, ap, subst, inl, inr, arith, get_or, drop}
 use Rattle.std.proofs.lemmas.List.{drop_more, drop_all}
-use Rattle.std.proofs.lemmas.List.Elements.{Contains-push, Contains-push_cases, Contains-append_left, All-get_or}
+use Rattle.std.proofs.lemmas.List.Elements.{Contains-push, Contains-push_cases, Contains-append_left}
 use Rattle.aud_event.specs.Meanings.{Declared}
 use Rattle.aud_history.specs.Histories.{History}
 use Rattle.aud_witness.specs.declared.decision.Decision.{Decision}
 use Rattle.aud_witness.specs.Orders.{IsGood}
 use Rattle.aud_order.specs.Shapes.{ShapeOf, objects_of, history_of}
 use Rattle.aud_accept.specs.declared.cert.CertLine.{CertLine}
-use Rattle.aud_accept.specs.declared.cert.CertLine.TheVariants.{Kids, Silent, Same, Ahead, First}
-use Rattle.aud_accept.specs.Acceptance.{prefix_in, Rests, IsPlain, IsAcceptedLine, AreAccepted, EndsEmpty, JudgesLine, JudgesLines}
+use Rattle.aud_accept.specs.declared.cert.CertLine.TheVariants.{Kids, Silent, Same}
+use Rattle.aud_accept.specs.Acceptance.{prefix_in, Rests, IsAcceptedLine, AreAccepted, EndsEmpty, JudgesLine, JudgesLines}
 
 pub good-at : (shape other : ShapeOf) (p : List Decision) → other ≡ shape → IsGood (objects_of shape) (history_of shape) p → IsGood (objects_of other) (history_of other) p
 good-at shape other p same good = subst (λ (s : ShapeOf). IsGood (objects_of s) (history_of s) p) (sym same) good
@@ -23,8 +23,6 @@ module _ {X : Type 0} (objects : List Declared) (h : History) where
   rests-moved seen earlier (Kids p) more has = record { unfull = has.unfull; kids = λ d next. more (p ++ d ∷ []) (has.kids d next) }
   rests-moved seen earlier (Silent p d) more has = record { silent = has.silent; good = has.good; line = more (p ++ d ∷ []) has.line }
   rests-moved seen earlier (Same p q) more has = record { line = more q has.line; alike = has.alike }
-  rests-moved seen earlier (Ahead p) more has = has
-  rests-moved seen earlier (First p d) more has = record { commits = has.commits; enough = has.enough; good = has.good; line = more (p ++ d ∷ []) has.line }
 
   line-moved : (seen earlier : List (List Decision)) (line : CertLine X) → ((p : List Decision) → Contains seen p → Contains earlier p) → IsAcceptedLine objects h seen line → IsAcceptedLine objects h earlier line
   line-moved seen earlier line more accepted = record { good = accepted.good; rests = rests-moved seen earlier line more accepted.rests }
@@ -75,10 +73,9 @@ module _ {X : Type 0} (objects : List Declared) (h : History) where
       JudgesLine objects h seen line b → b ≡ false → JudgesLines objects h lines false
   passed-bad lines count line seen b was inside here reported fails = (
     (λ e. absurd (cc)),
-    λ plain accepted.
+    λ accepted.
         let both = subst (AreAccepted objects h was.earlier) left (was.rest.0 accepted.each) in
-        let own : IsPlain line = subst IsPlain (sym here) (All-get_or IsPlain lines count line inside plain) in
-        let clash : b ≡ true = reported.1 own (line-moved was.earlier seen line (λ p there. (was.reports p).1 there) both.0) in absurd (cc),
+        let clash : b ≡ true = reported.1 (line-moved was.earlier seen line (λ p there. (was.reports p).1 there) both.0) in absurd (cc),
   )
     where
       left : drop count lines ≡ line ∷ drop (count + 1) lines
@@ -87,5 +84,5 @@ module _ {X : Type 0} (objects : List Declared) (h : History) where
   pub passed-all : (lines : List (CertLine X)) (count : ℕ) (seen : List (List Decision)) → Passed lines count seen → length lines ≤ count → EndsEmpty (map prefix_in lines) → JudgesLines objects h lines true
   passed-all lines count seen was past last = (
     (λ e. record { each = was.rest.1 (subst (AreAccepted objects h was.earlier) (sym (drop_all count lines past)) tt); last = last }),
-    λ plain accepted. refl,
+    λ accepted. refl,
   )

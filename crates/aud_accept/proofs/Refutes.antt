@@ -9,20 +9,14 @@ use Rattle.aud_history.specs.Histories.{History}
 use Rattle.aud_history.specs.WellFormed.{IsWellFormed}
 use Rattle.aud_history.specs.FirstFault.{IsWithinLimits}
 use Rattle.aud_witness.specs.declared.decision.Decision.{Decision}
-use Rattle.aud_witness.specs.declared.decision.Fate.{Fate}
-use Rattle.aud_witness.specs.declared.decision.Fate.TheVariants.{C}
-use Rattle.aud_witness.specs.Orders.{IsGood, IsGoodNext, Refuted}
+use Rattle.aud_witness.specs.Orders.{IsGood, Refuted}
 use Rattle.aud_witness.specs.Laws.{ShowsIsFullAndGood}
 use Rattle.aud_order.specs.Moves.{without, SilentMovesForward, SpotsDecide}
 use Rattle.aud_accept.proofs.Kids.{refuted-by_kids}
 use Rattle.aud_accept.specs.declared.cert.CertLine.{CertLine}
-use Rattle.aud_accept.specs.declared.cert.CertLine.TheVariants.{Kids, Silent, Same, Ahead, First}
+use Rattle.aud_accept.specs.declared.cert.CertLine.TheVariants.{Kids, Silent, Same}
 use Rattle.aud_accept.specs.Acceptance.{prefix_in, Rests, AreAccepted, IsAccepted, JudgesLines}
 use Rattle.aud_accept.specs.Laws.{AcceptedIsRefuted}
-
--- a decision is its transaction with its fate
-decision-with : (d : Decision) (f : Fate) → d.fate ≡ f → d ≡ record { tx = d.tx; fate = f }
-decision-with d f same = λ i. record { tx = d.tx; fate = same i }
 
 module _ (goods-law : ShowsIsFullAndGood) (silent-law : SilentMovesForward) (spots-law : SpotsDecide)
     (plan : PlanOf) (h : History) (fine : IsWellFormed h) (within : IsWithinLimits plan h) where
@@ -41,10 +35,6 @@ module _ (goods-law : ShowsIsFullAndGood) (silent-law : SilentMovesForward) (spo
       λ q shown. dead (p ++ d ∷ []) has.line (without d.tx q) (silent-law plan h p q d fine within has.silent has.good shown)
   rests-refuted earlier (Same p q) goods dead good has =
       λ rest shown. dead q has.line rest (spots-law plan h p q rest fine within good (goods q has.line) has.alike.placed has.alike.states shown)
-  rests-refuted earlier (Ahead p) goods dead good has = has
-  rests-refuted earlier (First p d) goods dead good has =
-      let same : d ≡ record { tx = d.tx; fate = C } = decision-with d C has.commits in
-      has.enough (subst (IsGoodNext plan.objects h p) same has.good) (subst (λ (e : Decision). Refuted plan.objects h (p ++ e ∷ [])) same (dead (p ++ d ∷ []) has.line))
 
   lines-refuted : {X : Type 0} (lines : List (CertLine X)) (earlier : List (List Decision)) → AreGood earlier → AreRefuted earlier → AreAccepted plan.objects h earlier lines →
       AreRefuted (earlier ++ map prefix_in lines)

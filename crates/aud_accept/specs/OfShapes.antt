@@ -1,23 +1,10 @@
 -- The words of acceptance over the objects and the history of one shape.
 use Rattle.std.specs.Prelude.{◌≡◌, Bool, List}
 use Rattle.aud_witness.specs.declared.decision.Decision.{Decision}
-use Rattle.aud_witness.specs.declared.decision.Fate.TheVariants.{C}
-use Rattle.aud_witness.specs.Orders.{IsGoodNext}
-use Rattle.aud_order.specs.Cursors.{CursorOf}
 use Rattle.aud_order.specs.Shapes.{ShapeOf, objects_of, history_of}
-use Rattle.aud_first.specs.Exchanges.{IsEnough}
 use Rattle.aud_accept.specs.declared.cert.CertLine.{CertLine}
-use Rattle.aud_accept.specs.declared.cert.CertLine.TheVariants.{Kids, Silent, Same, Ahead, First}
-use Rattle.aud_accept.specs.Acceptance.{HasFirst, IsAcceptedLine, JudgesLine}
-
-abbrev pub HasFirstFor : ShapeOf → List (List Decision) → List Decision → Decision → Type 0
-HasFirstFor s earlier p d = HasFirst (objects_of s) (history_of s) earlier p d
-
--- the decision commits a transaction that is good after the cursor's prefix, and enough there
-pub record IsSeenEnough (c : CursorOf) (d : Decision) : Type 0 where
-  pub commits : d.fate ≡ C
-  pub enough : IsEnough c d.tx
-  pub good : IsGoodNext (objects_of c.shape) (history_of c.shape) c.path d
+use Rattle.aud_accept.specs.declared.cert.CertLine.TheVariants.{Kids, Silent, Same}
+use Rattle.aud_accept.specs.Acceptance.{IsAcceptedLine, JudgesLine}
 
 abbrev pub JudgesLineFor : {X : Type 0} → ShapeOf → List (List Decision) → CertLine X → Bool → Type 0
 JudgesLineFor s earlier line told = JudgesLine (objects_of s) (history_of s) earlier line told
@@ -30,5 +17,3 @@ abbrev pub StaysAtKids : {X : Type 0} → CertLine X → List Decision → Type 
 StaysAtKids (Kids p) path = path ≡ p
 StaysAtKids (Silent _ _) path = Unit {0}
 StaysAtKids (Same _ _) path = Unit {0}
-StaysAtKids (Ahead _) path = Unit {0}
-StaysAtKids (First _ _) path = Unit {0}

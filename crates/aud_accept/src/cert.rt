@@ -16,11 +16,6 @@ pub enum CertLine<A: Allocator = Global> {
     Silent(Prefix<A>, Decision),
     /// An earlier line refutes the second prefix, which places the same transactions and leaves the same states.
     Same(Prefix<A>, Prefix<A>),
-    /// The look ahead refutes the prefix: some transaction can never be right any more.
-    Ahead(Prefix<A>),
-    /// The decision commits a transaction that may be placed at once: nobody who could stand before it can tell. It is good after the
-    /// prefix, and an earlier line refutes where it leads.
-    First(Prefix<A>, Decision),
 }
 
 impl<A: Allocator> CertLine<A> {
@@ -32,25 +27,12 @@ impl<A: Allocator> CertLine<A> {
             CertLine::Kids(prefix) => prefix,
             CertLine::Silent(prefix, _) => prefix,
             CertLine::Same(prefix, _) => prefix,
-            CertLine::Ahead(prefix) => prefix,
-            CertLine::First(prefix, _) => prefix,
         }
     }
 }
 
-/// What the lines of a certificate may rest on.
-#[derive(Debug, Clone, Copy, PartialEq, Eq)]
-pub enum Rules {
-    /// Kids, silent transactions and the same place.
-    One,
-    /// The look ahead and choices that are enough, too.
-    Two,
-}
-
-/// Lines that refute prefixes, each by those before it; the last refutes the empty prefix. Whether it is accepted does not depend on the
-/// rules that it names: they say how it is written.
+/// Lines that refute prefixes, each by those before it; the last refutes the empty prefix.
 #[derive(Debug, Drop)]
 pub struct Cert<A: Allocator = Global> {
-    pub rules: Rules,
     pub lines: Vec<CertLine<A>, A>,
 }

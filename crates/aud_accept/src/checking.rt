@@ -1,82 +1,20 @@
 //! Whether a certificate is accepted.
 
 ghost use Rattle.std.specs.Prelude.{◌≡◌, ◌↔◌, [], map, IfOk, IfSome, OnOk, IsTrue};
-ghost use Rattle.aud_witness.specs.declared.decision.Fate.{Fate as FateOf};
 ghost use Rattle.aud_witness.specs.Orders.{Refuted};
 ghost use Rattle.aud_order.specs.Shapes.{objects_of, history_of};
 ghost use Rattle.aud_earlier.specs.OfShapes.{AreGoodFor};
 ghost use Rattle.aud_earlier.specs.Landings.{IsLandingOf};
 ghost use Rattle.aud_accept.specs.Acceptance.{prefix_in, EndsEmpty, JudgesLines};
-ghost use Rattle.aud_accept.specs.OfShapes.{HasFirstFor, IsSeenEnough, JudgesLineFor, StaysAtKids};
+ghost use Rattle.aud_accept.specs.OfShapes.{JudgesLineFor, StaysAtKids};
 
 use crate::cert::{Cert, CertLine};
 use crate::laws::accepted_is_refuted;
-use crate::lookout::Lookout;
 use aud_earlier::{Earlier, Landing, go_to, has_kids, has_same, has_silent};
 use aud_event::OutOfMemory;
 use aud_order::{Cursor, Shape};
-use aud_witness::{Decision, Fate};
 use bumpalo::Bump;
 use std::alloc::Allocator;
-
-/// Whether the transaction commits by the decision.
-fn commits(decision: Decision) -> bool
-    ensures { IsTrue result → decision.fate ≡ FateOf.C }
-{
-    match decision.fate {
-        Fate::C => true,
-        Fate::A => false,
-    }
-}
-
-/// Whether the decision commits a transaction that is seen to be enough after the prefix, and is good there.
-fn is_good_and_enough<A: Allocator + Copy>(
-    shape: &Shape<A>,
-    cursor: &mut Cursor<A>,
-    lookout: &mut Lookout<A>,
-    decision: Decision,
-) -> Result<bool, OutOfMemory>
-    requires shape { cursor.old.shape ≡ shape.now }
-    requires lookout { lookout.old ≡ shape.now }
-    ensures seen { IfOk result (λ seen. IsTrue seen → IsSeenEnough cursor.old decision) }
-    ensures shape { OnOk result (cursor.new.shape ≡ cursor.old.shape) }
-    ensures lookout { lookout.new ≡ lookout.old }
-{
-    if !commits(decision) {
-        return Ok(false);
-    }
-    let Some(place) = shape.table().place(decision.tx) else {
-        return Ok(false);
-    };
-    if !lookout.is_enough(cursor, place)? {
-        return Ok(false);
-    }
-    let pushed = cursor.push(decision)?;
-    Ok(pushed.is_good())
-}
-
-/// Whether the decision commits a transaction that is seen to be enough after the prefix, is good there, and leads to the prefix of an
-/// earlier line.
-fn has_first<'c, A: Allocator + Copy>(
-    shape: &Shape<A>,
-    cursor: &mut Cursor<A>,
-    lookout: &mut Lookout<A>,
-    earlier: &Earlier<'c, A>,
-    prefix: &'c [Decision],
-    decision: Decision,
-) -> Result<bool, OutOfMemory>
-    requires path { cursor.old.path ≡ prefix.now }
-    requires shape { cursor.old.shape ≡ shape.now }
-    requires lookout { lookout.old ≡ shape.now }
-    ensures accepted { IfOk result (λ has. IsTrue has → HasFirstFor shape.now earlier.now.prefixes prefix.now decision) }
-    ensures shape { OnOk result (cursor.new.shape ≡ cursor.old.shape) }
-    ensures lookout { lookout.new ≡ lookout.old }
-{
-    if !earlier.has_after(prefix, decision) {
-        return Ok(false);
-    }
-    is_good_and_enough(shape, cursor, lookout, decision)
-}
 
 /// Whether the line is accepted after those whose prefixes are the earlier ones. The cursors may stand anywhere; each goes on
 /// from what its prefix and the next have in common.
@@ -85,17 +23,14 @@ fn accepts<'c, A: Allocator + Copy, B: Allocator>(
     shape: &Shape<A>,
     cursor: &mut Cursor<A>,
     other: &mut Cursor<A>,
-    lookout: &mut Lookout<A>,
     earlier: &Earlier<'c, A>,
     line: &'c CertLine<B>,
 ) -> Result<bool, OutOfMemory>
     requires cursor { cursor.old.shape ≡ shape.now }
-    requires lookout { lookout.old ≡ shape.now }
     requires other { other.old.shape ≡ shape.now }
     requires earlier { earlier.now.shape ≡ shape.now }
     requires good { AreGoodFor shape.now earlier.now.prefixes }
     ensures judged { IfOk result (JudgesLineFor shape.now earlier.now.prefixes line.now) }
-    ensures lookout { lookout.new ≡ lookout.old }
     ensures cursor { OnOk result (cursor.new.shape ≡ shape.now) }
     ensures there { IfOk result (λ good. IsTrue good → StaysAtKids line.now cursor.new.path) }
     ensures other { OnOk result (other.new.shape ≡ shape.now) }
@@ -109,15 +44,6 @@ fn accepts<'c, A: Allocator + Copy, B: Allocator>(
             has_silent(shape, cursor, earlier, prefix.decisions(), *decision)
         }
         CertLine::Same(_, prefix) => has_same(cursor, other, earlier, prefix.decisions()),
-        CertLine::Ahead(_) => lookout.sees_doom(cursor),
-        CertLine::First(prefix, decision) => has_first(
-            shape,
-            cursor,
-            lookout,
-            earlier,
-            prefix.decisions(),
-            *decision,
-        ),
     }
 }
 
@@ -131,10 +57,7 @@ fn landing_of<A: Allocator + Copy, B: Allocator>(
 {
     match line {
         CertLine::Kids(_) => Landing::of(cursor),
-        CertLine::Silent(_, _)
-        | CertLine::Same(_, _)
-        | CertLine::Ahead(_)
-        | CertLine::First(_, _) => None,
+        CertLine::Silent(_, _) | CertLine::Same(_, _) => None,
     }
 }
 
@@ -148,26 +71,24 @@ fn is_last_empty<A: Allocator>(lines: &[CertLine<A>]) -> bool
     }
 }
 
-/// Whether each of the lines, of which the last has an empty prefix, is seen to be accepted after those before it.
+/// Whether each of the lines, of which the last has an empty prefix, is accepted after those before it.
 fn are_accepted<'c, A: Allocator + Copy, B: Allocator>(
     alloc: A,
     shape: &Shape<A>,
     cursor: &mut Cursor<A>,
     other: &mut Cursor<A>,
-    lookout: &mut Lookout<A>,
     earlier: &mut Earlier<'c, A>,
     lines: &'c [CertLine<B>],
 ) -> Result<bool, OutOfMemory>
     requires cursor { cursor.old.shape ≡ shape.now }
     requires other { other.old.shape ≡ shape.now }
-    requires lookout { lookout.old ≡ shape.now }
     requires earlier { earlier.old.shape ≡ shape.now }
     requires none { earlier.old.prefixes ≡ [] }
     requires last { EndsEmpty (map prefix_in lines.now) }
     ensures { IfOk result (JudgesLines (objects_of shape.now) (history_of shape.now) lines.now) }
 {
     for line in lines {
-        if !accepts(alloc, shape, cursor, other, lookout, earlier, line)? {
+        if !accepts(alloc, shape, cursor, other, earlier, line)? {
             return Ok(false);
         }
         let landing = landing_of(cursor, line);
@@ -189,21 +110,12 @@ fn are_accepted_from_none<A: Allocator + Copy, B: Allocator>(
     requires last { EndsEmpty (map prefix_in lines.now) }
     ensures { IfOk result (JudgesLines (objects_of shape.now) (history_of shape.now) lines.now) }
 {
-    let mut lookout = Lookout::new(alloc, shape);
     let lists = Bump::new(alloc);
     let mut earlier = Earlier::none(alloc, shape, &lists);
-    are_accepted(
-        alloc,
-        shape,
-        cursor,
-        other,
-        &mut lookout,
-        &mut earlier,
-        lines,
-    )
+    are_accepted(alloc, shape, cursor, other, &mut earlier, lines)
 }
 
-/// Whether the certificate has lines, each is seen to be accepted after those before it, and the last refutes the empty prefix.
+/// Whether the certificate has lines, each is accepted after those before it, and the last refutes the empty prefix.
 fn is_accepted<A: Allocator + Copy, B: Allocator>(
     alloc: A,
     shape: &Shape<A>,
@@ -221,9 +133,6 @@ fn is_accepted<A: Allocator + Copy, B: Allocator>(
 
 /// Whether the certificate is accepted: it has lines, each is accepted after those before it, and the last refutes the empty
 /// prefix. Nothing in it is trusted, and where it is accepted no order shows the history.
-///
-/// A line by the look ahead or by a choice that is enough is accepted where this is seen; the checker looks as the search does, at
-/// some transactions and not at all. Where no line is so, the answer is exact.
 ///
 /// A line costs the blocks of what its prefix has not in common with the line's before it, and a look-up for each prefix that it
 /// rests on. The memory is in proportion to the certificate.

@@ -4,8 +4,6 @@
 mod cert;
 mod checking;
 pub mod laws;
-mod lookout;
 
-pub use cert::{Cert, CertLine, Rules};
+pub use cert::{Cert, CertLine};
 pub use checking::check_cert;
-pub use lookout::Lookout;

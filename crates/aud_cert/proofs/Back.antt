@@ -1,7 +1,7 @@
 -- What is written of a certificate is read again.
 use Rattle.std.proofs.Common.{◌≡◌, ◌<◌, ◌≤◌, ◌+◌, ◌-◌, ℕ, suc, List, [], ◌∷◌, ◌++◌, true, map, length, nat_le, nat_lt, codes, flat_map, decimal, Some, Ok, refl, ap, ◌∙◌, sym, arith, append_assoc, length-append}
 use Rattle.std.specs.List.{All}
-use Rattle.std.proofs.lemmas.Fmt.{length-decimal-le, decimal_digit}
+use Rattle.std.proofs.lemmas.Fmt.{length-decimal-le}
 use Rattle.std.proofs.lemmas.List.Elements.{All-head, All-tail}
 use Rattle.json.specs.Print.{escape_byte, escape}
 use Rattle.json.proofs.Printed.Decimals.{IsNumber-decimal}
@@ -16,13 +16,10 @@ use Rattle.aud_text.specs.Orders.{order_text, decision_text, order_read}
 use Rattle.aud_text.proofs.JsonText.{json_of-text}
 use Rattle.aud_text.proofs.OrderText.{reads_back}
 use Rattle.aud_text.proofs.Spelling.{IsPlain, plain_reads, quoted_then}
-use Rattle.aud_accept.specs.declared.cert.CertLine.TheVariants.{Kids, Silent, Same, Ahead, First}
-use Rattle.aud_accept.specs.declared.cert.Rules.{Rules}
-use Rattle.aud_accept.specs.declared.cert.Rules.TheVariants as rules
-use Rattle.aud_accept.specs.Acceptance.{IsOf}
+use Rattle.aud_accept.specs.declared.cert.CertLine.TheVariants.{Kids, Silent, Same}
 use Rattle.aud_cert.specs.LineText.{Line, line_read, line_judged}
-use Rattle.aud_cert.specs.CertText.{header_members, header_read, lines_read, headed, lines_headed, with_line, cert_read, rules_or_one, rules_headed, rules_read}
-use Rattle.aud_cert.specs.Written.{line_text, rules_text, header_text, ended, cert_text, IsShort, HasShort, IsWithin}
+use Rattle.aud_cert.specs.CertText.{header_members, header_read, lines_read, headed, lines_headed, with_line, cert_read}
+use Rattle.aud_cert.specs.Written.{line_text, header_text, ended, cert_text, IsShort, HasShort, IsWithin}
 use Rattle.aud_cert.proofs.Bytes.{plain-escape, order-plain}
 use Rattle.aud_cert.proofs.LineBytes.{line-are_text, header-are_text, text-utf8, first-of}
 use Rattle.aud_cert.specs.Limits.{longest_cert_line}
@@ -33,29 +30,19 @@ abbrev line_data : Line → Data
 line_data (Kids p) = object (member (codes "by") (string (codes "kids")) (member (codes "p") (string (order_text p)) no_members))
 line_data (Silent p d) = object (member (codes "by") (string (codes "silent")) (member (codes "d") (string (decision_text d)) (member (codes "p") (string (order_text p)) no_members)))
 line_data (Same p q) = object (member (codes "as") (string (order_text q)) (member (codes "by") (string (codes "same")) (member (codes "p") (string (order_text p)) no_members)))
-line_data (Ahead p) = object (member (codes "by") (string (codes "ahead")) (member (codes "p") (string (order_text p)) no_members))
-line_data (First p d) = object (member (codes "by") (string (codes "first")) (member (codes "d") (string (decision_text d)) (member (codes "p") (string (order_text p)) no_members)))
 
-abbrev header_data : Rules → ℕ → Data
-header_data rules.One n = object (member (codes "cert") (number (unsigned n)) no_members)
-header_data rules.Two n = object (member (codes "cert") (number (unsigned n)) (member (codes "rules") (number (unsigned 2)) no_members))
+abbrev header_data : ℕ → Data
+header_data n = object (member (codes "cert") (number (unsigned n)) no_members)
 
 line-plain : (line : Line) → IsPlain 1 (line_data line)
 line-plain (Kids p) = record { same = refl; numbers = (tt, (tt, tt)); flat = omega arith }
 line-plain (Silent p d) = record { same = refl; numbers = (tt, (tt, (tt, tt))); flat = omega arith }
 line-plain (Same p q) = record { same = refl; numbers = (tt, (tt, (tt, tt))); flat = omega arith }
-line-plain (Ahead p) = record { same = refl; numbers = (tt, (tt, tt)); flat = omega arith }
-line-plain (First p d) = record { same = refl; numbers = (tt, (tt, (tt, tt))); flat = omega arith }
 
-header-plain : (r : Rules) (n : ℕ) → n < 9223372036854775808 → IsPlain 1 (header_data r n)
-header-plain rules.One n h = record {
+header-plain : (n : ℕ) → n < 9223372036854775808 → IsPlain 1 (header_data n)
+header-plain n h = record {
   same = let own = number_of-decimal n (omega arith) in rw own refl;
   numbers = (IsNumber-decimal n (omega arith), tt);
-  flat = omega arith;
-}
-header-plain rules.Two n h = record {
-  same = let own = number_of-decimal n (omega arith) in let two = number_of-decimal 2 (omega arith) in rw (own, two) refl;
-  numbers = (IsNumber-decimal n (omega arith), (IsNumber-decimal 2 (omega arith), tt));
   flat = omega arith;
 }
 
@@ -73,61 +60,46 @@ line-is (Silent p d) short =
 line-is (Same p q) short =
     ap (λ l. codes "{\"as\":" ++ l) (quoted_then (order_text q) _ (short-plain q short.1))
     ∙ ap (λ l. codes "{\"as\":\"" ++ (order_text q ++ (codes "\",\"by\":\"same\",\"p\":" ++ l))) (quoted_then (order_text p) (125 ∷ []) (short-plain p short.0))
-line-is (Ahead p) short = ap (λ l. codes "{\"by\":\"ahead\",\"p\":" ++ l) (quoted_then (order_text p) (125 ∷ []) (short-plain p short))
-line-is (First p d) short =
-    ap (λ l. codes "{\"by\":\"first\",\"d\":" ++ l) (quoted_then (decision_text d) _ (short-plain (d ∷ []) short.1))
-    ∙ ap (λ l. codes "{\"by\":\"first\",\"d\":\"" ++ (decision_text d ++ (codes "\",\"p\":" ++ l))) (quoted_then (order_text p) (125 ∷ []) (short-plain p short.0))
 
-header-is : (r : Rules) (n : ℕ) → compact_text (header_data r n) ≡ header_text r n
+header-is : (n : ℕ) → compact_text (header_data n) ≡ header_text n
 unfolding escape_byte
-header-is rules.One n = refl
-header-is rules.Two n = ap (λ t. codes "{\"cert\":" ++ (decimal n ++ (codes ",\"rules\":" ++ (t ++ codes "}")))) (decimal_digit 2 (omega arith))
+header-is n = refl
 
 -- ---- the values are judged as the lines
 
 read-short : (p : List Decision) → IsShort p → order_read (order_text p) ≡ Ok p
 read-short p short = reads_back p short.ids short.text
 
-judged : (r : Rules) (line : Line) → IsOf r line → HasShort line → line_judged r (line_data line) ≡ Ok line
-judged r (Kids p) of short = rw (read-short p short) refl
-judged r (Silent p d) of short = rw (read-short p short.0, read-short (d ∷ []) short.1) refl
-judged r (Same p q) of short = rw (read-short p short.0, read-short q short.1) refl
-judged rules.One (Ahead p) of short = absurd of
-judged rules.One (First p d) of short = absurd of
-judged rules.Two (Ahead p) of short = rw (read-short p short) refl
-judged rules.Two (First p d) of short = rw (read-short p short.0, read-short (d ∷ []) short.1) refl
+judged : (line : Line) → HasShort line → line_judged (line_data line) ≡ Ok line
+judged (Kids p) short = rw (read-short p short) refl
+judged (Silent p d) short = rw (read-short p short.0, read-short (d ∷ []) short.1) refl
+judged (Same p q) short = rw (read-short p short.0, read-short q short.1) refl
 
 -- ---- the lines are read
 
-end-short : (r : Rules) → length (rules_text r) ≤ 11
-end-short rules.One = omega arith
-end-short rules.Two = omega arith
-
-header-short : (r : Rules) (n : ℕ) → n < 9223372036854775808 → nat_le (length (header_text r n)) longest_cert_line ≡ true
-header-short r n h =
+header-short : (n : ℕ) → n < 9223372036854775808 → nat_le (length (header_text n)) longest_cert_line ≡ true
+header-short n h =
     let digits = length-decimal-le 20 n (omega arith) (omega arith) (omega arith) in
-    let end = end-short r in
-    let parts : length (header_text r n) ≡ 8 + (length (decimal n) + length (rules_text r)) = omega (arith, length-append (decimal n) (rules_text r)) in
-    grind (arith, digits, end, parts)
+    let parts : length (header_text n) ≡ 8 + (length (decimal n) + 1) = omega (arith, length-append (decimal n) (codes "}")) in
+    grind (arith, digits, parts)
 
-pub line-back : (r : Rules) (line : Line) → IsOf r line → IsWithin line → line_read r (line_text line) ≡ Ok line
-line-back r line of within =
+pub line-back : (line : Line) → IsWithin line → line_read (line_text line) ≡ Ok line
+line-back line within =
     let t : nat_le (length (line_text line)) longest_cert_line ≡ true = grind (arith, within.text) in
     let utf8 = text-utf8 (line_text line) (line-are_text line within.orders) in
     let same : read (line_text line) ≡ Some (line_data line) = ap read (sym (line-is line within.orders)) ∙ plain_reads (line_data line) (line-plain line) in
-    rw (t, json_of-text (line_text line) utf8, same) (judged r line of within.orders)
+    rw (t, json_of-text (line_text line) utf8, same) (judged line within.orders)
 
-header-judged : (r : Rules) (n : ℕ) → nat_lt n 9223372036854775808 ≡ true → header_members (header_data r n) (as_object (header_data r n)) ≡ Ok (record { count = n; rules = r })
-header-judged rules.One n fits = rw fits refl
-header-judged rules.Two n fits = rw fits refl
+header-judged : (n : ℕ) → nat_lt n 9223372036854775808 ≡ true → header_members (header_data n) (as_object (header_data n)) ≡ Ok n
+header-judged n fits = rw fits refl
 
-header-back : (r : Rules) (n : ℕ) → n < 9223372036854775808 → header_read (header_text r n) ≡ Ok (record { count = n; rules = r })
-header-back r n small =
-    let t : nat_le (length (header_text r n)) longest_cert_line ≡ true = header-short r n small in
-    let utf8 = text-utf8 (header_text r n) (header-are_text r n small) in
-    let same : read (header_text r n) ≡ Some (header_data r n) = ap read (sym (header-is r n)) ∙ plain_reads (header_data r n) (header-plain r n small) in
+header-back : (n : ℕ) → n < 9223372036854775808 → header_read (header_text n) ≡ Ok n
+header-back n small =
+    let t : nat_le (length (header_text n)) longest_cert_line ≡ true = header-short n small in
+    let utf8 = text-utf8 (header_text n) (header-are_text n small) in
+    let same : read (header_text n) ≡ Some (header_data n) = ap read (sym (header-is n)) ∙ plain_reads (header_data n) (header-plain n small) in
     let fits : nat_lt n 9223372036854775808 ≡ true = grind (arith, small) in
-    rw (t, json_of-text (header_text r n) utf8, same) (header-judged r n fits)
+    rw (t, json_of-text (header_text n) utf8, same) (header-judged n fits)
 
 -- ---- the text
 
@@ -144,31 +116,26 @@ first-filled : (line : Line) (all n before : ℕ) (ls : List (List ℕ)) → (f 
 first-filled (Kids p) all n before ls = (_, (refl, refl))
 first-filled (Silent p d) all n before ls = (_, (refl, refl))
 first-filled (Same p q) all n before ls = (_, (refl, refl))
-first-filled (Ahead p) all n before ls = (_, (refl, refl))
-first-filled (First p d) all n before ls = (_, (refl, refl))
 
-lines-back : (r : Rules) (lines : List Line) (after all n before : ℕ) → All IsWithin lines → All (IsOf r) lines → lines_read r after (length lines) (filled_from all n before (map line_text lines)) ≡ Ok lines
-lines-back r [] after all n before within of = refl
-lines-back r (line ∷ lines) after all n before within of =
+lines-back : (lines : List Line) (after all n before : ℕ) → All IsWithin lines → lines_read after (length lines) (filled_from all n before (map line_text lines)) ≡ Ok lines
+lines-back [] after all n before within = refl
+lines-back (line ∷ lines) after all n before within =
     let (f, (is, same)) = first-filled line all n before (map line_text lines) in
-    let here : line_read r f.line ≡ Ok line = ap (line_read r) same ∙ line-back r line (All-head (IsOf r) line lines of) (All-head IsWithin line lines within) in
-    let rest = lines-back r lines after all (n + 1) (before + length (line_text line) + 1) (All-tail IsWithin line lines within) (All-tail (IsOf r) line lines of) in
-    ap (λ fs. lines_read r after (suc (length lines)) fs) is
-    ∙ ap (λ x. with_line f.number x (lines_read r after (length lines) (filled_from all (n + 1) (before + length (line_text line) + 1) (map line_text lines)))) here
+    let here : line_read f.line ≡ Ok line = ap line_read same ∙ line-back line (All-head IsWithin line lines within) in
+    let rest = lines-back lines after all (n + 1) (before + length (line_text line) + 1) (All-tail IsWithin line lines within) in
+    ap (λ fs. lines_read after (suc (length lines)) fs) is
+    ∙ ap (λ x. with_line f.number x (lines_read after (length lines) (filled_from all (n + 1) (before + length (line_text line) + 1) (map line_text lines)))) here
     ∙ ap (λ x. with_line f.number (Ok line) x) rest
 
-pub certificates-read-back : (r : Rules) (lines : List Line) → All IsWithin lines → All (IsOf r) lines → length lines < 9223372036854775808 →
-    (cert_read (cert_text r lines) ≡ Ok lines) × (rules_read (cert_text r lines) ≡ r)
-certificates-read-back r lines within of few =
-    let whole = cert_text r lines in
-    let header = header_text r (length lines) in
+pub certificates-read-back : (lines : List Line) → All IsWithin lines → length lines < 9223372036854775808 → cert_read (cert_text lines) ≡ Ok lines
+certificates-read-back lines within few =
+    let whole = cert_text lines in
+    let header = header_text (length lines) in
     let rest = flat_map (λ l. ended (line_text l)) lines in
     let after = length (lines_of whole) + 1 in
     let parts : lines_of whole ≡ header ∷ map line_text lines =
-    ap lines_of (append_assoc header (10 ∷ []) rest) ∙ first-of header rest (header-are_text r (length lines) few) ∙ ap (λ ls. header ∷ ls) (lines-of lines within) in
-    let all = length whole in (
-      ap (λ ls. lines_headed after (filled_from all 1 (all - length whole) ls)) parts
-          ∙ ap (λ x. headed after 1 x (filled_from all 2 (all - length whole + length header + 1) (map line_text lines))) (header-back r (length lines) few)
-          ∙ lines-back r lines after all 2 (all - length whole + length header + 1) within of,
-      ap (λ ls. rules_headed (filled_from all 1 (all - length whole) ls)) parts ∙ ap rules_or_one (header-back r (length lines) few),
-    )
+    ap lines_of (append_assoc header (10 ∷ []) rest) ∙ first-of header rest (header-are_text (length lines) few) ∙ ap (λ ls. header ∷ ls) (lines-of lines within) in
+    let all = length whole in
+    ap (λ ls. lines_headed after (filled_from all 1 (all - length whole) ls)) parts
+    ∙ ap (λ x. headed after 1 x (filled_from all 2 (all - length whole + length header + 1) (map line_text lines))) (header-back (length lines) few)
+    ∙ lines-back lines after all 2 (all - length whole + length header + 1) within

@@ -18,7 +18,7 @@ use Rattle.aud_order.proofs.Lengths.{length-good}
 use Rattle.aud_text.specs.Orders.{order_text, decision_text, fate_letter}
 use Rattle.aud_text.proofs.OrderText.{join-more}
 use Rattle.aud_accept.specs.declared.cert.CertLine.{CertLine}
-use Rattle.aud_accept.specs.declared.cert.CertLine.TheVariants.{Kids, Silent, Same, Ahead, First}
+use Rattle.aud_accept.specs.declared.cert.CertLine.TheVariants.{Kids, Silent, Same}
 use Rattle.aud_accept.specs.Acceptance.{prefix_in, IsAcceptedLine, AreAccepted}
 use Rattle.aud_cert.specs.Written.{prefix_text, decided_text, IsShort, IsWithin, Low}
 use Rattle.aud_cert.specs.Laws.{AcceptedReadsBack}
@@ -72,8 +72,6 @@ abbrev HasSmall : {X : Type 0} → CertLine X → Type 0
 HasSmall (Kids p) = IsSmall p
 HasSmall (Silent p d) = IsSmall p × Low d
 HasSmall (Same p q) = IsSmall p × IsSmall q
-HasSmall (Ahead p) = IsSmall p
-HasSmall (First p d) = IsSmall p × Low d
 
 orders-small : (p : List Decision) (d : Decision) → IsSmall p → Low d → IsShort p × IsShort (d ∷ [])
 orders-small p d small low = (short-from_small p small, short-from_small (d ∷ []) (small-one d low))
@@ -97,10 +95,6 @@ within-small (Same p q) (small, other) =
       orders = (short-from_small p small, short-from_small q other);
       text = omega (arith, long, end, length-append (order_text q) (codes "\",\"by\":\"same" ++ prefix_text p));
     }
-within-small (Ahead p) small =
-    let end = prefix-length p small in
-    record { orders = short-from_small p small; text = omega (arith, end) }
-within-small (First p d) (small, low) = record { orders = orders-small p d small low; text = decided-length (codes "first") p d (omega arith) small low }
 
 -- # How many transactions there are
 
@@ -153,8 +147,6 @@ module _ (plan : PlanOf) (h : History) (within : IsWithinLimits plan h) where
   small-line earlier (Kids p) goods accepted = small-good p accepted.good
   small-line earlier (Silent p d) goods accepted = (small-good p accepted.good, low-in plan h d.tx within.1 accepted.rests.good.in_history)
   small-line earlier (Same p q) goods accepted = (small-good p accepted.good, small-good q (goods q accepted.rests.line))
-  small-line earlier (Ahead p) goods accepted = small-good p accepted.good
-  small-line earlier (First p d) goods accepted = (small-good p accepted.good, low-in plan h d.tx within.1 accepted.rests.good.in_history)
 
   good-more : (earlier : List (List Decision)) (new : List Decision) → AreGood earlier → IsGood plan.objects h new →
       AreGood (earlier ++ new ∷ [])
@@ -170,7 +162,7 @@ module _ (plan : PlanOf) (h : History) (within : IsWithinLimits plan h) where
       All-cons IsWithin line lines here (lines-within lines (earlier ++ prefix_in line ∷ []) good more)
 
 pub accepted-reads-back : AcceptedReadsBack
-accepted-reads-back plan h r lines within accepted =
+accepted-reads-back plan h lines within accepted =
     let none : AreGood plan h within [] = λ p (k, inside, is). absurd (omega (arith, inside)) in
     let all : All IsWithin lines = lines-within plan h within lines [] none accepted.each in
-    (all, λ of few. certificates-read-back r lines all of few)
+    (all, λ few. certificates-read-back lines all few)

@@ -8,11 +8,9 @@ use Rattle.std.proofs.lemmas.List.Elements.{All-head, All-tail, All-cons, All-ni
 use Rattle.aud_witness.specs.declared.decision.Decision.{Decision}
 use Rattle.aud_text.specs.Lines.{lines_of}
 use Rattle.aud_text.specs.Orders.{order_text, decision_text}
-use Rattle.aud_accept.specs.declared.cert.CertLine.TheVariants.{Kids, Silent, Same, Ahead, First}
-use Rattle.aud_accept.specs.declared.cert.Rules.{Rules}
-use Rattle.aud_accept.specs.declared.cert.Rules.TheVariants as rules
+use Rattle.aud_accept.specs.declared.cert.CertLine.TheVariants.{Kids, Silent, Same}
 use Rattle.aud_cert.specs.LineText.{Line}
-use Rattle.aud_cert.specs.Written.{prefix_text, line_text, rules_text, header_text, IsShort, HasShort}
+use Rattle.aud_cert.specs.Written.{prefix_text, line_text, header_text, IsShort, HasShort}
 use Rattle.aud_cert.proofs.Bytes.{IsPlainByte, ArePlain, decimal-plain, order-plain}
 use Rattle.aud_base.proofs.Bools.{and_true}
 
@@ -52,15 +50,9 @@ line-are_text (Silent p d) short = decided-are_text (codes "{\"by\":\"silent\",\
 line-are_text (Same p q) short =
     between (codes "{\"as\":\"") (codes "\",\"by\":\"same\",\"p\":\"" ++ (order_text p ++ codes "\"}")) q short.1 refl
     (between (codes "\",\"by\":\"same\",\"p\":\"") (codes "\"}") p short.0 refl refl)
-line-are_text (Ahead p) short = between (codes "{\"by\":\"ahead\",\"p\":\"") (codes "\"}") p short refl refl
-line-are_text (First p d) short = decided-are_text (codes "{\"by\":\"first\",\"d\":\"") p d refl short
 
-end-are_text : (r : Rules) → are_text (rules_text r) ≡ true
-end-are_text rules.One = refl
-end-are_text rules.Two = refl
-
-pub header-are_text : (r : Rules) (n : ℕ) → n < 9223372036854775808 → are_text (header_text r n) ≡ true
-header-are_text r n h = are-both (codes "{\"cert\":") (decimal n ++ rules_text r) refl (are-both (decimal n) (rules_text r) (plain-are_text (decimal n) (decimal-plain n h)) (end-are_text r))
+pub header-are_text : (n : ℕ) → n < 9223372036854775808 → are_text (header_text n) ≡ true
+header-are_text n h = are-both (codes "{\"cert\":") (decimal n ++ codes "}") refl (are-both (decimal n) (codes "}") (plain-are_text (decimal n) (decimal-plain n h)) refl)
 
 ascii : (s : List ℕ) → are_text s ≡ true → All (λ b. b < 128) s
 ascii [] h = All-nil (λ b. b < 128)

@@ -5,8 +5,7 @@ use Rattle.std.specs.declared.alloc.Global.{Global}
 use Rattle.std.specs.Prelude.{MatchResult}
 use Rattle.aud_accept.specs.declared.cert.Cert.{Cert}
 use Rattle.aud_accept.specs.declared.cert.CertLine.{CertLine}
-use Rattle.aud_accept.specs.declared.cert.CertLine.TheVariants.{Kids, Silent, Same, Ahead, First}
-use Rattle.aud_accept.specs.declared.cert.Rules.{Rules}
+use Rattle.aud_accept.specs.declared.cert.CertLine.TheVariants.{Kids, Silent, Same}
 use Rattle.aud_accept.specs.Acceptance.{elsewhere}
 use Rattle.aud_text.specs.declared.fault.TextFault.{TextFault}
 use Rattle.aud_text.specs.declared.fault.TextFault.TheVariants as fault
@@ -25,25 +24,25 @@ onto-with ls n o (Err e) = refl
 onto-with ls n o (Ok more) = ap Ok (sym (append_assoc ls (o ∷ []) more))
 
 -- one line more
-pub one-more : (r : Rules) (after k j : ℕ) (ls : List Line) (o : Line) (fs more : List Filled) (l : Filled) → k ≡ suc j → fs ≡ l ∷ more → line_read r l.line ≡ Ok o
-    → onto ls (lines_read r after k fs) ≡ onto (ls ++ o ∷ []) (lines_read r after j more)
-one-more r after k j ls o fs more l e s read = rw (e, s) (ap (λ x. onto ls (with_line l.number x (lines_read r after j more))) read ∙ onto-with ls l.number o (lines_read r after j more))
+pub one-more : (after k j : ℕ) (ls : List Line) (o : Line) (fs more : List Filled) (l : Filled) → k ≡ suc j → fs ≡ l ∷ more → line_read l.line ≡ Ok o
+    → onto ls (lines_read after k fs) ≡ onto (ls ++ o ∷ []) (lines_read after j more)
+one-more after k j ls o fs more l e s read = rw (e, s) (ap (λ x. onto ls (with_line l.number x (lines_read after j more))) read ∙ onto-with ls l.number o (lines_read after j more))
 
 -- a line that is refused
-pub refused : (r : Rules) (after k j : ℕ) (ls : List Line) (e : TextFault) (fs more : List Filled) (l : Filled) → k ≡ suc j → fs ≡ l ∷ more → line_read r l.line ≡ Err e
-    → onto ls (lines_read r after k fs) ≡ Err (at_line l.number e)
-refused r after k j ls e fs more l is s read = rw (is, s) (ap (λ x. onto ls (with_line l.number x (lines_read r after j more))) read)
+pub refused : (after k j : ℕ) (ls : List Line) (e : TextFault) (fs more : List Filled) (l : Filled) → k ≡ suc j → fs ≡ l ∷ more → line_read l.line ≡ Err e
+    → onto ls (lines_read after k fs) ≡ Err (at_line l.number e)
+refused after k j ls e fs more l is s read = rw (is, s) (ap (λ x. onto ls (with_line l.number x (lines_read after j more))) read)
 
 -- a text that ends too early
-pub missing : (r : Rules) (after k j : ℕ) (ls : List Line) (fs : List Filled) → k ≡ suc j → fs ≡ [] → onto ls (lines_read r after k fs) ≡ Err (at_line after fault.KeyMissing)
-missing r after k j ls fs e s = rw (e, s) refl
+pub missing : (after k j : ℕ) (ls : List Line) (fs : List Filled) → k ≡ suc j → fs ≡ [] → onto ls (lines_read after k fs) ≡ Err (at_line after fault.KeyMissing)
+missing after k j ls fs e s = rw (e, s) refl
 
 -- a text that ends where it is to end, and one that does not
-pub ended : (r : Rules) (after k : ℕ) (ls : List Line) (fs : List Filled) → k ≡ 0 → fs ≡ [] → onto ls (lines_read r after k fs) ≡ Ok ls
-ended r after k ls fs e s = rw (e, s) (ap Ok (append-nil ls))
+pub ended : (after k : ℕ) (ls : List Line) (fs : List Filled) → k ≡ 0 → fs ≡ [] → onto ls (lines_read after k fs) ≡ Ok ls
+ended after k ls fs e s = rw (e, s) (ap Ok (append-nil ls))
 
-pub one-too_many : (r : Rules) (after k : ℕ) (ls : List Line) (fs more : List Filled) (l : Filled) → k ≡ 0 → fs ≡ l ∷ more → onto ls (lines_read r after k fs) ≡ Err (at_line l.number fault.KeyUnknown)
-one-too_many r after k ls fs more l e s = rw (e, s) refl
+pub one-too_many : (after k : ℕ) (ls : List Line) (fs more : List Filled) (l : Filled) → k ≡ 0 → fs ≡ l ∷ more → onto ls (lines_read after k fs) ≡ Err (at_line l.number fault.KeyUnknown)
+one-too_many after k ls fs more l e s = rw (e, s) refl
 
 -- # Lines in memory of another kind
 
@@ -56,8 +55,6 @@ same-line : (l : Line) → elsewhere {Y = Global} l ≡ l
 same-line (Kids p) = refl
 same-line (Silent p d) = refl
 same-line (Same p q) = refl
-same-line (Ahead p) = refl
-same-line (First p d) = refl
 
 pub same-lines : (ls : List Line) → map (elsewhere {Y = Global}) ls ≡ ls
 same-lines [] = refl

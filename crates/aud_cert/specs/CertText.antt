@@ -1,34 +1,20 @@
 -- The text of a certificate: a header line, and the lines that it counts.
-use Rattle.std.specs.Prelude.{ℕ, zero, suc, ◌+◌, ℤ, pos, negsuc, List, [], ◌∷◌, Option, Some, None, Result, Ok, Err, if◌then◌else◌, nat_eq, length, codes, option_and_then}
+use Rattle.std.specs.Prelude.{ℕ, zero, suc, ◌+◌, ℤ, pos, negsuc, List, [], ◌∷◌, Option, Some, None, Result, Ok, Err, if◌then◌else◌, length, codes, option_and_then}
 use Rattle.serde_json.specs.Data.{Data, Members}
 use Rattle.serde_json.specs.Find.{as_object}
 use Rattle.aud_text.specs.declared.fault.TextFault.{TextFault}
 use Rattle.aud_text.specs.declared.fault.TextFault.TheVariants as fault
 use Rattle.aud_text.specs.Json.{Key, json_read, has_all, has_only, whole_at}
 use Rattle.aud_text.specs.Lines.{Filled, lines_of, filled_left, filled_lines}
-use Rattle.aud_accept.specs.declared.cert.Rules.{Rules}
-use Rattle.aud_accept.specs.declared.cert.Rules.TheVariants as rules
-use Rattle.aud_cert.specs.declared.read.Header.{Header}
 use Rattle.aud_cert.specs.declared.fault.CertTextFault.{CertTextFault}
 use Rattle.aud_cert.specs.LineText.{Line, line_read}
 use Rattle.aud_cert.specs.Limits.{longest_cert_line}
 
 -- ---- the header line
 
--- how many lines follow, and by which rules
-abbrev pub HeaderOf : Type 0
-HeaderOf = Header
-
--- the keys that must stand
+-- the keys that must stand, and no other may
 abbrev pub header_keys : List Key
 header_keys = codes "cert" ∷ []
-
-abbrev pub rules_keys : List Key
-rules_keys = codes "rules" ∷ []
-
--- the keys that may stand
-abbrev pub header_allowed : List Key
-header_allowed = codes "cert" ∷ codes "rules" ∷ []
 
 abbrev pub natural : ℤ → Option ℕ
 natural (pos n) = Some n
@@ -38,32 +24,23 @@ natural (negsuc n) = None
 abbrev pub natural_at : Key → Data → Option ℕ
 natural_at k d = option_and_then natural (whole_at k d)
 
-abbrev pub two_of : Option ℕ → Option Rules
-two_of None = None
-two_of (Some n) = if nat_eq n 2 then Some rules.Two else None
+abbrev pub header_of : Option ℕ → Result ℕ TextFault
+header_of None = Err fault.TypeOrRange
+header_of (Some n) = Ok n
 
--- the first rules where `rules` does not stand, and the second where it is 2
-abbrev pub rules_at : Data → Option Rules
-rules_at d = if has_all rules_keys d then two_of (natural_at (codes "rules") d) else Some rules.One
-
-abbrev pub header_of : Option ℕ → Option Rules → Result Header TextFault
-header_of None r = Err fault.TypeOrRange
-header_of (Some n) None = Err fault.TypeOrRange
-header_of (Some n) (Some r) = Ok (record { count = n; rules = r })
-
-abbrev pub header_members : Data → Option Members → Result Header TextFault
+abbrev pub header_members : Data → Option Members → Result ℕ TextFault
 header_members d None = Err fault.NotObject
 header_members d (Some ms) =
     if has_all header_keys d
-    then (if has_only header_allowed ms then header_of (natural_at (codes "cert") d) (rules_at d) else Err fault.KeyUnknown)
+    then (if has_only header_keys ms then header_of (natural_at (codes "cert") d) else Err fault.KeyUnknown)
     else Err fault.KeyMissing
 
-abbrev pub header_json : Result Data TextFault → Result Header TextFault
+abbrev pub header_json : Result Data TextFault → Result ℕ TextFault
 header_json (Err e) = Err e
 header_json (Ok d) = header_members d (as_object d)
 
--- how many lines follow, and by which rules
-abbrev pub header_read : List ℕ → Result Header TextFault
+-- how many lines follow
+abbrev pub header_read : List ℕ → Result ℕ TextFault
 header_read line = header_json (json_read longest_cert_line line)
 
 -- ---- the whole text
@@ -78,19 +55,19 @@ with_line n (Ok line) (Err e) = Err e
 with_line n (Ok line) (Ok lines) = Ok (line ∷ lines)
 
 -- so many lines and no more; `after` is the number of the line after the text's last
-abbrev pub lines_read : Rules → ℕ → ℕ → List Filled → Result (List Line) CertTextFault
-lines_read r after zero [] = Ok []
-lines_read r after zero (l ∷ ls) = Err (at_line l.number fault.KeyUnknown)
-lines_read r after (suc k) [] = Err (at_line after fault.KeyMissing)
-lines_read r after (suc k) (l ∷ ls) = with_line l.number (line_read r l.line) (lines_read r after k ls)
+abbrev pub lines_read : ℕ → ℕ → List Filled → Result (List Line) CertTextFault
+lines_read after zero [] = Ok []
+lines_read after zero (l ∷ ls) = Err (at_line l.number fault.KeyUnknown)
+lines_read after (suc k) [] = Err (at_line after fault.KeyMissing)
+lines_read after (suc k) (l ∷ ls) = with_line l.number (line_read l.line) (lines_read after k ls)
 
 -- the same of what is left of a text, from a line of this number on
-abbrev pub lines_left : Rules → List ℕ → List ℕ → ℕ → ℕ → Result (List Line) CertTextFault
-lines_left r text left number count = lines_read r (length (lines_of text) + 1) count (filled_left (length text) number left)
+abbrev pub lines_left : List ℕ → List ℕ → ℕ → ℕ → Result (List Line) CertTextFault
+lines_left text left number count = lines_read (length (lines_of text) + 1) count (filled_left (length text) number left)
 
-abbrev pub headed : ℕ → ℕ → Result Header TextFault → List Filled → Result (List Line) CertTextFault
+abbrev pub headed : ℕ → ℕ → Result ℕ TextFault → List Filled → Result (List Line) CertTextFault
 headed after n (Err e) ls = Err (at_line n e)
-headed after n (Ok header) ls = lines_read header.rules after header.count ls
+headed after n (Ok count) ls = lines_read after count ls
 
 abbrev pub lines_headed : ℕ → List Filled → Result (List Line) CertTextFault
 lines_headed after [] = Err (at_line after fault.KeyMissing)
@@ -99,17 +76,3 @@ lines_headed after (l ∷ ls) = headed after l.number (header_read l.line) ls
 -- the lines that a text says, or its first fault
 abbrev pub cert_read : List ℕ → Result (List Line) CertTextFault
 cert_read text = lines_headed (length (lines_of text) + 1) (filled_lines text)
-
--- ---- the rules that it names
-
-abbrev pub rules_or_one : Result Header TextFault → Rules
-rules_or_one (Err e) = rules.One
-rules_or_one (Ok header) = header.rules
-
-abbrev pub rules_headed : List Filled → Rules
-rules_headed [] = rules.One
-rules_headed (l ∷ ls) = rules_or_one (header_read l.line)
-
--- those of its header, if that is read
-abbrev pub rules_read : List ℕ → Rules
-rules_read text = rules_headed (filled_lines text)

@@ -3,21 +3,20 @@ use Rattle.std.specs.Prelude.{◌≡◌, ◌<◌, ◌^◌, Ok, List, All, length
 use Rattle.aud_event.specs.Meanings.{PlanOf}
 use Rattle.aud_history.specs.Histories.{History}
 use Rattle.aud_history.specs.FirstFault.{IsWithinLimits}
-use Rattle.aud_accept.specs.Acceptance.{IsAccepted, IsOf}
-use Rattle.aud_accept.specs.declared.cert.Rules.{Rules}
+use Rattle.aud_accept.specs.Acceptance.{IsAccepted}
 use Rattle.aud_cert.specs.LineText.{Line}
-use Rattle.aud_cert.specs.CertText.{cert_read, rules_read}
+use Rattle.aud_cert.specs.CertText.{cert_read}
 use Rattle.aud_cert.specs.Written.{cert_text, IsWithin}
 
--- what is written of the lines by rules that they are of reads as them
-abbrev pub ReadsAsThem : Rules → List Line → Type 0
-ReadsAsThem rules lines = All (IsOf rules) lines → length lines < 2 ^ 63 → (cert_read (cert_text rules lines) ≡ Ok lines) × (rules_read (cert_text rules lines) ≡ rules)
+-- what is written of the lines reads as them
+abbrev pub ReadsAsThem : List Line → Type 0
+ReadsAsThem lines = length lines < 2 ^ 63 → cert_read (cert_text lines) ≡ Ok lines
 
 -- what is written of lines within the limits reads as them
 abbrev pub CertificatesReadBack : Type 0
-CertificatesReadBack = (rules : Rules) (lines : List Line) → All IsWithin lines → ReadsAsThem rules lines
+CertificatesReadBack = (lines : List Line) → All IsWithin lines → ReadsAsThem lines
 
 -- each line of what is accepted is within the limits, and what is written of the lines reads as them
 abbrev pub AcceptedReadsBack : Type 0
-AcceptedReadsBack = (plan : PlanOf) (h : History) (rules : Rules) (lines : List Line) → IsWithinLimits plan h → IsAccepted plan.objects h lines →
-    All IsWithin lines × ReadsAsThem rules lines
+AcceptedReadsBack = (plan : PlanOf) (h : History) (lines : List Line) → IsWithinLimits plan h → IsAccepted plan.objects h lines →
+    All IsWithin lines × ReadsAsThem lines

@@ -9,9 +9,7 @@ use Rattle.aud_text.specs.declared.fault.TextFault.TheVariants as fault
 use Rattle.aud_text.specs.Json.{Key, json_read, has_all, has_only, word_at, text_fits}
 use Rattle.aud_text.specs.Orders.{order_read}
 use Rattle.aud_accept.specs.declared.cert.CertLine.{CertLine}
-use Rattle.aud_accept.specs.declared.cert.CertLine.TheVariants.{Kids, Silent, Same, Ahead, First}
-use Rattle.aud_accept.specs.declared.cert.Rules.{Rules}
-use Rattle.aud_accept.specs.declared.cert.Rules.TheVariants as rules
+use Rattle.aud_accept.specs.declared.cert.CertLine.TheVariants.{Kids, Silent, Same}
 use Rattle.aud_cert.specs.declared.line.OrderTexts.{OrderTexts}
 use Rattle.aud_cert.specs.declared.reason.Reason.{Reason}
 use Rattle.aud_cert.specs.declared.reason.Reason.TheVariants as by
@@ -27,27 +25,17 @@ abbrev pub word_of_reason : Reason → List ℕ
 word_of_reason by.Kids = codes "kids"
 word_of_reason by.Silent = codes "silent"
 word_of_reason by.Same = codes "same"
-word_of_reason by.Ahead = codes "ahead"
-word_of_reason by.First = codes "first"
 
--- the words that came with the second rules
-abbrev pub later_reason : Rules → List ℕ → Option Reason
-later_reason rules.One w = None
-later_reason rules.Two w =
-    if bytes_eq w (codes "ahead") then Some by.Ahead
-    else (if bytes_eq w (codes "first") then Some by.First
-    else None)
-
-abbrev pub reason_of_word : Rules → List ℕ → Option Reason
-reason_of_word r w =
+abbrev pub reason_of_word : List ℕ → Option Reason
+reason_of_word w =
     if bytes_eq w (codes "kids") then Some by.Kids
     else (if bytes_eq w (codes "silent") then Some by.Silent
     else (if bytes_eq w (codes "same") then Some by.Same
-    else later_reason r w))
+    else None))
 
 -- the reason, where `by` has the word of one
-abbrev pub reason_at : Rules → Data → Option Reason
-reason_at r d = option_and_then (reason_of_word r) (word_at (codes "by") d)
+abbrev pub reason_at : Data → Option Reason
+reason_at d = option_and_then reason_of_word (word_at (codes "by") d)
 
 -- the keys that must stand
 abbrev pub required : Option Reason → List Key
@@ -55,8 +43,6 @@ required None = codes "by" ∷ codes "p" ∷ []
 required (Some by.Kids) = codes "by" ∷ codes "p" ∷ []
 required (Some by.Silent) = codes "by" ∷ codes "d" ∷ codes "p" ∷ []
 required (Some by.Same) = codes "as" ∷ codes "by" ∷ codes "p" ∷ []
-required (Some by.Ahead) = codes "by" ∷ codes "p" ∷ []
-required (Some by.First) = codes "by" ∷ codes "d" ∷ codes "p" ∷ []
 
 -- the keys that may stand: no others than those that must, where the reason is known
 abbrev pub allowed : Option Reason → List Key
@@ -106,8 +92,6 @@ line_of None p d q = None
 line_of (Some by.Kids) p d q = option_map (λ l. Kids l) (list_of p)
 line_of (Some by.Silent) p d q = option_and_then (λ l. option_map (λ e. Silent l e) (option_and_then only_of (list_of d))) (list_of p)
 line_of (Some by.Same) p d q = option_and_then (λ l. option_map (λ m. Same l m) (list_of q)) (list_of p)
-line_of (Some by.Ahead) p d q = option_map (λ l. Ahead l) (list_of p)
-line_of (Some by.First) p d q = option_and_then (λ l. option_map (λ e. First l e) (option_and_then only_of (list_of d))) (list_of p)
 
 -- the least fault of a line that is an object: of its keys, by the reason, of the types, and of the order texts `p`, `d` and `as`
 abbrev pub fault_of : Data → Members → Option Reason → OrderText → OrderText → OrderText → Option TextFault
@@ -132,17 +116,17 @@ abbrev pub line_by : Data → Members → Option Reason → OrderText → OrderT
     Result Line TextFault
 line_by e ms reason p d q = line_unless (fault_of e ms reason p d q) (line_of reason p d q)
 
-abbrev pub line_members : Rules → Data → Option Members → Result Line TextFault
-line_members r e None = Err fault.NotObject
-line_members r e (Some ms) = line_by e ms (reason_at r e) (order_at_key (codes "p") e) (order_at_key (codes "d") e) (order_at_key (codes "as") e)
+abbrev pub line_members : Data → Option Members → Result Line TextFault
+line_members e None = Err fault.NotObject
+line_members e (Some ms) = line_by e ms (reason_at e) (order_at_key (codes "p") e) (order_at_key (codes "d") e) (order_at_key (codes "as") e)
 
-abbrev pub line_judged : Rules → Data → Result Line TextFault
-line_judged r e = line_members r e (as_object e)
+abbrev pub line_judged : Data → Result Line TextFault
+line_judged e = line_members e (as_object e)
 
-abbrev pub line_json : Rules → Result Data TextFault → Result Line TextFault
-line_json r (Err e) = Err e
-line_json r (Ok e) = line_judged r e
+abbrev pub line_json : Result Data TextFault → Result Line TextFault
+line_json (Err e) = Err e
+line_json (Ok e) = line_judged e
 
 -- what a line of at most 65,536 bytes says
-abbrev pub line_read : Rules → List ℕ → Result Line TextFault
-line_read r line = line_json r (json_read longest_cert_line line)
+abbrev pub line_read : List ℕ → Result Line TextFault
+line_read line = line_json (json_read longest_cert_line line)

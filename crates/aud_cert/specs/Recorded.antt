@@ -6,7 +6,7 @@ use Rattle.aud_witness.specs.declared.decision.Decision.{Decision}
 use Rattle.aud_order.specs.Shapes.{ShapeOf}
 use Rattle.aud_accept.specs.declared.cert.CertLine.{CertLine}
 use Rattle.aud_accept.specs.Acceptance.{prefix_in}
-use Rattle.aud_search.proofs.MemoLemmas.{get-front}
+use Rattle.search_memo.proofs.MemoLemmas.{get-front}
 
 -- how contracts see them: the shape that they are of, and the lines in their order
 pub record LinesOf (X : Type 0) : Type 0 where

@@ -3,12 +3,10 @@ use Rattle.std.specs.Prelude.{ℕ, ◌≡◌, ◌<◌, ◌≤◌, ◌^◌, Ok, L
 use Rattle.aud_witness.specs.declared.decision.Decision.{Decision}
 use Rattle.aud_event.specs.Limits.{most_transactions}
 use Rattle.aud_text.specs.Orders.{order_text, decision_text}
-use Rattle.aud_cert.specs.CertText.{cert_read, rules_read}
+use Rattle.aud_cert.specs.CertText.{cert_read}
 use Rattle.aud_accept.specs.declared.cert.CertLine.{CertLine}
-use Rattle.aud_accept.specs.declared.cert.CertLine.TheVariants.{Kids, Silent, Same, Ahead, First}
-use Rattle.aud_accept.specs.declared.cert.Rules.{Rules}
-use Rattle.aud_accept.specs.declared.cert.Rules.TheVariants as rules
-use Rattle.aud_accept.specs.Acceptance.{elsewhere, IsOf}
+use Rattle.aud_accept.specs.declared.cert.CertLine.TheVariants.{Kids, Silent, Same}
+use Rattle.aud_accept.specs.Acceptance.{elsewhere}
 use Rattle.aud_cert.specs.Limits.{longest_cert_line}
 use Rattle.aud_text.specs.Limits.{longest_order}
 
@@ -30,23 +28,16 @@ abbrev pub line_text : {X : Type 0} → CertLine X → List ℕ
 line_text (Kids p) = alone_text (codes "kids") p
 line_text (Silent p d) = decided_text (codes "silent") p d
 line_text (Same p q) = same_text p q
-line_text (Ahead p) = alone_text (codes "ahead") p
-line_text (First p d) = decided_text (codes "first") p d
 
--- how the header ends: the first rules are not named
-abbrev pub rules_text : Rules → List ℕ
-rules_text rules.One = codes "}"
-rules_text rules.Two = codes ",\"rules\":2}"
-
-abbrev pub header_text : Rules → ℕ → List ℕ
-header_text r count = codes "{\"cert\":" ++ (decimal count ++ rules_text r)
+abbrev pub header_text : ℕ → List ℕ
+header_text count = codes "{\"cert\":" ++ (decimal count ++ codes "}")
 
 -- a line feed after each line
 abbrev pub ended : List ℕ → List ℕ
 ended line = line ++ 10 ∷ []
 
-abbrev pub cert_text : {X : Type 0} → Rules → List (CertLine X) → List ℕ
-cert_text r lines = ended (header_text r (length lines)) ++ flat_map (λ l. ended (line_text l)) lines
+abbrev pub cert_text : {X : Type 0} → List (CertLine X) → List ℕ
+cert_text lines = ended (header_text (length lines)) ++ flat_map (λ l. ended (line_text l)) lines
 
 -- ---- the limits
 
@@ -63,14 +54,12 @@ abbrev pub HasShort : {X : Type 0} → CertLine X → Type 0
 HasShort (Kids p) = IsShort p
 HasShort (Silent p d) = IsShort p × IsShort (d ∷ [])
 HasShort (Same p q) = IsShort p × IsShort q
-HasShort (Ahead p) = IsShort p
-HasShort (First p d) = IsShort p × IsShort (d ∷ [])
 
 -- the line is within the limits
 pub record IsWithin {X : Type 0} (line : CertLine X) : Type 0 where
   pub orders : HasShort line
   pub text : length (line_text line) ≤ longest_cert_line
 
--- a text reads as the lines by the rules, where each of them is within the limits and of those rules
-abbrev pub ReadsBack : {X : Type 0} → Rules → List (CertLine X) → List ℕ → Type 0
-ReadsBack r lines text = All IsWithin lines → All (IsOf r) lines → length lines < 2 ^ 63 → (cert_read text ≡ Ok (map elsewhere lines)) × (rules_read text ≡ r)
+-- a text reads as the lines, where each of them is within the limits
+abbrev pub ReadsBack : {X : Type 0} → List (CertLine X) → List ℕ → Type 0
+ReadsBack lines text = All IsWithin lines → length lines < 2 ^ 63 → cert_read text ≡ Ok (map elsewhere lines)

@@ -2,7 +2,7 @@
 
 ghost use Rattle.aud_cert.specs.Laws.{AcceptedReadsBack, CertificatesReadBack};
 
-/// What is written of lines within the limits reads as them, by the rules by which it is written.
+/// What is written of lines within the limits reads as them.
 pub fn certificates_read_back()
     ensures { CertificatesReadBack }
 {}

@@ -1,10 +1,8 @@
 #![tactic(auto)]
 //! Certificates that no order shows a history: made, read and written, and what an accepted one finds.
 
-mod by_rules;
 mod fault;
 mod finding;
-mod finding_lines;
 pub mod laws;
 mod line;
 mod lines;
@@ -15,8 +13,7 @@ mod reason;
 mod spelled;
 mod write;
 
-pub use aud_accept::{Cert, CertLine, Rules, check_cert};
-pub use by_rules::cert_by_rules;
+pub use aud_accept::{Cert, CertLine, check_cert};
 pub use fault::CertTextFault;
 pub use finding::finding_of;
 pub use line::CERT_LINE_MAX;

@@ -7,7 +7,7 @@ ghost use Rattle.aud_cert.specs.LineText.{order_at_key, is_long, is_out_of_range
 
 use crate::reason::{Reason, allowed_keys, reason_in, required_keys};
 use crate::spelled::line_spelled;
-use aud_accept::{CertLine, Rules};
+use aud_accept::CertLine;
 use aud_event::OutOfMemory;
 use aud_text::{
     TextFault, has_only_allowed, has_required, json_in, read_order, text_if_there, word_of,
@@ -164,23 +164,17 @@ fn line_in(reason: Option<Reason>, texts: OrderTexts) -> Option<CertLine>
             let other = list_in(texts.other)?;
             Some(CertLine::Same(prefix, other))
         }
-        Reason::Ahead => Some(CertLine::Ahead(prefix)),
-        Reason::First => {
-            let list = list_in(texts.decision)?;
-            let decision = only(list.decisions())?;
-            Some(CertLine::First(prefix, decision))
-        }
     }
 }
 
-fn judge_line(alloc: Global, rules: Rules, value: &Value) -> Result<CertLine, TextFault>
-    ensures { MatchResult result (λ line. line_judged rules (view value.now) ≡ Ok line)
-        (λ e. (e ≡ TextFault.OutOfMemory) ⊎ (line_judged rules (view value.now) ≡ Err e)) }
+fn judge_line(alloc: Global, value: &Value) -> Result<CertLine, TextFault>
+    ensures { MatchResult result (λ line. line_judged (view value.now) ≡ Ok line)
+        (λ e. (e ≡ TextFault.OutOfMemory) ⊎ (line_judged (view value.now) ≡ Err e)) }
 {
     let Some(members) = value.as_object() else {
         return Err(TextFault::NotObject);
     };
-    let reason = reason_in(rules, value);
+    let reason = reason_in(value);
     let Ok(texts) = orders_in(alloc, value) else {
         return Err(TextFault::OutOfMemory);
     };
@@ -211,38 +205,29 @@ fn moved<A: Allocator + Copy>(alloc: A, line: &CertLine) -> Result<CertLine<A>, 
             let other = Prefix::copy_of(alloc, other.decisions())?;
             Ok(CertLine::Same(prefix, other))
         }
-        CertLine::Ahead(prefix) => {
-            let prefix = Prefix::copy_of(alloc, prefix.decisions())?;
-            Ok(CertLine::Ahead(prefix))
-        }
-        CertLine::First(prefix, decision) => {
-            let prefix = Prefix::copy_of(alloc, prefix.decisions())?;
-            Ok(CertLine::First(prefix, *decision))
-        }
     }
 }
 
-/// The line that a text says in a certificate that names the rules, or the least fault that it deserves. Its lists are in the memory of `lists`; the list is room that
-/// each call writes over.
+/// The line that a text says, or the least fault that it deserves. Its lists are in the memory of `lists`; the list is room that each call
+/// writes over.
 pub(crate) fn read_line<A: Allocator + Copy>(
     alloc: Global,
     lists: A,
-    rules: Rules,
     line: &[u8],
     list: &mut Vec<Decision>,
 ) -> Result<CertLine<A>, TextFault>
-    ensures { MatchResult result (λ l. line_read rules line.now ≡ Ok (elsewhere l))
-        (λ e. (e ≡ TextFault.OutOfMemory) ⊎ (line_read rules line.now ≡ Err e)) }
+    ensures { MatchResult result (λ l. line_read line.now ≡ Ok (elsewhere l))
+        (λ e. (e ≡ TextFault.OutOfMemory) ⊎ (line_read line.now ≡ Err e)) }
 {
     // Most lines are spelled as they are written here, and need no JSON value.
-    if let Some(read) = line_spelled(lists, rules, line, list) {
+    if let Some(read) = line_spelled(lists, line, list) {
         return Ok(read);
     }
     let value = match json_in(alloc, line, CERT_LINE_MAX) {
         Ok(value) => value,
         Err(fault) => return Err(fault),
     };
-    let read = match judge_line(alloc, rules, &value) {
+    let read = match judge_line(alloc, &value) {
         Ok(read) => read,
         Err(fault) => return Err(fault),
     };

@@ -1,17 +1,15 @@
 //! The lines of a certificate, as a search writes them.
 
 ghost use Rattle.std.specs.Prelude.{◌≡◌, ◌<◌, [], Some, map, length, slice_get, IfOk};
-ghost use Rattle.std.specs.List.{All};
-ghost use Rattle.aud_accept.specs.declared.cert.Rules.{Rules as RulesOf};
 ghost use Rattle.aud_order.specs.Shapes.{objects_of, history_of};
-ghost use Rattle.aud_accept.specs.Acceptance.{prefix_in, IsPlain, IsAcceptedLine, IsAccepted};
+ghost use Rattle.aud_accept.specs.Acceptance.{prefix_in, IsAcceptedLine, IsAccepted};
 ghost use Rattle.aud_cert.specs.Recorded.{IsLonger};
 
-use aud_accept::{Cert, CertLine, Rules};
+use aud_accept::{Cert, CertLine};
 use aud_event::{Dup, OutOfMemory};
 use aud_order::Shape;
-use aud_search::Recorder;
 use aud_witness::{Decision, Prefix};
+use search_memo::Recorder;
 use std::alloc::{Allocator, Global};
 use std::marker::Model;
 
@@ -26,15 +24,14 @@ pub(crate) struct Lines<'a, A: Allocator + Copy = Global> {
 impl<'a, A: Allocator + Copy> Model for Lines<'a, A> {
     ghost use Rattle.std.specs.Prelude.{[]};
     ghost use Rattle.aud_order.specs.Shapes.{objects_of, history_of};
-    ghost use Rattle.std.specs.List.{All};
-    ghost use Rattle.aud_accept.specs.Acceptance.{AreAccepted, IsPlain};
+    ghost use Rattle.aud_accept.specs.Acceptance.{AreAccepted};
     ghost use Rattle.aud_cert.specs.Recorded.{LinesOf};
 
     ghost Value = { LinesOf A };
 
     ghost view = { λ l. record { shape = l.shape.now; lines = l.lines.items } };
 
-    ghost invariant = { λ l. AreAccepted (objects_of l.shape.now) (history_of l.shape.now) [] l.lines.items × All IsPlain l.lines.items };
+    ghost invariant = { λ l. AreAccepted (objects_of l.shape.now) (history_of l.shape.now) [] l.lines.items };
 }
 
 impl<'a, A: Allocator + Copy> Lines<'a, A> {
@@ -51,8 +48,7 @@ impl<'a, A: Allocator + Copy> Lines<'a, A> {
 
     /// Adds a line that is accepted after the others, and answers its number.
     fn add(&mut self, line: CertLine<A>) -> Result<usize, OutOfMemory>
-        requires accepted { IsAcceptedLine (objects_of self.old.shape) (history_of self.old.shape) (map prefix_in self.old.lines) line }
-        requires plain { IsPlain line }
+        requires { IsAcceptedLine (objects_of self.old.shape) (history_of self.old.shape) (map prefix_in self.old.lines) line }
         ensures noted { IfOk result (λ note. slice_get (map prefix_in self.new.lines) note ≡ Some (prefix_in line)) }
         ensures grows { IsLonger self.old self.new }
     {
@@ -69,20 +65,15 @@ impl<'a, A: Allocator + Copy> Lines<'a, A> {
         self.lines[note].prefix().dup()
     }
 
-    /// The certificate by the first rules whose last line is the one of the number, which refutes the empty prefix.
+    /// The certificate whose last line is the one of the number, which refutes the empty prefix.
     pub(crate) fn up_to(self, last: usize) -> Cert<A>
         requires { slice_get (map prefix_in self.lines) last ≡ Some [] }
-        ensures rules { result.rules ≡ RulesOf.One }
-        ensures plain { All IsPlain result.lines.items }
-        ensures accepted { IsAccepted (objects_of self.entry.shape) (history_of self.entry.shape) result.lines.items }
+        ensures { IsAccepted (objects_of self.entry.shape) (history_of self.entry.shape) result.lines.items }
     {
         let mut lines = self.lines;
         let _few = lines.len();
         lines.truncate(last + 1);
-        Cert {
-            rules: Rules::One,
-            lines,
-        }
+        Cert { lines }
     }
 }
 

@@ -5,11 +5,11 @@ ghost use Rattle.serde_json.specs.View.{view};
 ghost use Rattle.serde_json.specs.Find.{as_object};
 ghost use Rattle.aud_accept.specs.Acceptance.{elsewhere};
 ghost use Rattle.aud_text.specs.Lines.{lines_of};
-ghost use Rattle.aud_cert.specs.CertText.{header_keys, header_allowed, rules_keys, natural_at, two_of, rules_at, header_members, header_read, at_line, lines_left, cert_read, rules_read};
+ghost use Rattle.aud_cert.specs.CertText.{header_keys, natural_at, header_members, header_read, at_line, lines_left, cert_read};
 
 use crate::fault::CertTextFault;
 use crate::line::{CERT_LINE_MAX, read_line};
-use aud_accept::{Cert, CertLine, Rules};
+use aud_accept::{Cert, CertLine};
 use aud_text::{
     TextFault, count_lines, has_only_allowed, has_required, json_in, next_filled, whole_of,
 };
@@ -18,33 +18,10 @@ use std::alloc::{Allocator, Global};
 
 static HEADER_KEYS: [&str; 1] = ["cert"];
 
-static RULES_KEYS: [&str; 1] = ["rules"];
-
-static ALLOWED_KEYS: [&str; 2] = ["cert", "rules"];
-
-/// What the header says: how many lines follow, and by which rules.
-#[derive(Clone, Copy)]
-pub(crate) struct Header {
-    count: u64,
-    rules: Rules,
-}
-
 fn keys_of_header() -> &'static [&'static str]
     ensures { map (λ k. k.now) result.now ≡ header_keys }
 {
     HEADER_KEYS.as_slice()
-}
-
-fn keys_of_rules() -> &'static [&'static str]
-    ensures { map (λ k. k.now) result.now ≡ rules_keys }
-{
-    RULES_KEYS.as_slice()
-}
-
-fn keys_allowed() -> &'static [&'static str]
-    ensures { map (λ k. k.now) result.now ≡ header_allowed }
-{
-    ALLOWED_KEYS.as_slice()
 }
 
 /// The whole number at the key, if it is from 0 to the greatest i64.
@@ -59,28 +36,8 @@ fn natural_in(value: &Value, key: &str) -> Option<u64>
     }
 }
 
-/// The second rules, if the number is theirs.
-fn two(number: Option<u64>) -> Option<Rules>
-    ensures { result ≡ two_of number }
-{
-    match number {
-        Some(2) => Some(Rules::Two),
-        _ => None,
-    }
-}
-
-/// The rules that the header names: the first, where it names none.
-fn rules_in(value: &Value) -> Option<Rules>
-    ensures { result ≡ rules_at (view value.now) }
-{
-    if has_required(value, keys_of_rules()) {
-        two(natural_in(value, "rules"))
-    } else {
-        Some(Rules::One)
-    }
-}
-
-fn judge_header(value: &Value) -> Result<Header, TextFault>
+/// How many lines the header says.
+fn judge_header(value: &Value) -> Result<u64, TextFault>
     ensures { result ≡ header_members (view value.now) (as_object (view value.now)) }
 {
     let Some(members) = value.as_object() else {
@@ -89,16 +46,16 @@ fn judge_header(value: &Value) -> Result<Header, TextFault>
     if !has_required(value, keys_of_header()) {
         return Err(TextFault::KeyMissing);
     }
-    if !has_only_allowed(members, keys_allowed()) {
+    if !has_only_allowed(members, keys_of_header()) {
         return Err(TextFault::KeyUnknown);
     }
-    match (natural_in(value, "cert"), rules_in(value)) {
-        (Some(count), Some(rules)) => Ok(Header { count, rules }),
-        _ => Err(TextFault::TypeOrRange),
+    match natural_in(value, "cert") {
+        Some(count) => Ok(count),
+        None => Err(TextFault::TypeOrRange),
     }
 }
 
-fn read_header(alloc: Global, line: &[u8]) -> Result<Header, TextFault>
+fn read_header(alloc: Global, line: &[u8]) -> Result<u64, TextFault>
     ensures { (result ≡ Err TextFault.OutOfMemory) ⊎ (result ≡ header_read line.now) }
 {
     let value = match json_in(alloc, line, CERT_LINE_MAX) {
@@ -136,28 +93,28 @@ fn read_lines<A: Allocator + Copy>(
     text: &[u8],
     left: &[u8],
     number: usize,
-    header: Header,
+    count: u64,
 ) -> Result<Vec<CertLine<A>, A>, CertTextFault>
     requires within { length left.now ≤ length text.now }
     requires room { number + length left.now ≤ length text.now + 1 }
-    ensures { MatchResult result (λ lines. lines_left header.rules text.now left.now number header.count ≡ Ok (map elsewhere lines.items))
-        (λ e. (e.fault ≡ TextFault.OutOfMemory) ⊎ (lines_left header.rules text.now left.now number header.count ≡ Err e)) }
+    ensures { MatchResult result (λ lines. lines_left text.now left.now number count ≡ Ok (map elsewhere lines.items))
+        (λ e. (e.fault ≡ TextFault.OutOfMemory) ⊎ (lines_left text.now left.now number count ≡ Err e)) }
 {
     let mut list = Vec::new(alloc);
     let mut rest = left;
     let mut line = number;
-    let Ok(mut lines) = Vec::with_capacity(lists, most_lines(header.count, left.len())) else {
+    let Ok(mut lines) = Vec::with_capacity(lists, most_lines(count, left.len())) else {
         return Err(CertTextFault {
             line,
             fault: TextFault::OutOfMemory,
         });
     };
-    for i in 0..header.count {
+    for i in 0..count {
         let Some(next) = next_filled(rest, line) else {
             return Err(ends_early(text));
         };
         line = next.number;
-        let read = match read_line(alloc, lists, header.rules, next.line, &mut list) {
+        let read = match read_line(alloc, lists, next.line, &mut list) {
             Ok(read) => read,
             Err(fault) => return Err(CertTextFault { line, fault }),
         };
@@ -181,12 +138,11 @@ fn read_lines<A: Allocator + Copy>(
 
 /// The certificate that a text says, or the first fault of the text, in memory of the program's own allocator.
 ///
-/// A header line says how many lines follow, and by which rules. Empty lines are skipped and counted; a line has at most 65,536 bytes. A text that
+/// A header line says how many lines follow. Empty lines are skipped and counted; a line has at most 65,536 bytes. A text that
 /// ends too early is refused at the line after its last, and a line after those that the header counts as one with an unknown key.
 pub fn read_cert(alloc: Global, text: &[u8]) -> Result<Cert, CertTextFault>
-    ensures read { MatchResult result (λ cert. cert_read text.now ≡ Ok cert.lines.items)
+    ensures { MatchResult result (λ cert. cert_read text.now ≡ Ok cert.lines.items)
         (λ e. (e.fault ≡ TextFault.OutOfMemory) ⊎ (cert_read text.now ≡ Err e)) }
-    ensures rules { IfOk result (λ cert. cert.rules ≡ rules_read text.now) }
 {
     read_cert_into(alloc, alloc, text)
 }
@@ -197,23 +153,19 @@ pub fn read_cert_into<A: Allocator + Copy>(
     lists: A,
     text: &[u8],
 ) -> Result<Cert<A>, CertTextFault>
-    ensures read { MatchResult result (λ cert. cert_read text.now ≡ Ok (map elsewhere cert.lines.items))
+    ensures { MatchResult result (λ cert. cert_read text.now ≡ Ok (map elsewhere cert.lines.items))
         (λ e. (e.fault ≡ TextFault.OutOfMemory) ⊎ (cert_read text.now ≡ Err e)) }
-    ensures rules { IfOk result (λ cert. cert.rules ≡ rules_read text.now) }
 {
     let Some(first) = next_filled(text, 1) else {
         return Err(ends_early(text));
     };
     let line = first.number;
-    let header = match read_header(alloc, first.line) {
-        Ok(header) => header,
+    let count = match read_header(alloc, first.line) {
+        Ok(count) => count,
         Err(fault) => return Err(CertTextFault { line, fault }),
     };
-    match read_lines(alloc, lists, text, first.rest, line + 1, header) {
-        Ok(lines) => Ok(Cert {
-            rules: header.rules,
-            lines,
-        }),
+    match read_lines(alloc, lists, text, first.rest, line + 1, count) {
+        Ok(lines) => Ok(Cert { lines }),
         Err(fault) => Err(fault),
     }
 }

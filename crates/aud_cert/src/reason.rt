@@ -2,9 +2,8 @@
 
 ghost use Rattle.std.specs.Prelude.{◌≡◌, map};
 ghost use Rattle.serde_json.specs.View.{view};
-ghost use Rattle.aud_cert.specs.LineText.{reason_of_word, later_reason, reason_at, required, allowed};
+ghost use Rattle.aud_cert.specs.LineText.{reason_of_word, reason_at, required, allowed};
 
-use aud_accept::Rules;
 use aud_text::word_of;
 use serde_json::Value;
 
@@ -14,40 +13,24 @@ pub(crate) enum Reason {
     Kids,
     Silent,
     Same,
-    Ahead,
-    First,
 }
 
-/// Of the words that came with the second rules.
-fn later_reason_of(rules: Rules, word: &str) -> Option<Reason>
-    ensures { result ≡ later_reason rules word.now }
-{
-    match rules {
-        Rules::One => None,
-        Rules::Two => match word {
-            "ahead" => Some(Reason::Ahead),
-            "first" => Some(Reason::First),
-            _ => None,
-        },
-    }
-}
-
-fn reason_of(rules: Rules, word: &str) -> Option<Reason>
-    ensures { result ≡ reason_of_word rules word.now }
+fn reason_of(word: &str) -> Option<Reason>
+    ensures { result ≡ reason_of_word word.now }
 {
     match word {
         "kids" => Some(Reason::Kids),
         "silent" => Some(Reason::Silent),
         "same" => Some(Reason::Same),
-        _ => later_reason_of(rules, word),
+        _ => None,
     }
 }
 
-pub(crate) fn reason_in(rules: Rules, value: &Value) -> Option<Reason>
-    ensures { result ≡ reason_at rules (view value.now) }
+pub(crate) fn reason_in(value: &Value) -> Option<Reason>
+    ensures { result ≡ reason_at (view value.now) }
 {
     match word_of(value, "by") {
-        Some(word) => reason_of(rules, word),
+        Some(word) => reason_of(word),
         None => None,
     }
 }
@@ -64,8 +47,8 @@ pub(crate) fn required_keys(reason: Option<Reason>) -> &'static [&'static str]
     ensures { map (λ k. k.now) result.now ≡ required reason }
 {
     match reason {
-        Some(Reason::Kids) | Some(Reason::Ahead) => KIDS_KEYS.as_slice(),
-        Some(Reason::Silent) | Some(Reason::First) => SILENT_KEYS.as_slice(),
+        Some(Reason::Kids) => KIDS_KEYS.as_slice(),
+        Some(Reason::Silent) => SILENT_KEYS.as_slice(),
         Some(Reason::Same) => SAME_KEYS.as_slice(),
         None => KIDS_KEYS.as_slice(),
     }

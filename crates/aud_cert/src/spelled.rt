@@ -1,13 +1,13 @@
 //! Reading a line that is spelled as `write_cert` spells it, with no JSON value in between.
 
 ghost use Rattle.std.specs.Prelude.{◌≡◌, ◌∷◌, [], Ok, IfSome};
-ghost use Rattle.aud_accept.specs.Acceptance.{elsewhere, IsPlain, IsOf};
+ghost use Rattle.aud_accept.specs.Acceptance.{elsewhere};
 ghost use Rattle.aud_cert.specs.LineText.{line_read};
 ghost use Rattle.aud_cert.specs.Written.{alone_text, decided_text, line_text, prefix_text, HasShort, IsShort};
 
 use crate::line::{CERT_LINE_MAX, only};
 use crate::order::order_at;
-use aud_accept::{CertLine, Rules};
+use aud_accept::CertLine;
 use aud_text::after;
 use aud_witness::{Decision, Prefix};
 use std::alloc::Allocator;
@@ -71,7 +71,6 @@ fn same_at<A: Allocator + Copy>(
 ) -> Option<CertLine<A>>
     ensures spelled { IfSome result (λ l. line.now ≡ line_text l) }
     ensures short { IfSome result HasShort }
-    ensures plain { IfSome result IsPlain }
 {
     let text = after(line, "{\"as\":\"")?;
     let (other, rest) = order_at(alloc, text, list)?;
@@ -80,15 +79,13 @@ fn same_at<A: Allocator + Copy>(
     Some(CertLine::Same(prefix, other))
 }
 
-/// A line of the first rules.
-fn plain_at<A: Allocator + Copy>(
+fn line_at<A: Allocator + Copy>(
     alloc: A,
     line: &[u8],
     list: &mut Vec<Decision>,
 ) -> Option<CertLine<A>>
     ensures spelled { IfSome result (λ l. line.now ≡ line_text l) }
     ensures short { IfSome result HasShort }
-    ensures plain { IfSome result IsPlain }
 {
     if let Some(same) = same_at(alloc, line, list) {
         return Some(same);
@@ -100,52 +97,16 @@ fn plain_at<A: Allocator + Copy>(
     Some(CertLine::Silent(prefix, decision))
 }
 
-/// A line that came with the second rules.
-fn later_at<A: Allocator + Copy>(
-    alloc: A,
-    line: &[u8],
-    list: &mut Vec<Decision>,
-) -> Option<CertLine<A>>
-    ensures spelled { IfSome result (λ l. line.now ≡ line_text l) }
-    ensures short { IfSome result HasShort }
-{
-    if let Some(prefix) = alone_at(alloc, "ahead", line, list) {
-        return Some(CertLine::Ahead(prefix));
-    }
-    let (prefix, decision) = decided_at(alloc, "first", line, list)?;
-    Some(CertLine::First(prefix, decision))
-}
-
-fn line_at<A: Allocator + Copy>(
-    alloc: A,
-    rules: Rules,
-    line: &[u8],
-    list: &mut Vec<Decision>,
-) -> Option<CertLine<A>>
-    ensures spelled { IfSome result (λ l. line.now ≡ line_text l) }
-    ensures short { IfSome result HasShort }
-    ensures rules { IfSome result (λ l. IsOf rules l) }
-{
-    if let Some(plain) = plain_at(alloc, line, list) {
-        return Some(plain);
-    }
-    match rules {
-        Rules::One => None,
-        Rules::Two => later_at(alloc, line, list),
-    }
-}
-
-/// The line that a text says in a certificate that names the rules, if the text is the one that is written for it. The list is room that each call writes over.
+/// The line that a text says, if the text is the one that is written for it. The list is room that each call writes over.
 pub(crate) fn line_spelled<A: Allocator + Copy>(
     alloc: A,
-    rules: Rules,
     line: &[u8],
     list: &mut Vec<Decision>,
 ) -> Option<CertLine<A>>
-    ensures { IfSome result (λ l. line_read rules line.now ≡ Ok (elsewhere l)) }
+    ensures { IfSome result (λ l. line_read line.now ≡ Ok (elsewhere l)) }
 {
     if line.len() > CERT_LINE_MAX {
         return None;
     }
-    line_at(alloc, rules, line, list)
+    line_at(alloc, line, list)
 }

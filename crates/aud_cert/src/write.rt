@@ -2,9 +2,9 @@
 
 ghost use Rattle.std.specs.Prelude.{◌≡◌, ◌++◌, ◌∷◌, [], IfOk, OnOk};
 ghost use Rattle.aud_text.specs.Orders.{decision_text, fate_letter};
-ghost use Rattle.aud_cert.specs.Written.{prefix_text, alone_text, decided_text, same_text, line_text, rules_text, header_text, ended, cert_text, ReadsBack};
+ghost use Rattle.aud_cert.specs.Written.{prefix_text, alone_text, decided_text, same_text, line_text, header_text, ended, cert_text, ReadsBack};
 
-use aud_accept::{Cert, CertLine, Rules};
+use aud_accept::{Cert, CertLine};
 use aud_event::OutOfMemory;
 use aud_text::push_order;
 use aud_witness::{Decision, Fate, Prefix};
@@ -104,8 +104,6 @@ fn push_keys<A: Allocator, B: Allocator>(
         CertLine::Kids(prefix) => push_alone(text, "kids", prefix),
         CertLine::Silent(prefix, decision) => push_decided(text, "silent", prefix, *decision),
         CertLine::Same(prefix, other) => push_same(text, prefix, other),
-        CertLine::Ahead(prefix) => push_alone(text, "ahead", prefix),
-        CertLine::First(prefix, decision) => push_decided(text, "first", prefix, *decision),
     }
 }
 
@@ -120,37 +118,23 @@ fn push_line<A: Allocator, B: Allocator>(
     push_text(text, "\n")
 }
 
-/// How the header ends.
-fn end_of(rules: Rules) -> &'static str
-    ensures { result.now ≡ ended (rules_text rules) }
-{
-    match rules {
-        Rules::One => "}\n",
-        Rules::Two => ",\"rules\":2}\n",
-    }
-}
-
-fn push_header<A: Allocator>(
-    text: &mut Vec<u8, A>,
-    rules: Rules,
-    count: usize,
-) -> Result<(), OutOfMemory>
-    ensures { OnOk result (text.new.items ≡ text.old.items ++ ended (header_text rules count)) }
+fn push_header<A: Allocator>(text: &mut Vec<u8, A>, count: usize) -> Result<(), OutOfMemory>
+    ensures { OnOk result (text.new.items ≡ text.old.items ++ ended (header_text count)) }
 {
     let mut buffer = Buffer::new();
     push_text(text, "{\"cert\":")?;
     push_text(text, buffer.format(count))?;
-    push_text(text, end_of(rules))
+    push_text(text, "}\n")
 }
 
 fn text_of<A: Allocator + Copy, B: Allocator>(
     alloc: A,
     cert: &Cert<B>,
 ) -> Result<Vec<u8, A>, OutOfMemory>
-    ensures { IfOk result (λ text. text.items ≡ cert_text cert.now.rules cert.now.lines.items) }
+    ensures { IfOk result (λ text. text.items ≡ cert_text cert.now.lines.items) }
 {
     let mut text = Vec::new(alloc);
-    push_header(&mut text, cert.rules, cert.lines.len())?;
+    push_header(&mut text, cert.lines.len())?;
     for line in &cert.lines {
         push_line(&mut text, line)?;
     }
@@ -159,15 +143,15 @@ fn text_of<A: Allocator + Copy, B: Allocator>(
 
 /// The text of the certificate: a header, its lines, and a line feed after each.
 ///
-/// It reads as the certificate where each line is of its rules and within the limits: ids below 4,096, order texts of at most 32,768 bytes, and at
+/// It reads as the certificate where each line is within the limits: ids below 4,096, order texts of at most 32,768 bytes, and at
 /// most 65,536 bytes a line. Each line of an accepted certificate is (`laws::accepted_reads_back`). The header counts fewer than 2^63
 /// lines.
 pub fn write_cert<A: Allocator + Copy, B: Allocator>(
     alloc: A,
     cert: &Cert<B>,
 ) -> Result<Vec<u8, A>, OutOfMemory>
-    ensures spelled { IfOk result (λ text. text.items ≡ cert_text cert.now.rules cert.now.lines.items) }
-    ensures reads_back { IfOk result (λ text. ReadsBack cert.now.rules cert.now.lines.items text.items) }
+    ensures spelled { IfOk result (λ text. text.items ≡ cert_text cert.now.lines.items) }
+    ensures reads_back { IfOk result (λ text. ReadsBack cert.now.lines.items text.items) }
 {
     let text = text_of(alloc, cert)?;
     Ok(text)

@@ -5,9 +5,8 @@ use Rattle.std.proofs.lemmas.List.Elements.{All-head, All-tail, All-cons, All-ni
 use Rattle.aud_text.specs.declared.fault.TextFault.{TextFault}
 use Rattle.aud_text.specs.Lines.{Filled, lines_of, put_first, filled_from, filled_lines}
 use Rattle.aud_cert.specs.declared.fault.CertTextFault.{CertTextFault}
-use Rattle.aud_accept.specs.declared.cert.Rules.{Rules}
 use Rattle.aud_cert.specs.LineText.{Line, line_read}
-use Rattle.aud_cert.specs.CertText.{HeaderOf, at_line, with_line, lines_read, headed, lines_headed, header_read, cert_read}
+use Rattle.aud_cert.specs.CertText.{at_line, with_line, lines_read, headed, lines_headed, header_read, cert_read}
 
 abbrev IsUpTo : ℕ → Filled → Type 0
 IsUpTo m f = f.number ≤ m
@@ -29,16 +28,16 @@ by-line m f e here (Err x) more later is = at-line m f.number x e here is
 by-line m f e here (Ok line) (Err x) later is = later is
 by-line m f e here (Ok line) (Ok lines) later is = absurd (cc)
 
-lines-fault : (r : Rules) (after m k : ℕ) (fs : List Filled) (e : CertTextFault) → All (IsUpTo m) fs → after ≤ m → lines_read r after k fs ≡ refusal e → e.line ≤ m
-lines-fault r after m zero [] e all low is = absurd (cc)
-lines-fault r after m zero (f ∷ fs) e all low is = at-line m f.number _ e (All-head (IsUpTo m) f fs all) is
-lines-fault r after m (suc k) [] e all low is = at-line m after _ e low is
-lines-fault r after m (suc k) (f ∷ fs) e all low is =
-    by-line m f e (All-head (IsUpTo m) f fs all) (line_read r f.line) (lines_read r after k fs) (λ later. lines-fault r after m k fs e (All-tail (IsUpTo m) f fs all) low later) is
+lines-fault : (after m k : ℕ) (fs : List Filled) (e : CertTextFault) → All (IsUpTo m) fs → after ≤ m → lines_read after k fs ≡ refusal e → e.line ≤ m
+lines-fault after m zero [] e all low is = absurd (cc)
+lines-fault after m zero (f ∷ fs) e all low is = at-line m f.number _ e (All-head (IsUpTo m) f fs all) is
+lines-fault after m (suc k) [] e all low is = at-line m after _ e low is
+lines-fault after m (suc k) (f ∷ fs) e all low is =
+    by-line m f e (All-head (IsUpTo m) f fs all) (line_read f.line) (lines_read after k fs) (λ later. lines-fault after m k fs e (All-tail (IsUpTo m) f fs all) low later) is
 
-headed-fault : (after m n : ℕ) (r : Result HeaderOf TextFault) (fs : List Filled) (e : CertTextFault) → n ≤ m → All (IsUpTo m) fs → after ≤ m → headed after n r fs ≡ refusal e → e.line ≤ m
+headed-fault : (after m n : ℕ) (r : Result ℕ TextFault) (fs : List Filled) (e : CertTextFault) → n ≤ m → All (IsUpTo m) fs → after ≤ m → headed after n r fs ≡ refusal e → e.line ≤ m
 headed-fault after m n (Err x) fs e low all last is = at-line m n x e low is
-headed-fault after m n (Ok header) fs e low all last is = lines-fault header.rules after m header.count fs e all last is
+headed-fault after m n (Ok count) fs e low all last is = lines-fault after m count fs e all last is
 
 whole-fault : (after m : ℕ) (fs : List Filled) (e : CertTextFault) → All (IsUpTo m) fs → after ≤ m → lines_headed after fs ≡ refusal e → e.line ≤ m
 whole-fault after m [] e all low is = at-line m after _ e low is

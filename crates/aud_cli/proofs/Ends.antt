@@ -28,6 +28,8 @@ line-ends (said.RecordRefused line e) cause is = absurd (cc)
 line-ends (said.CertificateLineRefused line e) cause is = absurd (cc)
 line-ends said.CertificateRefused cause is = absurd (cc)
 line-ends (said.Certified cert) cause is = absurd (cc)
+line-ends (said.Refuted lines) cause is = absurd (cc)
+line-ends (said.RefutationLineRefused line) cause is = absurd (cc)
 
 -- a run that said a whole line has left what a run leaves that ends so
 pub whole-outcome : (May : Said → Type 0) (before after : Seen) (e : Ended) → Whole May before after e → RunOutcome May before after e

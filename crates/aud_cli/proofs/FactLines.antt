@@ -18,7 +18,8 @@ use Rattle.aud_base.proofs.Bools.{and_true}
 use Rattle.aud_text.specs.declared.fault.TextFault.{TextFault}
 use Rattle.aud_text.specs.Json.{Key, json_read, has, has_all, has_only, is_one_of, word_at}
 use Rattle.aud_text.specs.FactText.{fact_read, judged_json, judged_members, judged_as, shape_of, shape_of_ev, shape_of_event, argument_keys, operation_keys, all_keys, required, allowed}
-use Rattle.aud_cli.specs.Certificates.{has_cert, begins_certificate}
+use Rattle.aud_cli.specs.Evidences.{has_key, begins}
+use Rattle.aud_cli.specs.declared.evidence.Evidence.TheVariants.{Certificate}
 use Rattle.aud_text.specs.Limits.{longest_line}
 
 module _ (x : Key) (ks : List Key) (other : is_one_of ks x ≡ false) where
@@ -85,7 +86,7 @@ module _ (plan : PlanOf) (f : Fact) where
   only : (d : Data) (ms : Members) → judged_as plan d ms (shape_of plan.format d) ≡ Ok f → has_only (allowed plan.format (shape_of plan.format d)) ms ≡ true
   only d ms e = (held (has_only (allowed plan.format (shape_of plan.format d)) ms) _ _ (held (has_all (required (shape_of plan.format d)) d) _ _ e).1).0
 
-  by_data : (d : Data) → judged_members plan d (as_object d) ≡ Ok f → has_cert (Ok d) ≡ false
+  by_data : (d : Data) → judged_members plan d (as_object d) ≡ Ok f → has_key (codes "cert") (Ok d) ≡ false
   by_data null e = refl
   by_data (boolean b) e = refl
   by_data (number n) e = refl
@@ -93,9 +94,9 @@ module _ (plan : PlanOf) (f : Fact) where
   by_data (array ds) e = refl
   by_data (object ms) e = absent (codes "cert") (allowed plan.format (shape_of plan.format (object ms))) (not_allowed plan.format (object ms)) ms (only (object ms) ms e)
 
-  by_json : (r : Result Data TextFault) → judged_json plan r ≡ Ok f → has_cert r ≡ false
+  by_json : (r : Result Data TextFault) → judged_json plan r ≡ Ok f → has_key (codes "cert") r ≡ false
   by_json (Err x) e = refl
   by_json (Ok d) e = by_data d e
 
-  pub begins_none : (line : List ℕ) → fact_read plan line ≡ Ok f → begins_certificate line ≡ false
+  pub begins_none : (line : List ℕ) → fact_read plan line ≡ Ok f → begins Certificate line ≡ false
   begins_none line e = by_json (json_read longest_line line) e

@@ -1,5 +1,5 @@
 -- What is said of a well-formed history is what is said of its facts.
-use Rattle.std.proofs.Common.{◌≡◌, ℕ, List, [], Option, Some, None, Result, Ok, Err, IfOk, subst}
+use Rattle.std.proofs.Common.{◌≡◌, ℕ, Bool, true, false, List, [], Option, Some, None, Result, Ok, Err, IfOk, subst}
 use Rattle.aud_event.specs.Meanings.{Declared, PlanOf}
 use Rattle.aud_history.specs.Histories.{History}
 use Rattle.aud_history.specs.WellFormed.{IsWellFormed}
@@ -10,7 +10,6 @@ use Rattle.aud_know.proofs.Judging.{answered}
 use Rattle.aud_report.specs.declared.said.Said.{Said}
 use Rattle.aud_report.specs.declared.said.Said.TheVariants as said
 use Rattle.aud_know.specs.declared.verdict.Verdict.TheVariants as verdict
-use Rattle.aud_accept.specs.declared.cert.Rules.{Rules}
 use Rattle.aud_cli.specs.Line.{Answers, SetSays, NoneSays, DecideSays}
 
 pub says_of_facts : (A : Answers) (facts : FactsOf) (v : SealedOf) → v.facts ≡ facts → IsSealedWith facts v.history → IsWellFormed v.history →
@@ -28,11 +27,11 @@ pub none-from_refuted : (objects : List Declared) (h : History) → Refuted obje
 none-from_refuted objects h refuted opaque = refuted opaque.0 opaque.1
 
 -- what is said where no order shows is said by decide
-pub none-decides : (budget : Option ℕ) (certifying : Option Rules) (plan : PlanOf) (h : History) (s : Said) → NoneSays certifying plan h s → DecideSays budget certifying plan h s
-none-decides budget (Some r) plan h (said.Verdict (verdict.Opaque p)) says = absurd says
-none-decides budget None plan h (said.Verdict (verdict.Opaque p)) says = absurd says
-none-decides budget (Some r) plan h (said.Verdict verdict.Unfinished) says = absurd says
-none-decides budget None plan h (said.Verdict verdict.Unfinished) says = absurd says
+pub none-decides : (budget : Option ℕ) (certifying : Bool) (plan : PlanOf) (h : History) (s : Said) → NoneSays certifying plan h s → DecideSays budget certifying plan h s
+none-decides budget true plan h (said.Verdict (verdict.Opaque p)) says = absurd says
+none-decides budget false plan h (said.Verdict (verdict.Opaque p)) says = absurd says
+none-decides budget true plan h (said.Verdict verdict.Unfinished) says = absurd says
+none-decides budget false plan h (said.Verdict verdict.Unfinished) says = absurd says
 none-decides budget certifying plan h (said.Verdict verdict.NotOpaque) says = says
 none-decides budget certifying plan h (said.Verdict (verdict.Conflict kind log at)) says = says
 none-decides budget certifying plan h (said.Verdict (verdict.Waiting log)) says = says
@@ -45,3 +44,5 @@ none-decides budget certifying plan h (said.RecordRefused line e) says = says
 none-decides budget certifying plan h (said.CertificateLineRefused line e) says = says
 none-decides budget certifying plan h said.CertificateRefused says = says
 none-decides budget certifying plan h (said.Certified c) says = says
+none-decides budget certifying plan h (said.Refuted lines) says = says
+none-decides budget certifying plan h (said.RefutationLineRefused line) says = says

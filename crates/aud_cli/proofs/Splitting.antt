@@ -1,11 +1,12 @@
--- The lines before a certificate, as far as they were looked at.
+-- The lines before evidence, as far as they were looked at.
 use Rattle.std.specs.Prelude.{◌≡◌, ◌⊎◌, ℕ, ◌+◌, ◌-◌, ◌<◌, ◌≤◌, true, false, List, [], ◌∷◌, ◌++◌, length, take, drop, Some, None, flat_map, refl}
 use Rattle.std.specs.List.{position_from}
 use Rattle.std.proofs.Common.{sym, ◌∙◌, ap, inl, inr, arith, get_or, cond, append_assoc, append-nil, length-append}
 use Rattle.std.proofs.lemmas.Bool.{cases_lt}
 use Rattle.std.proofs.lemmas.List.{take_more, drop_more, drop_all}
 use Rattle.aud_text.specs.Lines.{lines_of, Splits}
-use Rattle.aud_cli.specs.Certificates.{begins_certificate, certificate_place, text_before, text_from}
+use Rattle.aud_cli.specs.Evidences.{begins, place_of, text_before, text_from}
+use Rattle.aud_cli.specs.declared.evidence.Evidence.{Evidence}
 
 abbrev ended : List ℕ → List ℕ
 ended l = l ++ 10 ∷ []
@@ -22,17 +23,17 @@ drop-front : (xs ys : List ℕ) → drop (length xs) (xs ++ ys) ≡ ys
 drop-front [] ys = refl
 drop-front (x ∷ xs) ys = drop-front xs ys
 
--- so many lines were looked at, none of which begins a certificate
-pub record IsAt (text rest : List ℕ) (n : ℕ) : Type 0 where
+-- so many lines were looked at, none of which begins it
+pub record IsAt (e : Evidence) (text rest : List ℕ) (n : ℕ) : Type 0 where
   pub left : lines_of rest ≡ drop n (lines_of text)
-  pub place : certificate_place text ≡ position_from begins_certificate n (lines_of rest)
+  pub place : place_of e text ≡ position_from (begins e) n (lines_of rest)
   pub parts : (rest ≡ []) ⊎ (text ≡ text_before text n ++ rest)
   pub room : n + length rest ≤ length text
 
-pub at-start : (text : List ℕ) → IsAt text text 0
-at-start text = record { left = refl; place = refl; parts = inr refl; room = omega arith }
+pub at-start : (e : Evidence) (text : List ℕ) → IsAt e text text 0
+at-start e text = record { left = refl; place = refl; parts = inr refl; room = omega arith }
 
-module _ (text rest : List ℕ) (n : ℕ) (was : IsAt text rest n) where
+module _ (e : Evidence) (text rest : List ℕ) (n : ℕ) (was : IsAt e text rest n) where
   -- the next line
   next : (line : List ℕ) (ls : List (List ℕ)) → lines_of rest ≡ line ∷ ls → (n < length (lines_of text)) × ((get_or (lines_of text) n [] ≡ line) × (drop (n + 1) (lines_of text) ≡ ls))
   next line ls is =
@@ -45,16 +46,16 @@ module _ (text rest : List ℕ) (n : ℕ) (was : IsAt text rest n) where
       ]
 
   filled : (line : List ℕ) (ls : List (List ℕ)) → lines_of rest ≡ line ∷ ls → rest ≡ [] → ⊥
-  filled line ls is none = let e : [] ≡ line ∷ ls = ap lines_of (sym none) ∙ is in cc
+  filled line ls is none = let clash : [] ≡ line ∷ ls = ap lines_of (sym none) ∙ is in cc
 
-  pub at-more : (line after : List ℕ) → lines_of rest ≡ line ∷ lines_of after → Splits rest line after → begins_certificate line ≡ false → length after < length rest → IsAt text after (n + 1)
+  pub at-more : (line after : List ℕ) → lines_of rest ≡ line ∷ lines_of after → Splits rest line after → begins e line ≡ false → length after < length rest → IsAt e text after (n + 1)
   at-more line after is splits fails shorter =
       let (inside, (here, more)) = next line (lines_of after) is in
       let grown : text_before text (n + 1) ≡ text_before text n ++ ended line =
       ap (flat_map ended) (take_more (lines_of text) n [] inside) ∙ flat-append (take n (lines_of text)) (get_or (lines_of text) n [] ∷ [])
       ∙ ap (λ l. text_before text n ++ (ended l ++ [])) here ∙ ap (λ l. text_before text n ++ l) (append-nil (ended line)) in record {
         left = sym more;
-        place = was.place ∙ ap (position_from begins_certificate n) is ∙ ap (λ b. cond b (Some n) (position_from begins_certificate (n + 1) (lines_of after))) fails;
+        place = was.place ∙ ap (position_from (begins e) n) is ∙ ap (λ b. cond b (Some n) (position_from (begins e) (n + 1) (lines_of after))) fails;
         parts = elim splits.is_feed [
           | inr last ↦ inl last.1
           | inl feed ↦ elim was.parts [
@@ -66,10 +67,10 @@ module _ (text rest : List ℕ) (n : ℕ) (was : IsAt text rest n) where
         room = let r = was.room in omega arith;
       }
 
-  pub at-found : (line after : List ℕ) → lines_of rest ≡ line ∷ lines_of after → begins_certificate line ≡ true →
-      (certificate_place text ≡ Some n) × ((take (length text - length rest) text ≡ text_before text n) × (rest ≡ text_from text n))
+  pub at-found : (line after : List ℕ) → lines_of rest ≡ line ∷ lines_of after → begins e line ≡ true →
+      (place_of e text ≡ Some n) × ((take (length text - length rest) text ≡ text_before text n) × (rest ≡ text_from text n))
   at-found line after is holds = (
-    was.place ∙ ap (position_from begins_certificate n) is ∙ ap (λ b. cond b (Some n) (position_from begins_certificate (n + 1) (lines_of after))) holds,
+    was.place ∙ ap (position_from (begins e) n) is ∙ ap (λ b. cond b (Some n) (position_from (begins e) (n + 1) (lines_of after))) holds,
     elim was.parts [
       | inl none ↦ absurd (filled line (lines_of after) is none)
       | inr whole ↦
@@ -81,5 +82,5 @@ module _ (text rest : List ℕ) (n : ℕ) (was : IsAt text rest n) where
     ],
   )
 
-  pub at-end : rest ≡ [] → certificate_place text ≡ None
-  at-end none = was.place ∙ ap (λ r. position_from begins_certificate n (lines_of r)) none
+  pub at-end : rest ≡ [] → place_of e text ≡ None
+  at-end none = was.place ∙ ap (λ r. position_from (begins e) n (lines_of r)) none

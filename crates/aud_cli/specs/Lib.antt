@@ -1,4 +1,4 @@
 pub mod Jobs
-pub mod Certificates
+pub mod Evidences
 pub mod Outcomes
 pub mod Line

@@ -1,5 +1,5 @@
 -- What may be said of an input.
-use Rattle.std.specs.Prelude.{◌≡◌, ◌≢◌, ℕ, ◌+◌, List, [], Option, Some, None, Result, Ok, Err, length, map, string_bytes}
+use Rattle.std.specs.Prelude.{◌≡◌, ◌≢◌, ℕ, ◌+◌, Bool, true, false, List, [], Option, Some, None, Result, Ok, Err, length, map, string_bytes}
 use Rattle.aud_event.specs.declared.fact.Fact.{Fact}
 use Rattle.aud_event.specs.Meanings.{PlanOf}
 use Rattle.aud_history.specs.Histories.{History}
@@ -11,27 +11,26 @@ use Rattle.aud_event.specs.contracts.fact.FactOrd.TheImpl as fact_ord
 use Rattle.aud_lattice.specs.Sets.{inserted}
 use Rattle.aud_know.specs.Verdicts.{FactsReport}
 use Rattle.aud_know.specs.declared.verdict.Verdict.TheVariants as verdict
-use Rattle.aud_search.specs.Searches.{SpentBy}
+use Rattle.search_prefix.specs.Searches.{SpentBy}
 use Rattle.aud_text.specs.Orders.{order_read}
 use Rattle.aud_text.specs.Lines.{lines_of}
 use Rattle.aud_text.specs.declared.fault.TextFault.{TextFault}
 use Rattle.aud_text.specs.declared.fault.TextFault.TheVariants as text_fault
-use Rattle.std.specs.List.{All}
-use Rattle.aud_accept.specs.Acceptance.{IsAccepted, IsPlain, IsOf, elsewhere}
-use Rattle.aud_accept.specs.declared.cert.Rules.{Rules}
+use Rattle.aud_accept.specs.Acceptance.{IsAccepted, elsewhere}
 use Rattle.aud_cert.specs.LineText.{Line as CertLineOf}
 use Rattle.aud_cert.specs.CertText.{cert_read}
 use Rattle.aud_cert.specs.declared.fault.CertTextFault.{CertTextFault}
 use Rattle.aud_report.specs.declared.said.Said.{Said}
 use Rattle.aud_report.specs.declared.said.Said.TheVariants as said
 use Rattle.aud_input.specs.Inputs.{InputOf, input_read}
-use Rattle.aud_cli.specs.Certificates.{certificate_place, text_before, text_from}
+use Rattle.aud_cli.specs.Evidences.{place_of, text_before, text_from}
+use Rattle.aud_cli.specs.declared.evidence.Evidence.TheVariants.{Certificate, Refutation}
 use Rattle.aud_input.specs.declared.input.InputFault.{InputFault}
 use Rattle.aud_input.specs.declared.input.InputFault.TheVariants as fault
 use Rattle.aud_cli.specs.declared.question.Question.{Question}
 use Rattle.aud_cli.specs.declared.question.Question.TheVariants as question
 use Rattle.aud_cli.specs.declared.job.Job.{Job}
-use Rattle.aud_cli.specs.declared.job.Job.TheVariants.{Check, Decide, Verify}
+use Rattle.aud_cli.specs.declared.job.Job.TheVariants.{Check, Decide, Verify, Refute, Confirm}
 
 -- what a job may say of a well-formed history of a plan
 abbrev pub Answers : Type 1
@@ -43,11 +42,10 @@ CheckSays order plan h (said.Verdict (verdict.Opaque p)) = (p ≡ order) × Show
 CheckSays order plan h (said.OrderRefused e) = first_order_fault plan.objects h order ≡ Some e
 CheckSays order plan h _ = ⊥
 
--- where no order shows the history: `not opaque`, and with a certificate by some rules one that names them, has lines of them, and is
--- accepted
-abbrev pub NoneSays : Option Rules → Answers
-NoneSays None plan h (said.Verdict verdict.NotOpaque) = Opaque plan.objects h → ⊥
-NoneSays (Some r) plan h (said.Certified cert) = (cert.rules ≡ r) × All (IsOf r) cert.lines.items × IsAccepted plan.objects h cert.lines.items × (Opaque plan.objects h → ⊥)
+-- where no order shows the history: `not opaque`, and where a certificate is asked for one that is accepted
+abbrev pub NoneSays : Bool → Answers
+NoneSays false plan h (said.Verdict verdict.NotOpaque) = Opaque plan.objects h → ⊥
+NoneSays true plan h (said.Certified cert) = IsAccepted plan.objects h cert.lines.items × (Opaque plan.objects h → ⊥)
 NoneSays certifying plan h _ = ⊥
 
 -- the budget can be spent with neither found
@@ -57,23 +55,37 @@ IsSpent (Some b) plan h = SpentBy plan.objects h [] b
 
 -- decide: `opaque` with any order that shows the history, or what is said where none does; where there is a budget, or
 -- `unfinished` if it can be spent
-abbrev pub DecideSays : Option ℕ → Option Rules → Answers
+abbrev pub DecideSays : Option ℕ → Bool → Answers
 DecideSays budget certifying plan h (said.Verdict (verdict.Opaque p)) = Shows plan.objects h p
 DecideSays budget certifying plan h (said.Verdict verdict.Unfinished) = IsSpent budget plan h
 DecideSays budget certifying plan h s = NoneSays certifying plan h s
 
--- verify: `not opaque` only where the certificate is accepted, and then no order shows the history; else that it is refused, which of
--- lines of the first rules says that it is not accepted
+-- verify: `not opaque` only where the certificate is accepted, and then no order shows the history; else that it is refused
 abbrev pub VerifySays : List CertLineOf → Answers
 VerifySays lines plan h (said.Verdict verdict.NotOpaque) = IsAccepted plan.objects h lines × (Opaque plan.objects h → ⊥)
-VerifySays lines plan h said.CertificateRefused = All IsPlain lines → IsAccepted plan.objects h lines → ⊥
+VerifySays lines plan h said.CertificateRefused = IsAccepted plan.objects h lines → ⊥
 VerifySays lines plan h _ = ⊥
+
+-- refute: an order that shows the history; or `not opaque` with the lines of a refutation, where none does; or `unfinished`
+abbrev pub RefuteSays : Answers
+RefuteSays plan h (said.Verdict (verdict.Opaque p)) = Shows plan.objects h p
+RefuteSays plan h (said.Verdict verdict.Unfinished) = Unit {0}
+RefuteSays plan h (said.Refuted lines) = Opaque plan.objects h → ⊥
+RefuteSays plan h _ = ⊥
+
+-- confirm: `not opaque` only where no order shows the history; or that a line of the refutation is refused, of which nothing is said
+abbrev pub ConfirmSays : Answers
+ConfirmSays plan h (said.Verdict verdict.NotOpaque) = Opaque plan.objects h → ⊥
+ConfirmSays plan h (said.RefutationLineRefused line) = Unit {0}
+ConfirmSays plan h _ = ⊥
 
 -- what may be said where this is asked
 abbrev pub QuestionSays : Question → Answers
 QuestionSays (question.Shows order) = CheckSays order
 QuestionSays (question.Any budget certifying) = DecideSays budget certifying
 QuestionSays (question.Accepts cert) = VerifySays (map elsewhere cert.now.lines.items)
+QuestionSays question.Why = RefuteSays
+QuestionSays (question.Confirms text lines) = ConfirmSays
 
 -- of a set of facts: the status, if they are not sealed, ill-formedness, if their history is not well-formed, else the
 -- answer
@@ -121,8 +133,20 @@ abbrev pub PlaceSays : List ℕ → Option ℕ → Said → Type 0
 PlaceSays input None s = UncertifiedSays (length (lines_of input) + 1) (input_read input) s
 PlaceSays input (Some n) s = CertifiedSays n (input_read (text_before input n)) (cert_read (text_from input n)) s
 
+-- where no line begins a refutation: it is missing at the line after the last
+abbrev pub UnrefutedSays : ℕ → Result InputOf InputFault → Said → Type 0
+UnrefutedSays after (Ok i) s = s ≡ said.RefutationLineRefused after
+UnrefutedSays after (Err e) s = RefusesInput e s
+
+-- confirm: by the place of the first line that begins a refutation
+abbrev pub RefutationSays : List ℕ → Option ℕ → Said → Type 0
+RefutationSays input None s = UnrefutedSays (length (lines_of input) + 1) (input_read input) s
+RefutationSays input (Some n) s = InputSays ConfirmSays (input_read (text_before input n)) s
+
 -- what a job may say of an input: the first of these that applies
 abbrev pub Line : Job → List ℕ → Said → Type 0
 Line (Check text) input s = OrderSays (order_read (string_bytes text)) input s
 Line (Decide budget certifying) input s = InputSays (DecideSays budget certifying) (input_read input) s
-Line Verify input s = PlaceSays input (certificate_place input) s
+Line Verify input s = PlaceSays input (place_of Certificate input) s
+Line Refute input s = InputSays RefuteSays (input_read input) s
+Line Confirm input s = RefutationSays input (place_of Refutation input) s

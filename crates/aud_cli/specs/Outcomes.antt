@@ -33,6 +33,8 @@ ended_by (said.RecordRefused line e) = ended.Refused
 ended_by (said.CertificateLineRefused line e) = ended.Refused
 ended_by said.CertificateRefused = ended.Refused
 ended_by (said.Certified cert) = ended.NotOpaque
+ended_by (said.Refuted lines) = ended.NotOpaque
+ended_by (said.RefutationLineRefused line) = ended.Refused
 
 -- the bytes are a line that the job may say of the input, and a job ends so that says it
 abbrev pub IsLine : Job → List ℕ → List ℕ → Ended → Type 0

@@ -87,7 +87,8 @@ pub fn end_of(said: &Said) -> Ended
         | Said::PlanRefused(_)
         | Said::RecordRefused(_, _)
         | Said::CertificateLineRefused(_, _)
-        | Said::CertificateRefused => Ended::Refused,
-        Said::Certified(_) => Ended::NotOpaque,
+        | Said::CertificateRefused
+        | Said::RefutationLineRefused(_) => Ended::Refused,
+        Said::Certified(_) | Said::Refuted(_) => Ended::NotOpaque,
     }
 }

@@ -1,17 +1,19 @@
 //! What the program may be asked for.
 
-use aud_cert::Rules;
-
 /// A run over the lines of an input.
 #[derive(Debug, Drop)]
 pub enum Job {
     /// Whether the order of this text shows the history opaque.
     Check(String),
-    /// Whether some order shows the history opaque; with a budget, so far as at most so many expansions show; and by which rules a
-    /// certificate is written where none does, if one is.
-    Decide(Option<u64>, Option<Rules>),
+    /// Whether some order shows the history opaque; with a budget, so far as at most so many expansions show; and whether a certificate is
+    /// written where none does.
+    Decide(Option<u64>, bool),
     /// Whether the certificate after the records is accepted.
     Verify,
+    /// Why no order shows the history opaque, as far as clause learning tells.
+    Refute,
+    /// Whether the refutation after the records is accepted.
+    Confirm,
 }
 
 /// An audit: the records are shared out among nodes, whose workers search side by side.

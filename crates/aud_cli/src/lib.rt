@@ -1,14 +1,13 @@
 #![tactic(auto)]
 //! The program's runs: from an input's bytes to the line that is said of it.
 
-mod certificate;
 mod ended;
+mod evidence;
 mod job;
 mod question;
 mod reading;
 mod run;
 
-pub use aud_cert::Rules;
 pub use ended::{Cause, Ended, end_of};
 pub use job::{AuditJob, Command, Job};
 pub use question::Question;

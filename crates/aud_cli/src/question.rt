@@ -1,20 +1,21 @@
 //! What is asked of a well-formed history, and its answer.
 
-ghost use Rattle.std.specs.Prelude.{IfOk, None, Some, map};
+ghost use Rattle.std.specs.Prelude.{IfOk, None, Some, map, true};
 ghost use Rattle.aud_history.specs.WellFormed.{IsWellFormed};
 ghost use Rattle.aud_accept.specs.Acceptance.{elsewhere};
-ghost use Rattle.aud_accept.specs.declared.cert.Rules.{Rules as RulesOf};
-ghost use Rattle.aud_cli.specs.Line.{CheckSays, DecideSays, NoneSays, VerifySays, QuestionSays};
+ghost use Rattle.aud_cli.specs.Line.{CheckSays, ConfirmSays, DecideSays, NoneSays, RefuteSays, VerifySays, QuestionSays};
 ghost use Rattle.aud_witness.specs.Orders.{Opaque};
 
-use aud_cert::{Cert, Rules, cert_by_rules, check_cert, make_cert};
+use aud_cert::{Cert, check_cert, make_cert};
+use aud_clauses::{Judgement, judge};
 use aud_event::OutOfMemory;
+use aud_evidence::{EvidenceFault, read_refutation, write_refutation};
 use aud_facts::Sealed;
 use aud_history::History;
 use aud_know::Verdict;
 use aud_order::Shape;
 use aud_report::Said;
-use aud_search::{Decided, Outcome, decide, explore};
+use aud_search::{Decided, LONG, Learned, Outcome, decide, explore, learn};
 use aud_witness::{Prefix, shows};
 use bumpalo::Bump;
 use std::alloc::{Allocator, Global};
@@ -25,10 +26,14 @@ use std::sync::Arc;
 pub enum Question<'q, 'l> {
     /// Whether this order shows it.
     Shows(Prefix),
-    /// Whether any order does, perhaps with a budget, and with a certificate by some rules where none does or without.
-    Any(Option<u64>, Option<Rules>),
+    /// Whether any order does, perhaps with a budget, and with a certificate where none does or without.
+    Any(Option<u64>, bool),
     /// Whether the certificate that none does is accepted.
     Accepts(&'q Cert<&'l Bump>),
+    /// Why none does, as far as clause learning tells.
+    Why,
+    /// Whether the refutation of this text, which begins after so many lines, is accepted.
+    Confirms(&'q [u8], usize),
 }
 
 fn answer_check(alloc: Global, order: Prefix, history: &History) -> Result<Said, OutOfMemory>
@@ -44,7 +49,7 @@ fn answer_check(alloc: Global, order: Prefix, history: &History) -> Result<Said,
 fn answer_explore(
     alloc: Global,
     budget: u64,
-    certifying: Option<Rules>,
+    certifying: bool,
     shape: &Shape,
 ) -> Result<Said, OutOfMemory>
     ensures { IfOk result (DecideSays (Some budget) certifying shape.now.sealed.facts.plan shape.now.sealed.history) }
@@ -56,10 +61,10 @@ fn answer_explore(
     }
 }
 
-/// A certificate by the first rules that no order shows the history.
-fn plain_cert(alloc: Global, shape: &Shape) -> Result<Said, OutOfMemory>
+/// A certificate that no order shows the history.
+fn certified(alloc: Global, shape: &Shape) -> Result<Said, OutOfMemory>
     requires { Opaque shape.now.sealed.facts.plan.objects shape.now.sealed.history → ⊥ }
-    ensures { IfOk result (NoneSays (Some RulesOf.One) shape.now.sealed.facts.plan shape.now.sealed.history) }
+    ensures { IfOk result (NoneSays true shape.now.sealed.facts.plan shape.now.sealed.history) }
 {
     match make_cert(alloc, shape)? {
         Some(cert) => Ok(Said::Certified(cert)),
@@ -67,36 +72,19 @@ fn plain_cert(alloc: Global, shape: &Shape) -> Result<Said, OutOfMemory>
     }
 }
 
-/// The same by the second rules.
-fn later_cert(alloc: Global, shape: &Shape) -> Result<Said, OutOfMemory>
-    requires { Opaque shape.now.sealed.facts.plan.objects shape.now.sealed.history → ⊥ }
-    ensures { IfOk result (NoneSays (Some RulesOf.Two) shape.now.sealed.facts.plan shape.now.sealed.history) }
-{
-    let cert = cert_by_rules(alloc, shape)?;
-    Ok(Said::Certified(cert))
-}
-
 /// What is said where no order shows the history: with a certificate, or without.
-fn said_of_none(
-    alloc: Global,
-    certifying: Option<Rules>,
-    shape: &Shape,
-) -> Result<Said, OutOfMemory>
+fn said_of_none(alloc: Global, certifying: bool, shape: &Shape) -> Result<Said, OutOfMemory>
     requires { Opaque shape.now.sealed.facts.plan.objects shape.now.sealed.history → ⊥ }
     ensures { IfOk result (NoneSays certifying shape.now.sealed.facts.plan shape.now.sealed.history) }
 {
-    match certifying {
-        None => Ok(Said::Verdict(Verdict::NotOpaque)),
-        Some(Rules::One) => plain_cert(alloc, shape),
-        Some(Rules::Two) => later_cert(alloc, shape),
+    if certifying {
+        certified(alloc, shape)
+    } else {
+        Ok(Said::Verdict(Verdict::NotOpaque))
     }
 }
 
-fn answer_decide(
-    alloc: Global,
-    certifying: Option<Rules>,
-    shape: &Shape,
-) -> Result<Said, OutOfMemory>
+fn answer_decide(alloc: Global, certifying: bool, shape: &Shape) -> Result<Said, OutOfMemory>
     ensures { IfOk result (DecideSays None certifying shape.now.sealed.facts.plan shape.now.sealed.history) }
 {
     match decide(alloc, shape)? {
@@ -119,6 +107,46 @@ fn answer_verify<A: Allocator>(
     }
 }
 
+/// What clause learning tells, with the lines of a refutation where it refutes.
+fn answer_refute(alloc: Global, shape: &Shape) -> Result<Said, OutOfMemory>
+    ensures { IfOk result (RefuteSays shape.now.sealed.facts.plan shape.now.sealed.history) }
+{
+    match learn(alloc, shape, LONG)? {
+        Learned::Opaque(order) => Ok(Said::Verdict(Verdict::Opaque(order))),
+        Learned::NotOpaque(refutation) => {
+            let lines = write_refutation(alloc, shape.plan(), &refutation)?;
+            Ok(Said::Refuted(lines))
+        }
+        Learned::Unknown => Ok(Said::Verdict(Verdict::Unfinished)),
+    }
+}
+
+/// What is said of the refutation, which begins after so many lines of the input.
+fn answer_confirm(
+    alloc: Global,
+    text: &[u8],
+    lines: usize,
+    shape: &Shape,
+) -> Result<Said, OutOfMemory>
+    ensures { IfOk result (ConfirmSays shape.now.sealed.facts.plan shape.now.sealed.history) }
+{
+    let read = match read_refutation(alloc, shape.plan(), text) {
+        Ok(read) => read,
+        Err(EvidenceFault::OutOfMemory) => return Err(OutOfMemory),
+        Err(EvidenceFault::Line(line)) => {
+            return Ok(Said::RefutationLineRefused(lines.saturating_add(line)));
+        }
+    };
+    let history = shape.history();
+    match judge(alloc, history, &read.refutation)? {
+        Judgement::Refutes => Ok(Said::Verdict(Verdict::NotOpaque)),
+        Judgement::Refused(step) => {
+            let line = read.line_of(step);
+            Ok(Said::RefutationLineRefused(lines.saturating_add(line)))
+        }
+    }
+}
+
 impl<'q, 'l> Question<'q, 'l> {
     /// The answer for a sealed set whose history is well-formed.
     pub fn answer(self, alloc: Global, sealed: Arc<Sealed>) -> Result<Said, OutOfMemory>
@@ -138,6 +166,14 @@ impl<'q, 'l> Question<'q, 'l> {
             Question::Accepts(cert) => {
                 let shape = Shape::of(alloc, sealed)?;
                 answer_verify(alloc, cert, &shape)
+            }
+            Question::Why => {
+                let shape = Shape::of(alloc, sealed)?;
+                answer_refute(alloc, &shape)
+            }
+            Question::Confirms(text, lines) => {
+                let shape = Shape::of(alloc, sealed)?;
+                answer_confirm(alloc, text, lines, &shape)
             }
         }
     }

@@ -6,8 +6,8 @@ ghost use Rattle.aud_cli.specs.Line.{CertifiedSays, FactsSay, InputSays, Line, Q
 ghost use Rattle.aud_input.specs.Inputs.{input_read};
 ghost use Rattle.aud_cli.specs.Outcomes.{IsLine, RunOutcome};
 
-use crate::certificate::split_input;
 use crate::ended::{Cause, Ended, end_of};
+use crate::evidence::{Evidence, split_input};
 use crate::job::Job;
 use crate::question::Question;
 use aud_cert::{CertTextFault, read_cert_into};
@@ -98,7 +98,7 @@ fn verify_by(
 fn verify(alloc: Global, text: &[u8]) -> Result<Said, OutOfMemory>
     ensures { IfOk result (Line Job.Verify text.now) }
 {
-    let parts = split_input(alloc, text)?;
+    let parts = split_input(alloc, Evidence::Certificate, text)?;
     let before = match &parts {
         Some(parts) => parts.before,
         None => text,
@@ -108,8 +108,30 @@ fn verify(alloc: Global, text: &[u8]) -> Result<Said, OutOfMemory>
         Err(fault) => return refuse_input(fault),
     };
     match parts {
-        Some(parts) => verify_by(alloc, input, parts.lines, parts.certificate),
+        Some(parts) => verify_by(alloc, input, parts.lines, parts.evidence),
         None => Ok(Said::CertificateLineRefused(count_lines(text) + 1, TextFault::KeyMissing)),
+    }
+}
+
+/// What `confirm` says of a text.
+fn confirm(alloc: Global, text: &[u8]) -> Result<Said, OutOfMemory>
+    ensures { IfOk result (Line Job.Confirm text.now) }
+{
+    let parts = split_input(alloc, Evidence::Refutation, text)?;
+    let before = match &parts {
+        Some(parts) => parts.before,
+        None => text,
+    };
+    let input = match read_input(alloc, before) {
+        Ok(input) => input,
+        Err(fault) => return refuse_input(fault),
+    };
+    match parts {
+        Some(parts) => {
+            let question = Question::Confirms(parts.evidence, parts.lines);
+            judge_input(alloc, question, input)
+        }
+        None => Ok(Said::RefutationLineRefused(count_lines(text) + 1)),
     }
 }
 
@@ -127,10 +149,12 @@ fn said_of(alloc: Global, job: &Job, text: Vec<u8>) -> Result<Said, OutOfMemory>
             judge(alloc, Question::Any(*budget, *certifying), text)
         }
         Job::Verify => verify(alloc, text.as_slice()),
+        Job::Refute => judge(alloc, Question::Why, text),
+        Job::Confirm => confirm(alloc, text.as_slice()),
     }
 }
 
-/// The line that the job says of a text, with its line feed, and after it the certificate, if that is asked for; and how the job ends
+/// The line that the job says of a text, with its line feed, and after it the certificate or the refutation, if that is asked for; and how the job ends
 /// that says it.
 fn line_said(alloc: Global, job: &Job, text: Vec<u8>) -> Result<(Vec<u8>, Ended), OutOfMemory>
     ensures { IfOk result (λ answer. IsLine job.now text.items answer.0.items answer.1) }

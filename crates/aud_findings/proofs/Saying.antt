@@ -28,7 +28,7 @@ use Rattle.aud_findings.proofs.Ending.{norm_knows}
 
 -- # What decide says
 
-pub audit_says : (budget : Option ℕ) (plan : PlanOf) (h : History) (s : Said) → DecideSays None None plan h s → AuditSays budget plan h s
+pub audit_says : (budget : Option ℕ) (plan : PlanOf) (h : History) (s : Said) → DecideSays None false plan h s → AuditSays budget plan h s
 audit_says None plan h s says = says
 audit_says (Some b) plan h (said.Verdict (verdict.Conflict kind log at)) says = says
 audit_says (Some b) plan h (said.Verdict (verdict.Waiting log)) says = says
@@ -44,11 +44,13 @@ audit_says (Some b) plan h (said.RecordRefused line e) says = says
 audit_says (Some b) plan h (said.CertificateLineRefused line e) says = says
 audit_says (Some b) plan h said.CertificateRefused says = says
 audit_says (Some b) plan h (said.Certified cert) says = says
+audit_says (Some b) plan h (said.Refuted lines) says = says
+audit_says (Some b) plan h (said.RefutationLineRefused line) says = says
 
-pub decided : (budget : Option ℕ) (plan : PlanOf) (facts : List Fact) (s : Said) → SetSays (DecideSays None None) plan facts s → SetSays (AuditSays budget) plan facts s
+pub decided : (budget : Option ℕ) (plan : PlanOf) (facts : List Fact) (s : Said) → SetSays (DecideSays None false) plan facts s → SetSays (AuditSays budget) plan facts s
 decided budget plan facts s = by_status (status_reported (fact_status plan.logs facts))
   where
-    by_status : (o : Option (Verdict Global)) → StatusReports said.Verdict (hist facts) (DecideSays None None plan (hist facts)) o s → StatusReports said.Verdict (hist facts) (AuditSays budget plan (hist facts)) o s
+    by_status : (o : Option (Verdict Global)) → StatusReports said.Verdict (hist facts) (DecideSays None false plan (hist facts)) o s → StatusReports said.Verdict (hist facts) (AuditSays budget plan (hist facts)) o s
     by_status (Some v) is = is
     by_status None (inl fault) = inl fault
     by_status None (inr (well, answer)) = inr (well, audit_says budget plan (hist facts) s answer)
@@ -119,6 +121,6 @@ module _ (kept : KnownIsKept) (norm : KnowledgeIsNorm) (law : SearchIsSaid Globa
       by_status C None (inr (well, answer)) = inr (well, by_witness C k.held.witness answer)
 
 -- what is said in either case
-pub decided_result : {E : Type 0} (budget : Option ℕ) (plan : PlanOf) (facts : List Fact) (r : Result Said E) → IfOk r (SetSays (DecideSays None None) plan facts) → IfOk r (SetSays (AuditSays budget) plan facts)
+pub decided_result : {E : Type 0} (budget : Option ℕ) (plan : PlanOf) (facts : List Fact) (r : Result Said E) → IfOk r (SetSays (DecideSays None false) plan facts) → IfOk r (SetSays (AuditSays budget) plan facts)
 decided_result budget plan facts (Ok s) says = decided budget plan facts s says
 decided_result budget plan facts (Err e) says = says

@@ -1,5 +1,5 @@
 -- What an audit may say of a well-formed history.
-use Rattle.std.specs.Prelude.{ℕ, List, [], Option, Some, None}
+use Rattle.std.specs.Prelude.{ℕ, List, [], Option, Some, None, false}
 use Rattle.aud_event.specs.Meanings.{PlanOf}
 use Rattle.aud_history.specs.Histories.{History}
 use Rattle.aud_witness.specs.declared.decision.Decision.{Decision}
@@ -16,4 +16,4 @@ AreLeftOpen budget plan h = (tasks : List (List Decision)) × (AreTasks plan.obj
 -- an audit: what decide says without a budget; where there is one, or `unfinished` if it leaves tasks open
 abbrev pub AuditSays : Option ℕ → Answers
 AuditSays (Some budget) plan h (said.Verdict verdict.Unfinished) = AreLeftOpen budget plan h
-AuditSays budget plan h s = DecideSays None None plan h s
+AuditSays budget plan h s = DecideSays None false plan h s

@@ -7,7 +7,7 @@ use Rattle.aud_history.specs.WellFormed.{IsWellFormed}
 use Rattle.aud_witness.specs.declared.decision.Decision.{Decision}
 use Rattle.aud_order.specs.Shapes.{ShapeOf, objects_of, history_of}
 use Rattle.aud_know.specs.Closings.{IsCovered}
-use Rattle.aud_search.specs.Searches.{SpentBy}
+use Rattle.search_prefix.specs.Searches.{SpentBy}
 use Rattle.aud_know.specs.Known.{KnowledgeOf}
 use Rattle.aud_know.specs.Verdicts.{FactsReportAtOnce}
 use Rattle.aud_know.specs.declared.verdict.Verdict.{Verdict}

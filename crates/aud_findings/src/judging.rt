@@ -34,7 +34,7 @@ pub fn has_all(known: &Knowledge, facts: &Facts) -> bool
 fn decided(alloc: Global, budget: Option<u64>, facts: &Facts) -> Result<Said, OutOfMemory>
     ensures { IfOk result (SetSays (AuditSays budget) facts.now.plan facts.now.facts) }
 {
-    judge_facts(alloc, Question::Any(None, None), facts)
+    judge_facts(alloc, Question::Any(None, false), facts)
 }
 
 /// Whether the facts read are to be decided anew: a verdict of unfinished says what an audit may only where there is a budget,

@@ -55,15 +55,18 @@ words_of (said.RecordRefused line e) = codes "record line " ++ decimal line ++ c
 words_of (said.CertificateLineRefused line e) = codes "certificate line " ++ decimal line ++ codes " refused " ++ fault_text e
 words_of said.CertificateRefused = codes "certificate refused"
 words_of (said.Certified cert) = codes "not opaque"
+words_of (said.Refuted lines) = codes "not opaque"
+words_of (said.RefutationLineRefused line) = codes "refutation line " ++ decimal line ++ codes " refused"
 
--- the text of the certificate, where one is said
-abbrev pub certificate_of : Said → List ℕ
-certificate_of (said.Certified cert) = cert_text cert.rules cert.lines.items
-certificate_of _ = []
+-- the lines of a certificate or a refutation, where one is said
+abbrev pub evidence_of : Said → List ℕ
+evidence_of (said.Certified cert) = cert_text cert.lines.items
+evidence_of (said.Refuted lines) = lines.items
+evidence_of _ = []
 
--- what is printed: the line, and the certificate after it
+-- what is printed: the line, and the evidence after it
 abbrev pub line_of : Said → List ℕ
-line_of s = words_of s ++ 10 ∷ certificate_of s
+line_of s = words_of s ++ 10 ∷ evidence_of s
 
 abbrev pub report_fault_number : ReportFault → ℕ
 report_fault_number OutputFailed = 1

@@ -2,7 +2,7 @@
 
 ghost use Rattle.std.specs.Prelude.{◌≡◌, ◌++◌, OnOk, IfOk, codes};
 ghost use Rattle.aud_text.specs.Orders.{order_text};
-ghost use Rattle.aud_report.specs.Lines.{fault_text, conflict_words, ill_formed_words, verdict_words, words_of, certificate_of, line_of};
+ghost use Rattle.aud_report.specs.Lines.{fault_text, conflict_words, ill_formed_words, verdict_words, words_of, evidence_of, line_of};
 
 use aud_cert::{Cert, write_cert};
 use aud_event::OutOfMemory;
@@ -33,6 +33,10 @@ pub enum Said {
     CertificateRefused,
     /// No order shows the history, and the certificate says why.
     Certified(Cert),
+    /// No order shows the history, and the lines of a refutation say why.
+    Refuted(Vec<u8>),
+    /// A line of the refutation is refused. Lines are counted over the whole input, from 1.
+    RefutationLineRefused(usize),
 }
 
 fn push_words<A: Allocator>(text: &mut Vec<u8, A>, words: &str) -> Result<(), OutOfMemory>
@@ -156,6 +160,17 @@ fn push_certificate_fault<A: Allocator>(
     Ok(())
 }
 
+fn push_refutation_fault<A: Allocator>(
+    text: &mut Vec<u8, A>,
+    line: usize,
+) -> Result<(), OutOfMemory>
+    ensures { OnOk result (text.new.items ≡ text.old.items ++ words_of (Said.RefutationLineRefused line)) }
+{
+    push_number(text, "refutation line ", line)?;
+    push_words(text, " refused")?;
+    Ok(())
+}
+
 fn push_opaque<A: Allocator + Clone + Drop, B: Allocator>(
     alloc: A,
     text: &mut Vec<u8, A>,
@@ -203,25 +218,43 @@ fn push_said<A: Allocator + Clone + Drop>(
         Said::CertificateLineRefused(line, fault) => push_certificate_fault(text, *line, *fault),
         Said::CertificateRefused => push_words(text, "certificate refused"),
         Said::Certified(_) => push_words(text, "not opaque"),
+        Said::Refuted(_) => push_words(text, "not opaque"),
+        Said::RefutationLineRefused(line) => push_refutation_fault(text, *line),
     }
 }
 
-/// Adds the text of the certificate, where one is said.
+/// Adds the text of the certificate.
 fn push_certificate<A: Allocator + Copy>(
+    alloc: A,
+    text: &mut Vec<u8, A>,
+    cert: &Cert,
+) -> Result<(), OutOfMemory>
+    ensures { OnOk result (text.new.items ≡ text.old.items ++ evidence_of (Said.Certified cert.now)) }
+{
+    let lines = write_cert(alloc, cert)?;
+    text.extend_from_slice(&lines)?;
+    Ok(())
+}
+
+/// Adds the lines of the certificate or the refutation, where one is said.
+fn push_evidence<A: Allocator + Copy>(
     alloc: A,
     text: &mut Vec<u8, A>,
     said: &Said,
 ) -> Result<(), OutOfMemory>
-    ensures { OnOk result (text.new.items ≡ text.old.items ++ certificate_of said.now) }
+    ensures { OnOk result (text.new.items ≡ text.old.items ++ evidence_of said.now) }
 {
-    if let Said::Certified(cert) = said {
-        let lines = write_cert(alloc, cert)?;
-        text.extend_from_slice(&lines)?;
+    match said {
+        Said::Certified(cert) => push_certificate(alloc, text, cert),
+        Said::Refuted(lines) => {
+            text.extend_from_slice(lines.as_slice())?;
+            Ok(())
+        }
+        _ => Ok(()),
     }
-    Ok(())
 }
 
-/// The line that says it, with its line feed, and the certificate's lines where one is said. Numbers stand in decimal with no
+/// The line that says it, with its line feed, and the lines of a certificate or a refutation where one is said. Numbers stand in decimal with no
 /// leading zeros.
 pub fn write_line<A: Allocator + Copy>(alloc: A, said: &Said) -> Result<Vec<u8, A>, OutOfMemory>
     ensures { IfOk result (λ text. text.items ≡ line_of said.now) }
@@ -229,6 +262,6 @@ pub fn write_line<A: Allocator + Copy>(alloc: A, said: &Said) -> Result<Vec<u8, 
     let mut text = Vec::new(alloc);
     push_said(alloc, &mut text, said)?;
     text.push(b'\n')?;
-    push_certificate(alloc, &mut text, said)?;
+    push_evidence(alloc, &mut text, said)?;
     Ok(text)
 }

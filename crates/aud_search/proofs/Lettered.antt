@@ -5,9 +5,9 @@ use Rattle.aud_history.specs.Histories.{History}
 use Rattle.aud_history.specs.WellFormed.{IsWellFormed}
 use Rattle.aud_witness.specs.Orders as orders
 use Rattle.aud_witness.specs.Letter.{Letter}
-use Rattle.aud_search.specs.declared.outcome.Decided.{Decided}
-use Rattle.aud_search.specs.declared.outcome.Decided.TheVariants as decided
-use Rattle.aud_search.specs.Searches.{Decides, DecidesByLetter}
+use Rattle.search_prefix.specs.declared.outcome.Decided.{Decided}
+use Rattle.search_prefix.specs.declared.outcome.Decided.TheVariants as decided
+use Rattle.search_prefix.specs.Searches.{Decides, DecidesByLetter}
 
 pub by-letter : {X E : Type 0} (objects : List Declared) (h : History) (r : Result (Decided X) E) → Letter objects h ↔ (IsWellFormed h × orders.Opaque objects h) → IsWellFormed h →
     IfOk r (Decides objects h) → IfOk r (DecidesByLetter objects h)

@@ -1,15 +1,3 @@
-pub mod Refuting
-pub mod Choosing
-pub mod Levels
-pub mod Weights
-pub mod MemoLemmas
-pub mod Steps
-pub mod Readiness
-pub mod Spotting
-pub mod Sharing
-pub mod Keeping
-pub mod Passing
-pub mod Recording
 pub mod Crosses
-pub mod Anew
 pub mod Lettered
+pub mod Shown

@@ -1,11 +1,1 @@
-pub mod Searches
-pub mod Choices
-pub mod Levels
-pub mod Tried
-pub mod Memos
-pub mod Readiness
-pub mod Spots
-pub mod Kept
-pub mod Recorders
-pub mod Turns
-pub mod Known
+pub mod Learned

@@ -1,26 +1,12 @@
 #![tactic(auto)]
-//! The search for an order that shows a history opaque.
+//! Whether a history is opaque, and whether some order that begins with a prefix shows it.
 
-mod alone;
-mod choice;
 mod deciding;
-mod digests;
-mod index;
-mod kept;
-mod memo;
-mod outcome;
-mod ready;
-mod recorder;
-mod room;
-mod rules;
-mod search;
+mod learning;
 mod searches;
-mod shared;
-mod spots;
 
-pub use deciding::decide;
-pub use outcome::{Decided, Outcome, Searched};
-pub use recorder::Recorder;
-pub use search::{explore, search_with};
+pub use deciding::{LONG, decide};
+pub use learning::{Effort, Learned, learn};
+pub use search_memo::{Recorder, Scene, Shared};
+pub use search_prefix::{Decided, Outcome, Searched, explore, search_with};
 pub use searches::Memory;
-pub use shared::{Scene, Shared};

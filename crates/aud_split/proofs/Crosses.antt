@@ -6,8 +6,8 @@ use Rattle.std.proofs.Crossing as heap
 use Rattle.std.proofs.sync.Arc.TheSendSync as arc
 use Rattle.std.proofs.alloc.Global.TheSendSync as global
 use Rattle.aud_order.proofs.Crosses.{shape_send, shape_sync}
-use Rattle.aud_search.proofs.Crosses.{shared_sync}
-use Rattle.aud_search.specs.declared.shared.Scene as scene
+use Rattle.search_memo.proofs.Crosses.{shared_sync}
+use Rattle.search_memo.specs.declared.shared.Scene as scene
 use Rattle.aud_node.specs.declared.book.Fleet as fleet
 use Rattle.aud_node.proofs.Crosses.{node_sync}
 use Rattle.aud_split.specs.contracts.explorer.Explorer as Explorer

@@ -13,7 +13,7 @@ use Rattle.aud_facts.proofs.Quiet.{quiet_is_no_conflict, sealed_is_all}
 use Rattle.aud_witness.specs.declared.decision.Decision.{Decision}
 use Rattle.aud_witness.specs.Orders.{Refuted}
 use Rattle.aud_witness.proofs.Beginnings.{Refuted-append}
-use Rattle.aud_search.specs.Searches.{SpentBy}
+use Rattle.search_prefix.specs.Searches.{SpentBy}
 use Rattle.aud_know.specs.Closings.{IsCovered, IsClosed}
 use Rattle.aud_know.proofs.Refuting.{closed-refuted}
 use Rattle.aud_know.specs.Known.{KnownAtom, Held, KnowledgeOf, norm_of}

@@ -9,7 +9,7 @@ use Rattle.aud_facts.specs.Quiet.{AreAmong}
 use Rattle.aud_facts.specs.Sets.{SealedOf, IsSealedWith}
 use Rattle.aud_witness.specs.declared.decision.Decision.{Decision}
 use Rattle.aud_witness.specs.Orders.{Refuted, Shows}
-use Rattle.aud_search.specs.Searches.{SpentBy}
+use Rattle.search_prefix.specs.Searches.{SpentBy}
 use Rattle.aud_know.specs.Norms.{refuted, shown}
 use Rattle.aud_know.specs.Known.{KnownAtom, Held, KnowledgeOf, norm_of}
 use Rattle.aud_know.specs.Truth.{IsKnowledge}

@@ -3,7 +3,7 @@ use Rattle.std.specs.Prelude.{◌≡◌, ◌⊎◌, ℕ, List, Option, Some, Non
 use Rattle.aud_witness.specs.declared.decision.Decision.{Decision}
 use Rattle.aud_witness.specs.Prefixes.{BeginsWith}
 use Rattle.aud_order.specs.Shapes.{ShapeOf, objects_of, history_of}
-use Rattle.aud_search.specs.Searches.{SpentBy}
+use Rattle.search_prefix.specs.Searches.{SpentBy}
 use Rattle.aud_know.specs.Norms.{refuted, shown}
 use Rattle.aud_know.specs.Known.{KnownAtom}
 use Rattle.aud_know.specs.Findings.{FindingOf}

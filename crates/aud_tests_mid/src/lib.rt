@@ -7,12 +7,15 @@ mod certs;
 #[cfg(test)]
 mod fixtures;
 #[cfg(test)]
+mod refutations;
+#[cfg(test)]
 mod report;
 #[cfg(test)]
-mod rules;
 #[cfg(test)]
 mod search;
 #[cfg(test)]
 mod splits;
+#[cfg(test)]
+mod sums_and_queues;
 #[cfg(test)]
 mod text;

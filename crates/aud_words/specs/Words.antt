@@ -3,10 +3,8 @@ use Rattle.std.specs.Prelude.{◌≡◌, ◌≤◌, ℕ, List, [], Option, Some,
 use Rattle.std.specs.Str.Parse.{IsNumeral, digits_value, without_leading_plus}
 use Rattle.clap.specs.Words.{Row, Text, first_of, subcommand_of, fault_of}
 use Rattle.aud_words.specs.CommandLine.{opaq_app}
-use Rattle.aud_accept.specs.declared.cert.Rules.{Rules}
-use Rattle.aud_accept.specs.declared.cert.Rules.TheVariants as rules
 use Rattle.aud_cli.specs.declared.job.Job.{Job}
-use Rattle.aud_cli.specs.declared.job.Job.TheVariants.{Check, Decide, Verify}
+use Rattle.aud_cli.specs.declared.job.Job.TheVariants.{Check, Decide, Verify, Refute, Confirm}
 use Rattle.aud_cli.specs.declared.job.AuditJob.{AuditJob}
 use Rattle.aud_cli.specs.declared.job.Command.{Command}
 use Rattle.aud_cli.specs.declared.job.Command.TheVariants.{Lines, Audit}
@@ -35,18 +33,13 @@ abbrev pub is_true : Option Text → Bool
 is_true None = false
 is_true (Some t) = bytes_eq t (codes "true")
 
--- the rules of a certificate: none where none is asked for, the first where no rules are named, and the second where 2 is
-abbrev pub IsCertifying : Bool → Option Text → Option Rules → Type 0
-IsCertifying false None certifying = certifying ≡ None
-IsCertifying false (Some t) certifying = ⊥
-IsCertifying true None certifying = certifying ≡ Some rules.One
-IsCertifying true (Some t) certifying = IsNumberUpTo 2 t 2 × (certifying ≡ Some rules.Two)
-
 -- a subcommand and its options ask for the job
 abbrev pub AsksFor : Text → List Row → Job → Type 0
 AsksFor name rows (Check order) = (name ≡ codes "check") × (first_of (codes "order") rows ≡ Some (string_bytes order))
-AsksFor name rows (Decide budget certifying) = (name ≡ codes "decide") × (IsBudget (first_of (codes "budget") rows) budget × IsCertifying (is_true (first_of (codes "cert") rows)) (first_of (codes "rules") rows) certifying)
+AsksFor name rows (Decide budget certifying) = (name ≡ codes "decide") × (IsBudget (first_of (codes "budget") rows) budget × (certifying ≡ is_true (first_of (codes "cert") rows)))
 AsksFor name rows Verify = name ≡ codes "verify"
+AsksFor name rows Refute = name ≡ codes "refute"
+AsksFor name rows Confirm = name ≡ codes "confirm"
 
 -- a subcommand and its options ask for the audit
 abbrev pub AsksForAudit : Text → List Row → AuditJob → Type 0

@@ -3,7 +3,7 @@
 ghost use Rattle.std.specs.Prelude.{◌≡◌, IfOk, false};
 ghost use Rattle.clap.specs.Words.{app_of, new_app, rule_of, with_rule, with_subcommand};
 ghost use Rattle.clap.specs.declared.builder.command.Command.TheViews.{out-Command as fields_of};
-ghost use Rattle.aud_words.specs.CommandLine.{audit_app, bare_app, check_app, decide_app, verify_app, flag_rule, lines_app, needed_rule, opaq_app, value_rule};
+ghost use Rattle.aud_words.specs.CommandLine.{audit_app, bare_app, check_app, confirm_app, decide_app, refute_app, verified_app, verify_app, flag_rule, lines_app, needed_rule, opaq_app, value_rule};
 
 use clap::{Arg, ArgAction, Command};
 use std::alloc::{AllocError, Global};
@@ -64,8 +64,8 @@ const DECIDE_ABOUT: &str = "Says whether any order of the transactions shows the
 const DECIDE_AFTER: &str =
     r#"Where the run is opaque the line has an order that shows it. With a budget the search gives up after
 so many expanded beginnings of orders, and says 'unfinished'; a number up to 1,000,000,000,000. With --cert
-the lines of a certificate follow 'not opaque', for 'opaq verify'; it is made without a budget. With --rules 2 it
-may use two rules more, by which runs of many threads have short ones.
+the lines of a certificate follow 'not opaque', for 'opaq verify'; it is made without a budget. Of a run of many
+threads it may be long, or never end: then 'opaq refute' says why.
 
 Example: opaq decide < run.jsonl, with the file of opaq --help
 
@@ -106,6 +106,38 @@ After 1 transaction 2 cannot read 0, and it cannot come first. Without the line 
 
   $ { cat stale.jsonl; echo '{"cert":1}'; echo '{"by":"kids","p":"none"}'; } | opaq verify
   certificate refused"#;
+
+const REFUTE_ABOUT: &str = "Says why no order of the transactions shows the run opaque";
+
+const REFUTE_AFTER: &str =
+    r#"Where no order shows the run the line is 'not opaque', and the lines of a refutation follow, for 'opaq confirm': clauses
+on which transaction stands before which, each with the law that it follows from. Where the run is opaque the line has
+an order that shows it. The line is 'unfinished' where clause learning does not tell within some minutes.
+
+Example: the file of opaq --help, but transaction 2 reads 0, which was overwritten before it began
+
+  $ sed 's/"ans":1/"ans":0/' run.jsonl > stale.jsonl
+  $ opaq refute < stale.jsonl
+  not opaque
+  {"refutation":1}
+  {"by":["sources",2,"x"],"c":[]}
+
+Nobody left 0 in x where transaction 2 may have read it: 1 ended before 2 began, and x opened before 1."#;
+
+const CONFIRM_ABOUT: &str = "Says whether a refutation after the records shows that no order does";
+
+const CONFIRM_AFTER: &str =
+    r#"Standard input is the plan, the records, and then the lines of a refutation, as 'opaq refute' writes them after
+'not opaque'. Nothing of it is trusted: the line is 'not opaque' where each step follows, and else 'refutation line N
+refused' with the first line that does not, which says nothing of the run.
+
+Example: the file of opaq --help, but transaction 2 reads 0, which was overwritten before it began
+
+  $ sed 's/"ans":1/"ans":0/' run.jsonl > stale.jsonl
+  $ opaq refute < stale.jsonl | sed 1d | cat stale.jsonl - | opaq confirm
+  not opaque
+  $ opaq refute < stale.jsonl | sed 1d | cat run.jsonl - | opaq confirm
+  refutation line 13 refused"#;
 
 const AUDIT_ABOUT: &str =
     "Says whether any order shows the run opaque, by workers that search side by side";
@@ -198,14 +230,7 @@ fn decide_command<'a>(alloc: Global) -> Result<Command<'a>, AllocError>
     );
     let command = with_arg(command, budget)?;
     let cert = flag_arg(alloc, "cert", "Where no order does, adds a certificate");
-    let command = with_arg(command, cert)?;
-    let rules = value_arg(
-        alloc,
-        "rules",
-        "N",
-        "With --cert: 2 for a certificate of a run of many threads",
-    );
-    with_arg(command, rules)
+    with_arg(command, cert)
 }
 
 fn verify_command<'a>(alloc: Global) -> Command<'a>
@@ -213,6 +238,20 @@ fn verify_command<'a>(alloc: Global) -> Command<'a>
     ensures local { (fields_of result).has_globals ≡ false }
 {
     named(alloc, "verify", VERIFY_ABOUT, VERIFY_AFTER)
+}
+
+fn refute_command<'a>(alloc: Global) -> Command<'a>
+    ensures app { app_of result ≡ refute_app }
+    ensures local { (fields_of result).has_globals ≡ false }
+{
+    named(alloc, "refute", REFUTE_ABOUT, REFUTE_AFTER)
+}
+
+fn confirm_command<'a>(alloc: Global) -> Command<'a>
+    ensures app { app_of result ≡ confirm_app }
+    ensures local { (fields_of result).has_globals ≡ false }
+{
+    named(alloc, "confirm", CONFIRM_ABOUT, CONFIRM_AFTER)
 }
 
 fn audit_command<'a>(alloc: Global) -> Result<Command<'a>, AllocError>
@@ -260,11 +299,25 @@ fn check_and_decide<'a>(alloc: Global) -> Result<Command<'a>, AllocError>
     check_alone(alloc)?.subcommand(decide)
 }
 
+/// The same with `verify`.
+fn up_to_verify<'a>(alloc: Global) -> Result<Command<'a>, AllocError>
+    ensures { IfOk result (λ c. app_of c ≡ verified_app) }
+{
+    check_and_decide(alloc)?.subcommand(verify_command(alloc))
+}
+
+/// The same with `refute`.
+fn up_to_refute<'a>(alloc: Global) -> Result<Command<'a>, AllocError>
+    ensures { IfOk result (λ c. app_of c ≡ with_subcommand verified_app refute_app.top) }
+{
+    up_to_verify(alloc)?.subcommand(refute_command(alloc))
+}
+
 /// The command line without `audit`.
 fn lines_commands<'a>(alloc: Global) -> Result<Command<'a>, AllocError>
     ensures { IfOk result (λ c. app_of c ≡ lines_app) }
 {
-    check_and_decide(alloc)?.subcommand(verify_command(alloc))
+    up_to_refute(alloc)?.subcommand(confirm_command(alloc))
 }
 
 /// The program's command line.

@@ -2,14 +2,13 @@
 
 ghost use Rattle.std.specs.Prelude.{◌≡◌, ◌⊎◌, ℕ, Option, Some, IfOk, MatchOption, MatchResult, codes, map, option_map, string_bytes};
 ghost use Rattle.clap.specs.Words.{first_of, found_of, rows_of, kind_of, subcommand_rows_of};
-ghost use Rattle.aud_words.specs.Words.{Commands, Asked, IsBudget, IsCertifying, IsCount, IsNumberUpTo, is_true};
-ghost use Rattle.aud_accept.specs.declared.cert.Rules.{Rules as RulesOf};
+ghost use Rattle.aud_words.specs.Words.{Commands, Asked, IsBudget, IsCount, IsNumberUpTo, is_true};
 ghost use Rattle.aud_cli.specs.Jobs.{IsInRange};
 ghost use Rattle.aud_cli.specs.declared.job.Command.{Command as CommandOf};
 
 use crate::command_line::opaq_command;
 use crate::usage::Usage;
-use aud_cli::{AuditJob, Command, Job, Rules};
+use aud_cli::{AuditJob, Command, Job};
 use clap::error::ErrorKind;
 use clap::{ArgMatches, Error};
 use std::alloc::{AllocError, Global};
@@ -80,42 +79,14 @@ fn has_flag(matches: &ArgMatches<'_>, id: &str) -> bool
     }
 }
 
-/// The rules of a certificate that the text names.
-fn rules_named(text: &str) -> Option<Rules>
-    ensures { MatchOption result (IsNumberUpTo 2 text.now 2 → ⊥) (λ rules. (rules ≡ RulesOf.Two) × IsNumberUpTo 2 text.now 2) }
-{
-    match number_up_to(2, text) {
-        Some(2) => Some(Rules::Two),
-        _ => None,
-    }
-}
-
-/// By which rules a certificate is wanted, if one is; nothing where rules are named and none is, or the text names none.
-fn certifying_of(matches: &ArgMatches<'_>) -> Option<Option<Rules>>
-    ensures { MatchOption result
-        ((c : Option RulesOf) → IsCertifying (is_true (first_of (codes "cert") (rows_of (found_of matches.now)))) (first_of (codes "rules") (rows_of (found_of matches.now))) c → ⊥)
-        (IsCertifying (is_true (first_of (codes "cert") (rows_of (found_of matches.now)))) (first_of (codes "rules") (rows_of (found_of matches.now)))) }
-{
-    let is_wanted = has_flag(matches, "cert");
-    match text_at(matches, "rules") {
-        None if is_wanted => Some(Some(Rules::One)),
-        None => Some(None),
-        Some(text) if is_wanted => match rules_named(text) {
-            Some(rules) => Some(Some(rules)),
-            None => None,
-        },
-        Some(_) => None,
-    }
-}
-
 fn decide_job(matches: &ArgMatches<'_>) -> Option<Command>
     ensures { MatchOption result
         ((command : CommandOf) → Commands (codes "decide") (rows_of (found_of matches.now)) command → ⊥)
         (Commands (codes "decide") (rows_of (found_of matches.now))) }
 {
     let budget = budget_of(matches)?;
-    let certifying = certifying_of(matches)?;
-    Some(Command::Lines(Job::Decide(budget, certifying)))
+    let is_certifying = has_flag(matches, "cert");
+    Some(Command::Lines(Job::Decide(budget, is_certifying)))
 }
 
 /// The greatest number of nodes.
@@ -170,6 +141,10 @@ fn command_of(
         Ok(audit_job(matches))
     } else if name == "verify" {
         Ok(Some(Command::Lines(Job::Verify)))
+    } else if name == "refute" {
+        Ok(Some(Command::Lines(Job::Refute)))
+    } else if name == "confirm" {
+        Ok(Some(Command::Lines(Job::Confirm)))
     } else {
         Ok(None)
     }
@@ -195,23 +170,12 @@ fn usage_of(alloc: Global, error: &Error) -> Usage
     }
 }
 
-/// Why the rules are not taken that the words name.
-fn wrong_rules(matches: &ArgMatches<'_>) -> &'static str {
-    if has_flag(matches, "cert") {
-        "error: the rules of a certificate are 2\n"
-    } else {
-        "error: --rules goes with --cert\n"
-    }
-}
-
 /// The text for the user where a number of a subcommand's options is none that it takes.
 fn wrong_number(name: &str, matches: &ArgMatches<'_>) -> &'static str {
     if name == "audit" && count_of(matches, "nodes", NODES_MAX).is_none() {
         "error: the number of nodes is no number from 1 to 8\n"
     } else if name == "audit" && count_of(matches, "workers", WORKERS_MAX).is_none() {
         "error: the number of workers is no number from 1 to 16\n"
-    } else if name == "decide" && certifying_of(matches).is_none() {
-        wrong_rules(matches)
     } else {
         "error: the budget is no number up to 1000000000000\n"
     }

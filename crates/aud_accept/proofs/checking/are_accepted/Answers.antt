@@ -26,7 +26,6 @@ loop-line-init g c =
     let shape = c.args.shape.now in record {
       cursor = c.requires.cursor;
       other = c.requires.other;
-      lookout = c.requires.lookout;
       kept = c.requires.earlier;
       passed = passed-none (objects_of shape) (history_of shape) c.args.lines.now c.args.earlier.now.prefixes c.requires.none;
     }
@@ -46,7 +45,6 @@ loop-line-preserved g c =
     let item = c.decisions.ensures ∙ c.prefix.ensures in record {
       cursor = c.in_ok-accepts.ensures.cursor;
       other = c.in_ok-accepts.ensures.other;
-      lookout = c.in_ok-accepts.ensures.lookout ∙ at.invariant.lookout;
       kept = c.in_ok-add.ensures.shape ∙ at.invariant.kept;
       passed = passed-more (objects_of shape) (history_of shape) lines at.line-index line at.earlier.prefixes c.add.new.self.prefixes at.invariant.passed
           c.loop-line-test.true

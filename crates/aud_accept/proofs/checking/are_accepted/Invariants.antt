@@ -7,7 +7,6 @@ abbrev pub invariant-loop-line : goal.invariant-loop-line
 invariant-loop-line g l = record {
   cursor : l.cursor.shape ≡ l.shape;
   other : l.other.shape ≡ l.shape;
-  lookout : l.lookout ≡ l.shape;
   kept : l.earlier.shape ≡ l.shape;
   passed : Passed (objects_of l.shape) (history_of l.shape) l.lines l.line-index l.earlier.prefixes;
 }

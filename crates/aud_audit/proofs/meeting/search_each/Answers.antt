@@ -3,7 +3,7 @@ use denote.Param.Send.{sendable}
 use Rattle.std.proofs.Crossing as heap
 use Rattle.std.proofs.alloc.Global.TheSendSync as global
 use Rattle.std.proofs.option.Option.TheSendSync as option
-use Rattle.aud_search.proofs.Crosses.{shared_sync}
+use Rattle.search_memo.proofs.Crosses.{shared_sync}
 use Rattle.aud_node.proofs.Captures.{captures}
 use Rattle.aud_node.proofs.Crosses.{node_sync}
 use Rattle.aud_audit.specs.Seats.{CrewOf, IsCrewAt}

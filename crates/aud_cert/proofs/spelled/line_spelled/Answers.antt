@@ -6,4 +6,4 @@ use Rattle.aud_cert.specs.Limits.{longest_cert_line}
 pub returns : goal.returns
 returns g c =
     let fits : length c.args.line.now ≤ longest_cert_line = grind (arith, c.if-line-gt-CERT_LINE_MAX.false) in
-    line-spelled c.args.rules c.args.line.now c.line_at.result fits c.line_at.ensures.spelled c.line_at.ensures.short c.line_at.ensures.rules
+    line-spelled c.args.line.now c.line_at.result fits c.line_at.ensures.spelled c.line_at.ensures.short

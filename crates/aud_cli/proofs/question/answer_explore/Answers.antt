@@ -1,5 +1,5 @@
 use Rattle.std.proofs.Common.{[], Some, subst}
-use Rattle.aud_search.specs.Searches.{Reports}
+use Rattle.search_prefix.specs.Searches.{Reports}
 use Rattle.aud_cli.specs.Line.{NoneSays, DecideSays}
 use Rattle.aud_cli.proofs.HistoryLemmas.{none-from_refuted, none-decides, if_ok}
 use Rattle.aud_cli.proofs.question.answer_explore.Goals as goal

@@ -1,6 +1,6 @@
 use Rattle.std.specs.declared.alloc.Global.{Global}
 use Rattle.aud_order.specs.Shapes.{objects_of, history_of}
-use Rattle.aud_accept.proofs.Elsewhere.{accepted-elsewhere, plain-elsewhere}
+use Rattle.aud_accept.proofs.Elsewhere.{accepted-elsewhere}
 use Rattle.aud_cli.proofs.HistoryLemmas.{none-from_refuted}
 use Rattle.aud_cli.proofs.question.answer_verify.Goals as goal
 
@@ -12,7 +12,7 @@ returns-then-branch g c =
     )
 
 pub returns-else-branch : goal.returns-else-branch
-returns-else-branch g c plain accepted =
+returns-else-branch g c accepted =
     let shape = c.args.shape.now in
-    let clash = c.in_ok-check_cert.ensures.accepted.1 (plain-elsewhere Global c.args.cert.now.lines.items plain) ((accepted-elsewhere Global (objects_of shape) (history_of shape) c.args.cert.now.lines.items).0 accepted) in
+    let clash = c.in_ok-check_cert.ensures.accepted.1 ((accepted-elsewhere Global (objects_of shape) (history_of shape) c.args.cert.now.lines.items).0 accepted) in
     cc

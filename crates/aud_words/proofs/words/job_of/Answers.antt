@@ -1,9 +1,10 @@
 use Rattle.std.proofs.Common.{◌≡◌, ◌∙◌, List, [], ap, sym, subst, refl, true, map, string_bytes, inl, inr}
-use Rattle.clap.specs.Words.{App, Text, is_simple, is_simple_and_free, found_of, rows_of, subcommand_of, fault_of}
+use Rattle.clap.specs.Words.{App, Row, Text, is_simple, is_simple_and_free, found_of, rows_of, subcommand_of, fault_of}
 use Rattle.clap.specs.Kinds.{Kinds, IsAmong}
 use Rattle.clap.specs.declared.error.kind.ErrorKind.{ErrorKind}
 use Rattle.clap.proofs.OnLiterals.{clap_on_literals}
 use Rattle.aud_words.specs.CommandLine.{opaq_app}
+use Rattle.aud_words.specs.Words.{Commands}
 use Rattle.aud_words.proofs.Ranges.{in-range}
 use Rattle.aud_words.proofs.words.job_of.Goals as goal
 
@@ -42,6 +43,18 @@ returns-in-Ok-Some-clause-asked c =
       read = sym (c.in-Some.ensures ∙ (matches.1 ∙ ap (λ (a : App). subcommand_of a words) is));
       asks = asks;
     }
+
+pub returns-in-Ok-None-clause-asked : goal.returns-in-Ok-None-clause-asked
+returns-in-Ok-None-clause-asked c =
+    let words : List Text = map string_bytes c.args.words.now in
+    let is = c.in-Ok.ensures in
+    let matches = c.in-Ok-try_get_matches_from.ensures.matches (ap is_simple is ∙ simple) in
+    let none = rw c.in-Ok-None.field-0-is at c.in-Ok-None.ensures in
+    let read = sym (c.in-Some.ensures ∙ (matches.1 ∙ ap (λ (a : App). subcommand_of a words) is)) in
+    inr (λ command asked.
+    let both = sym asked.read ∙ read in
+    let same : (asked.name, asked.rows) ≡ (c.in-Some.name.now, rows_of (found_of c.in-Some.inner.now)) = cc in
+    none command (subst (λ (p : Text × List Row). Commands p.0 p.1 command) same asked.asks))
 
 pub returns-in-Ok-Some-clause-range : goal.returns-in-Ok-Some-clause-range
 returns-in-Ok-Some-clause-range c =

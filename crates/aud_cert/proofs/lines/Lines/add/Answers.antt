@@ -1,10 +1,8 @@
 use Rattle.std.specs.Prelude.{◌≡◌, [], map, length, slice_get}
 use Rattle.std.proofs.Common.{sym, ◌∙◌, ap, subst, arith}
-use Rattle.std.specs.List.{All}
 use Rattle.std.proofs.lemmas.List.{append-nil}
-use Rattle.std.proofs.lemmas.List.Elements.{All-push}
 use Rattle.aud_order.specs.Shapes.{objects_of, history_of}
-use Rattle.aud_accept.specs.Acceptance.{prefix_in, IsPlain, IsAcceptedLine, AreAccepted}
+use Rattle.aud_accept.specs.Acceptance.{prefix_in, IsAcceptedLine, AreAccepted}
 use Rattle.aud_cert.specs.Recorded.{LinesOf}
 use Rattle.aud_cert.proofs.Recording.{last-line, accepted-push}
 use Rattle.aud_cert.proofs.lines.Lines.add.Goals as goal
@@ -19,11 +17,9 @@ returns-in_err-push-clause-grows g c = record {
 pub invariant_of-self-2 : goal.invariant_of-self-2
 invariant_of-self-2 g c =
     let i = c.self.inside in
-    subst (λ l. AreAccepted (objects_of i.shape.now) (history_of i.shape.now) [] l × All IsPlain l) (sym c.in_ok-push.ensures.items) (
-      accepted-push (objects_of i.shape.now) (history_of i.shape.now) i.lines.items [] c.args.line c.self.invariant.0
-          (subst (λ (l : LinesOf _). IsAcceptedLine (objects_of l.shape) (history_of l.shape) (map prefix_in l.lines) c.args.line) (sym c.self.view_is) c.requires.accepted),
-      All-push IsPlain i.lines.items c.args.line c.self.invariant.1 c.requires.plain,
-    )
+    subst (λ l. AreAccepted (objects_of i.shape.now) (history_of i.shape.now) [] l) (sym c.in_ok-push.ensures.items) (
+    accepted-push (objects_of i.shape.now) (history_of i.shape.now) i.lines.items [] c.args.line c.self.invariant
+    (subst (λ (l : LinesOf _). IsAcceptedLine (objects_of l.shape) (history_of l.shape) (map prefix_in l.lines) c.args.line) (sym c.self.view_is) c.requires))
 
 pub returns-clause-noted : goal.returns-clause-noted
 returns-clause-noted g c =

@@ -1,9 +1,7 @@
 use Rattle.std.specs.Prelude.{◌≡◌, ◌<◌, ◌+◌, Some, [], map, length, refl, slice_get}
-use Rattle.std.specs.List.{All}
 use Rattle.std.proofs.Common.{sym, subst, arith}
-use Rattle.std.proofs.lemmas.List.Elements.{All-take}
 use Rattle.aud_order.specs.Shapes.{objects_of, history_of}
-use Rattle.aud_accept.specs.Acceptance.{prefix_in, IsPlain, IsAccepted}
+use Rattle.aud_accept.specs.Acceptance.{prefix_in, IsAccepted}
 use Rattle.aud_cert.specs.Recorded.{LinesOf}
 use Rattle.aud_cert.proofs.Recording.{accepted-up_to, inside-line}
 use Rattle.aud_cert.proofs.lines.Lines.up_to.Goals as goal
@@ -14,14 +12,9 @@ overflow_add-last g c =
     let inside : c.args.last < length i.lines.items = inside-line i.lines.items c.args.last [] (subst (λ (l : LinesOf _). slice_get (map prefix_in l.lines) c.args.last ≡ Some []) (sym c.self.view_is) c.requires) in
     omega (arith, i.lines.ok.0, c.len-few.ensures, c.len-few.type_inv)
 
-pub returns-clause-accepted : goal.returns-clause-accepted
-returns-clause-accepted g c =
+pub returns : goal.returns
+returns g c =
     let i = c.self.inside in
     subst (λ (l : LinesOf _). IsAccepted (objects_of l.shape) (history_of l.shape) c.truncate.new.self.items) c.self.view_is
-    (accepted-up_to (objects_of i.shape.now) (history_of i.shape.now) i.lines.items c.truncate.new.self.items c.args.last (c.args.last + 1) c.self.invariant.0
+    (accepted-up_to (objects_of i.shape.now) (history_of i.shape.now) i.lines.items c.truncate.new.self.items c.args.last (c.args.last + 1) c.self.invariant
     (subst (λ (l : LinesOf _). slice_get (map prefix_in l.lines) c.args.last ≡ Some []) (sym c.self.view_is) c.requires) refl c.truncate.ensures.items)
-
-pub returns-clause-plain : goal.returns-clause-plain
-returns-clause-plain g c =
-    let i = c.self.inside in
-    subst (All IsPlain) (sym c.truncate.ensures.items) (All-take IsPlain (c.args.last + 1) i.lines.items c.self.invariant.1)

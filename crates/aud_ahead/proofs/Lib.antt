@@ -1,2 +1,0 @@
-pub mod BringerLemmas
-pub mod Judging

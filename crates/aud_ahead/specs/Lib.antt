@@ -1,2 +1,0 @@
-pub mod Bringers
-pub mod Outlooks

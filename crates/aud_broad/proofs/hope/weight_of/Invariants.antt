@@ -1,8 +1,0 @@
-use Rattle.std.specs.Prelude.{◌≡◌}
-use Rattle.aud_broad.proofs.hope.weight_of.Given as goal
-
-abbrev pub invariant-loop-entry : goal.invariant-loop-entry
-invariant-loop-entry g l =
-    (goal.iterator-loop-entry g).can_next l.entry-iterator ×
-    (goal.iterator-loop-entry g).is_finite l.entry-iterator ×
-    (l.cursor.shape ≡ l.fn.cursor.shape)

@@ -1,8 +1,0 @@
-use Rattle.std.specs.Prelude.{◌≡◌, ℕ, ℤ, ◌<◌, Some, slice_get}
-use Rattle.aud_object.specs.declared.execution.Execution.{Execution}
-use Rattle.aud_first.specs.Deeds.{member_of, on_one, Misses}
-use Rattle.aud_first.proofs.flip.sees_none_flipped.Given as goal
-
-abbrev pub invariant-loop-x : goal.invariant-loop-x
-invariant-loop-x l =
-    (k : ℕ) (x : Execution) → k < l.x-index → slice_get l.own k ≡ Some x → x.object ≡ l.object → (v : ℤ) → member_of x.op ≡ Some v → Misses (on_one l.object l.own) (on_one l.object l.executions) v

@@ -1,9 +1,0 @@
-pub mod AddsFirst
-pub mod Breaking
-pub mod CountLemmas
-pub mod Forcing
-pub mod QueueSteps
-pub mod Queueing
-pub mod RivalLemmas
-pub mod Telling
-pub mod Timing

@@ -1,5 +1,0 @@
-use Rattle.std.proofs.Common.{length}
-use Rattle.aud_search.proofs.kept.+leads_to.Given as goal
-
-abbrev pub decreases-leads_to : goal.decreases-leads_to
-decreases-leads_to g l = length l.way.now

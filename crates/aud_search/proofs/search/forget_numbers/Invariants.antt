@@ -1,6 +1,0 @@
-use Rattle.std.specs.Prelude.{◌≡◌, ◌++◌, map, take, drop}
-use Rattle.aud_search.specs.Turns.{unnumbered}
-use Rattle.aud_search.proofs.search.forget_numbers.Given as goal
-
-abbrev pub invariant-loop-place : goal.invariant-loop-place
-invariant-loop-place l = l.turns ≡ map unnumbered (take l.place l.fn.turns) ++ drop l.place l.fn.turns

@@ -1,5 +1,0 @@
-use Rattle.std.proofs.Common.{sym, ◌∙◌}
-use Rattle.aud_search.proofs.search.search_from.Goals as goal
-
-pub search_on-requires-clause-memo : goal.search_on-requires-clause-memo
-search_on-requires-clause-memo g c = c.requires.memo ∙ sym c.requires.shape

@@ -1,0 +1,19 @@
+#![tactic(auto)]
+//! What a search remembers of the prefixes that it refuted, what threads share of that, and the choices of a history in the order in which
+//! a search tries them.
+
+mod choice;
+mod digests;
+mod index;
+mod kept;
+mod memo;
+mod recorder;
+mod room;
+mod shared;
+mod spots;
+
+pub use choice::{Choice, Effect, Order, choices_of};
+pub use memo::{LARGEST_SEEN, Memo, Reason};
+pub use recorder::{Recorder, Unnoted, Unrecorded};
+pub use room::BOUND;
+pub use shared::{ROWS_MAX, Scene, Shared, Sharing};

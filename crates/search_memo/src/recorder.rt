@@ -1,0 +1,132 @@
+//! What hears of the lists that a search refutes, and why each is.
+
+ghost use Rattle.std.specs.Prelude.{◌<◌, List, length, IfOk, IfSome, IsTrue, MatchOption};
+ghost use Rattle.aud_witness.specs.declared.decision.Decision.{Decision};
+ghost use Rattle.aud_order.specs.Shapes.{ShapeOf};
+ghost use Rattle.search_memo.specs.Known.{MarksRows, IsKnownFor, IsKnownOf};
+ghost use Rattle.search_memo.specs.Spots.{with_place};
+ghost use Rattle.search_memo.specs.Recorders.{IsHearable, HasNote, HasKids, HasSilent, IsNotedAlike};
+
+use aud_event::OutOfMemory;
+use aud_marks::Marks;
+use aud_object::Store;
+use aud_witness::Decision;
+use std::alloc::Allocator;
+use std::sync::Arc;
+
+/// What hears of each good list that a search refutes, in the order in which they are refuted. A list that it noted is named by
+/// its note.
+pub trait Recorder<N: Copy, A: Allocator>: Drop {
+    // It is for searches of the shape.
+    ghost is_for: { Self → ShapeOf → Type 0 };
+
+    // The note is of the list.
+    ghost noted: { Self → N → List Decision → Type 0 };
+
+    // The second knows what the first one did.
+    ghost grows: { Self → Self → Type 0 };
+
+    /// Whether it needs to hear of nothing.
+    fn is_deaf(&self) -> bool
+        ensures { IsTrue result → ((p : List Decision) → HasNote (noted self.now) p) };
+
+    /// Whether it may know of lists that others refuted, and have others know of those that it hears of.
+    fn is_sharing(&self) -> bool {
+        false
+    }
+
+    /// The note of a refuted list that places the rows that are marked, with one further where there is one, and leaves the states,
+    /// which have the digest, if it knows of one. It does not allocate.
+    fn find(
+        &self,
+        digest: u64,
+        states: &Store<A>,
+        placed: &Marks<A>,
+        further: Option<usize>,
+    ) -> Option<N>
+        requires rows { MarksRows (is_for self.now) placed.now }
+        requires further { MatchOption further (Unit {0}) (λ k. k < length placed.now) }
+        ensures { IfSome result (λ note. IsKnownFor (is_for self.now) (noted self.now note) states.now.now
+            (with_place placed.now further)) }
+    {
+        None
+    }
+
+    /// Others may know of the refuted list of the note, which places the rows that are marked and leaves the states. It answers
+    /// whether `find` comes to know of it, and so need not be remembered elsewhere.
+    fn keep(&self, digest: u64, states: &Arc<Store<A>, A>, placed: &Marks<A>, note: N) -> bool
+        requires { IsKnownOf (is_for self.now) (noted self.now note) states.now.value.now placed.now }
+    {
+        false
+    }
+
+    /// Notes the good list: it is not full, and each good list that is one decision longer was noted.
+    fn note_kids(&mut self, list: &[Decision]) -> Result<N, OutOfMemory>
+        requires { IsHearable (is_for self.old) list.now (λ shape. HasKids shape (HasNote (noted self.old)) list.now) }
+        ensures noted { IfOk result (λ note. noted self.new note list.now) }
+        ensures grows { grows self.old self.new };
+
+    /// Notes the good list: the decision is of a silent transaction and good after it, and the list after it was noted.
+    fn note_silent(&mut self, list: &[Decision], decision: Decision) -> Result<N, OutOfMemory>
+        requires { IsHearable (is_for self.old) list.now (λ shape. HasSilent shape (HasNote (noted self.old)) list.now decision) }
+        ensures noted { IfOk result (λ note. noted self.new note list.now) }
+        ensures grows { grows self.old self.new };
+
+    /// Notes the good list: the note is of a good list that places the same transactions and leaves the same states.
+    fn note_same(&mut self, list: &[Decision], note: N) -> Result<N, OutOfMemory>
+        requires { IsHearable (is_for self.old) list.now (λ shape. IsNotedAlike shape (noted self.old note) list.now) }
+        ensures noted { IfOk result (λ own. noted self.new own list.now) }
+        ensures grows { grows self.old self.new };
+
+    ghost noted_stays: { (r s : Self) (note : N) (p : List Decision) → grows r s → noted r note p → noted s note p };
+
+    ghost still_for: { (r s : Self) (shape : ShapeOf) → grows r s → is_for r shape → is_for s shape };
+
+    ghost grows_from_itself: { (r : Self) → grows r r };
+
+    ghost grows_onward: { (r s t : Self) → grows r s → grows s t → grows r t };
+}
+
+/// What names a list where none is noted.
+#[derive(Clone, Copy)]
+pub struct Unnoted;
+
+/// Notes nothing.
+#[derive(Drop)]
+pub struct Unrecorded;
+
+impl<A: Allocator> Recorder<Unnoted, A> for Unrecorded {
+    ghost is_for = { λ r shape. Unit {0} };
+
+    ghost noted = { λ r note p. Unit {0} };
+
+    ghost grows = { λ r s. Unit {0} };
+
+    fn is_deaf(&self) -> bool {
+        true
+    }
+
+    fn note_kids(&mut self, _list: &[Decision]) -> Result<Unnoted, OutOfMemory> {
+        Ok(Unnoted)
+    }
+
+    fn note_silent(
+        &mut self,
+        _list: &[Decision],
+        _decision: Decision,
+    ) -> Result<Unnoted, OutOfMemory> {
+        Ok(Unnoted)
+    }
+
+    fn note_same(&mut self, _list: &[Decision], _note: Unnoted) -> Result<Unnoted, OutOfMemory> {
+        Ok(Unnoted)
+    }
+
+    ghost noted_stays = { λ r s note p on was. tt };
+
+    ghost still_for = { λ r s shape on was. tt };
+
+    ghost grows_from_itself = { λ r. tt };
+
+    ghost grows_onward = { λ r s t first second. tt };
+}

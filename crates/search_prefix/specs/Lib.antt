@@ -1,0 +1,5 @@
+pub mod Searches
+pub mod Levels
+pub mod Tried
+pub mod Readiness
+pub mod Turns

@@ -1,0 +1,60 @@
+//! What a search answers.
+
+ghost use Rattle.std.specs.Prelude.{◌≡◌};
+ghost use Rattle.search_prefix.specs.Tried.{outcome_of};
+
+use aud_witness::Prefix;
+use std::alloc::{Allocator, Global};
+
+/// What a search with a budget found out about the lists that begin with a prefix.
+#[derive(Debug, Drop)]
+pub enum Outcome<A: Allocator = Global> {
+    /// None of them shows the history.
+    Refuted,
+    /// This one does.
+    Witness(Prefix<A>),
+    /// The budget is spent, and neither was found.
+    Spent,
+}
+
+/// Whether a history is opaque.
+#[derive(Debug, Drop)]
+pub enum Decided<A: Allocator = Global> {
+    /// It is: the list shows it.
+    Opaque(Prefix<A>),
+    /// It is not: no list shows it.
+    NotOpaque,
+}
+
+/// How a search over a recorder ended.
+#[derive(Drop)]
+pub enum Ended<N: Copy, A: Allocator = Global> {
+    /// No list that begins with the one that it began at shows the history, and this is its note.
+    Refuted(N),
+    /// This one does.
+    Witness(Prefix<A>),
+    /// The budget is spent, and neither was found.
+    Spent,
+}
+
+impl<N: Copy, A: Allocator> Ended<N, A> {
+    /// The same without the note.
+    pub fn outcome(self) -> Outcome<A>
+        ensures { result ≡ outcome_of self }
+    {
+        match self {
+            Ended::Refuted(_) => Outcome::Refuted,
+            Ended::Witness(witness) => Outcome::Witness(witness),
+            Ended::Spent => Outcome::Spent,
+        }
+    }
+}
+
+/// Whether a history is opaque, by a search over a recorder.
+#[derive(Drop)]
+pub enum Searched<R: Drop, N: Copy, A: Allocator = Global> {
+    /// It is: the list shows it.
+    Opaque(Prefix<A>),
+    /// It is not: no list shows it. The recorder has the note of the empty list.
+    NotOpaque(R, N),
+}
