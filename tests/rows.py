@@ -16,8 +16,8 @@ def texts_in(path):
         return dict(re.findall(r'const (\w+): &str =\s*r#"(.*?)"#;', file.read(), re.S))
 
 
-WORKED = {**texts_in("crates/aud_worked/src/histories.rt"), **texts_in("crates/aud_worked/src/inputs.rt")}
-WORKED.update(texts_in("crates/aud_tests_top/src/fixtures.rt"))
+WORKED = {**texts_in("crates/test_worked/src/histories.rt"), **texts_in("crates/test_worked/src/inputs.rt")}
+WORKED.update(texts_in("crates/test_top/src/fixtures.rt"))
 
 
 def quoted(word):

@@ -16,7 +16,7 @@ use Rattle.aud_text.specs.Orders.{order_text, decision_text, order_read}
 use Rattle.aud_text.proofs.JsonText.{json_of-text}
 use Rattle.aud_text.proofs.OrderText.{reads_back}
 use Rattle.aud_text.proofs.Spelling.{IsPlain, plain_reads, quoted_then}
-use Rattle.aud_accept.specs.declared.cert.CertLine.TheVariants.{Kids, Silent, Same}
+use Rattle.cert_accept.specs.declared.cert.CertLine.TheVariants.{Kids, Silent, Same}
 use Rattle.aud_cert.specs.LineText.{Line, line_read, line_judged}
 use Rattle.aud_cert.specs.CertText.{header_members, header_read, lines_read, headed, lines_headed, with_line, cert_read}
 use Rattle.aud_cert.specs.Written.{line_text, header_text, ended, cert_text, IsShort, HasShort, IsWithin}

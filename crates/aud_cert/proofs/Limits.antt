@@ -7,7 +7,7 @@ use Rattle.std.proofs.lemmas.List.Elements.{All-head, All-tail, All-cons, All-ni
 use Rattle.std.proofs.lemmas.Map.Steps.{length-le_from_distinct_below}
 use Rattle.aud_event.specs.Meanings.{PlanOf}
 use Rattle.aud_event.specs.Rows.{below_most}
-use Rattle.aud_base.proofs.Bools.{or_true, or_false, and_true, not_true, nat_eq-is}
+use Rattle.base_values.proofs.Bools.{or_true, or_false, and_true, not_true, nat_eq-is}
 use Rattle.aud_history.specs.Histories.{History, is_in}
 use Rattle.aud_history.specs.FirstFault.{FitsPlan, IsWithinLimits}
 use Rattle.aud_history.specs.Table.{transactions}
@@ -17,9 +17,9 @@ use Rattle.aud_witness.specs.Orders.{IsGood}
 use Rattle.aud_order.proofs.Lengths.{length-good}
 use Rattle.aud_text.specs.Orders.{order_text, decision_text, fate_letter}
 use Rattle.aud_text.proofs.OrderText.{join-more}
-use Rattle.aud_accept.specs.declared.cert.CertLine.{CertLine}
-use Rattle.aud_accept.specs.declared.cert.CertLine.TheVariants.{Kids, Silent, Same}
-use Rattle.aud_accept.specs.Acceptance.{prefix_in, IsAcceptedLine, AreAccepted}
+use Rattle.cert_accept.specs.declared.cert.CertLine.{CertLine}
+use Rattle.cert_accept.specs.declared.cert.CertLine.TheVariants.{Kids, Silent, Same}
+use Rattle.cert_accept.specs.Acceptance.{prefix_in, IsAcceptedLine, AreAccepted}
 use Rattle.aud_cert.specs.Written.{prefix_text, decided_text, IsShort, IsWithin, Low}
 use Rattle.aud_cert.specs.Laws.{AcceptedReadsBack}
 use Rattle.aud_cert.specs.Limits.{longest_cert_line}

@@ -8,11 +8,11 @@ use Rattle.std.proofs.lemmas.List.Elements.{All-head, All-tail, All-cons, All-ni
 use Rattle.aud_witness.specs.declared.decision.Decision.{Decision}
 use Rattle.aud_text.specs.Lines.{lines_of}
 use Rattle.aud_text.specs.Orders.{order_text, decision_text}
-use Rattle.aud_accept.specs.declared.cert.CertLine.TheVariants.{Kids, Silent, Same}
+use Rattle.cert_accept.specs.declared.cert.CertLine.TheVariants.{Kids, Silent, Same}
 use Rattle.aud_cert.specs.LineText.{Line}
 use Rattle.aud_cert.specs.Written.{prefix_text, line_text, header_text, IsShort, HasShort}
 use Rattle.aud_cert.proofs.Bytes.{IsPlainByte, ArePlain, decimal-plain, order-plain}
-use Rattle.aud_base.proofs.Bools.{and_true}
+use Rattle.base_values.proofs.Bools.{and_true}
 
 abbrev is_text : ℕ → Bool
 is_text b = nat_le 32 b && nat_lt b 128

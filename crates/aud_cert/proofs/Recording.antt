@@ -11,11 +11,11 @@ use Rattle.aud_order.specs.Shapes.{ShapeOf, objects_of, history_of}
 use Rattle.aud_order.specs.Cursors.{CursorOf}
 use Rattle.search_memo.specs.Recorders.{HasNote, IsHearable, IsNotedAlike}
 use Rattle.search_memo.specs.Recorders as heard
-use Rattle.aud_accept.specs.declared.cert.CertLine.{CertLine}
-use Rattle.aud_accept.specs.declared.cert.CertLine.TheVariants.{Kids, Silent, Same}
-use Rattle.aud_accept.specs.Acceptance.{prefix_in, IsAcceptedLine, AreAccepted, EndsEmpty, IsAccepted}
-use Rattle.aud_earlier.specs.Resting.{LeadAlike}
-use Rattle.aud_earlier.proofs.Alike.{placed_at, are-alike}
+use Rattle.cert_accept.specs.declared.cert.CertLine.{CertLine}
+use Rattle.cert_accept.specs.declared.cert.CertLine.TheVariants.{Kids, Silent, Same}
+use Rattle.cert_accept.specs.Acceptance.{prefix_in, IsAcceptedLine, AreAccepted, EndsEmpty, IsAccepted}
+use Rattle.cert_earlier.specs.Resting.{LeadAlike}
+use Rattle.cert_earlier.proofs.Alike.{placed_at, are-alike}
 use Rattle.aud_cert.specs.Recorded.{LinesOf}
 use Rattle.search_memo.proofs.MemoLemmas.{last-there}
 

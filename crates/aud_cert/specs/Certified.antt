@@ -4,9 +4,9 @@ use Rattle.aud_witness.specs.Orders.{Opaque}
 use Rattle.aud_order.specs.Shapes.{ShapeOf, objects_of, history_of}
 use Rattle.aud_know.specs.Norms.{refuted}
 use Rattle.aud_know.specs.Findings.{FindingOf}
-use Rattle.aud_accept.specs.Acceptance.{IsAccepted}
-use Rattle.aud_accept.specs.declared.cert.Cert.{Cert}
-use Rattle.aud_accept.specs.declared.cert.CertLine.{CertLine}
+use Rattle.cert_accept.specs.Acceptance.{IsAccepted}
+use Rattle.cert_accept.specs.declared.cert.Cert.{Cert}
+use Rattle.cert_accept.specs.declared.cert.CertLine.{CertLine}
 
 module _ {X : Type 0} where
   -- none where some order shows the history, and else an accepted certificate that none does

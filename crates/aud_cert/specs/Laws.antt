@@ -3,7 +3,7 @@ use Rattle.std.specs.Prelude.{◌≡◌, ◌<◌, ◌^◌, Ok, List, All, length
 use Rattle.aud_event.specs.Meanings.{PlanOf}
 use Rattle.aud_history.specs.Histories.{History}
 use Rattle.aud_history.specs.FirstFault.{IsWithinLimits}
-use Rattle.aud_accept.specs.Acceptance.{IsAccepted}
+use Rattle.cert_accept.specs.Acceptance.{IsAccepted}
 use Rattle.aud_cert.specs.LineText.{Line}
 use Rattle.aud_cert.specs.CertText.{cert_read}
 use Rattle.aud_cert.specs.Written.{cert_text, IsWithin}

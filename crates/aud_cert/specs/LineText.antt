@@ -8,8 +8,8 @@ use Rattle.aud_text.specs.declared.fault.TextFault.{TextFault}
 use Rattle.aud_text.specs.declared.fault.TextFault.TheVariants as fault
 use Rattle.aud_text.specs.Json.{Key, json_read, has_all, has_only, word_at, text_fits}
 use Rattle.aud_text.specs.Orders.{order_read}
-use Rattle.aud_accept.specs.declared.cert.CertLine.{CertLine}
-use Rattle.aud_accept.specs.declared.cert.CertLine.TheVariants.{Kids, Silent, Same}
+use Rattle.cert_accept.specs.declared.cert.CertLine.{CertLine}
+use Rattle.cert_accept.specs.declared.cert.CertLine.TheVariants.{Kids, Silent, Same}
 use Rattle.aud_cert.specs.declared.line.OrderTexts.{OrderTexts}
 use Rattle.aud_cert.specs.declared.reason.Reason.{Reason}
 use Rattle.aud_cert.specs.declared.reason.Reason.TheVariants as by

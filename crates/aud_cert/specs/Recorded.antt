@@ -4,8 +4,8 @@ use Rattle.std.proofs.Common.{sym, ◌∙◌, ap, append_assoc}
 use Rattle.std.proofs.lemmas.List.{append-nil, map-append}
 use Rattle.aud_witness.specs.declared.decision.Decision.{Decision}
 use Rattle.aud_order.specs.Shapes.{ShapeOf}
-use Rattle.aud_accept.specs.declared.cert.CertLine.{CertLine}
-use Rattle.aud_accept.specs.Acceptance.{prefix_in}
+use Rattle.cert_accept.specs.declared.cert.CertLine.{CertLine}
+use Rattle.cert_accept.specs.Acceptance.{prefix_in}
 use Rattle.search_memo.proofs.MemoLemmas.{get-front}
 
 -- how contracts see them: the shape that they are of, and the lines in their order

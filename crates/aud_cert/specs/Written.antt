@@ -4,9 +4,9 @@ use Rattle.aud_witness.specs.declared.decision.Decision.{Decision}
 use Rattle.aud_event.specs.Limits.{most_transactions}
 use Rattle.aud_text.specs.Orders.{order_text, decision_text}
 use Rattle.aud_cert.specs.CertText.{cert_read}
-use Rattle.aud_accept.specs.declared.cert.CertLine.{CertLine}
-use Rattle.aud_accept.specs.declared.cert.CertLine.TheVariants.{Kids, Silent, Same}
-use Rattle.aud_accept.specs.Acceptance.{elsewhere}
+use Rattle.cert_accept.specs.declared.cert.CertLine.{CertLine}
+use Rattle.cert_accept.specs.declared.cert.CertLine.TheVariants.{Kids, Silent, Same}
+use Rattle.cert_accept.specs.Acceptance.{elsewhere}
 use Rattle.aud_cert.specs.Limits.{longest_cert_line}
 use Rattle.aud_text.specs.Limits.{longest_order}
 

@@ -3,11 +3,11 @@
 ghost use Rattle.std.specs.Prelude.{IfOk};
 ghost use Rattle.aud_cert.specs.Certified.{IsFoundBy};
 
-use aud_accept::{Cert, check_cert};
 use aud_event::OutOfMemory;
 use aud_know::Finding;
 use aud_order::Shape;
 use aud_witness::Prefix;
+use cert_accept::{Cert, check_cert};
 use std::alloc::Allocator;
 use std::sync::Arc;
 

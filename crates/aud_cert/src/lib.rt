@@ -13,7 +13,7 @@ mod reason;
 mod spelled;
 mod write;
 
-pub use aud_accept::{Cert, CertLine, check_cert};
+pub use cert_accept::{Cert, CertLine, check_cert};
 pub use fault::CertTextFault;
 pub use finding::finding_of;
 pub use line::CERT_LINE_MAX;

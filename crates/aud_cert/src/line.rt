@@ -2,17 +2,17 @@
 
 ghost use Rattle.std.specs.Prelude.{◌≡◌, ◌⊎◌, Ok, Err, codes, IfOk, MatchResult};
 ghost use Rattle.serde_json.specs.View.{view, members_view};
-ghost use Rattle.aud_accept.specs.Acceptance.{elsewhere};
+ghost use Rattle.cert_accept.specs.Acceptance.{elsewhere};
 ghost use Rattle.aud_cert.specs.LineText.{order_at_key, is_long, is_out_of_range, is_one, all_texts, only_of, list_of, fault_with, line_of, line_judged, line_read};
 
 use crate::reason::{Reason, allowed_keys, reason_in, required_keys};
 use crate::spelled::line_spelled;
-use aud_accept::CertLine;
 use aud_event::OutOfMemory;
 use aud_text::{
     TextFault, has_only_allowed, has_required, json_in, read_order, text_if_there, word_of,
 };
 use aud_witness::{Decision, Prefix};
+use cert_accept::CertLine;
 use serde_json::{Map, Value};
 use std::alloc::{Allocator, Global};
 

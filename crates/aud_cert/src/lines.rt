@@ -2,13 +2,13 @@
 
 ghost use Rattle.std.specs.Prelude.{◌≡◌, ◌<◌, [], Some, map, length, slice_get, IfOk};
 ghost use Rattle.aud_order.specs.Shapes.{objects_of, history_of};
-ghost use Rattle.aud_accept.specs.Acceptance.{prefix_in, IsAcceptedLine, IsAccepted};
+ghost use Rattle.cert_accept.specs.Acceptance.{prefix_in, IsAcceptedLine, IsAccepted};
 ghost use Rattle.aud_cert.specs.Recorded.{IsLonger};
 
-use aud_accept::{Cert, CertLine};
 use aud_event::{Dup, OutOfMemory};
 use aud_order::Shape;
 use aud_witness::{Decision, Prefix};
+use cert_accept::{Cert, CertLine};
 use search_memo::Recorder;
 use std::alloc::{Allocator, Global};
 use std::marker::Model;
@@ -24,7 +24,7 @@ pub(crate) struct Lines<'a, A: Allocator + Copy = Global> {
 impl<'a, A: Allocator + Copy> Model for Lines<'a, A> {
     ghost use Rattle.std.specs.Prelude.{[]};
     ghost use Rattle.aud_order.specs.Shapes.{objects_of, history_of};
-    ghost use Rattle.aud_accept.specs.Acceptance.{AreAccepted};
+    ghost use Rattle.cert_accept.specs.Acceptance.{AreAccepted};
     ghost use Rattle.aud_cert.specs.Recorded.{LinesOf};
 
     ghost Value = { LinesOf A };
@@ -79,7 +79,7 @@ impl<'a, A: Allocator + Copy> Lines<'a, A> {
 
 impl<'a, A: Allocator + Copy> Recorder<usize, A> for Lines<'a, A> {
     ghost use Rattle.std.specs.Prelude.{◌≡◌, Some, map, slice_get};
-    ghost use Rattle.aud_accept.specs.Acceptance.{prefix_in};
+    ghost use Rattle.cert_accept.specs.Acceptance.{prefix_in};
     ghost use Rattle.aud_cert.specs.Recorded.{IsLonger, noted_later, shape_later, longer_itself, longer_onward};
 
     ghost is_for = { λ r shape. r.shape ≡ shape };

@@ -4,9 +4,9 @@ ghost use Rattle.std.specs.Prelude.{IfOk};
 ghost use Rattle.aud_cert.specs.Certified.{IsCertified};
 
 use crate::lines::Lines;
-use aud_accept::Cert;
 use aud_event::OutOfMemory;
 use aud_order::Shape;
+use cert_accept::Cert;
 use search_prefix::{Searched, search_with};
 use std::alloc::Allocator;
 

@@ -3,16 +3,16 @@
 ghost use Rattle.std.specs.Prelude.{◌≡◌, ◌+◌, ◌≤◌, ◌⊎◌, Ok, Err, length, map, IfOk, MatchResult};
 ghost use Rattle.serde_json.specs.View.{view};
 ghost use Rattle.serde_json.specs.Find.{as_object};
-ghost use Rattle.aud_accept.specs.Acceptance.{elsewhere};
+ghost use Rattle.cert_accept.specs.Acceptance.{elsewhere};
 ghost use Rattle.aud_text.specs.Lines.{lines_of};
 ghost use Rattle.aud_cert.specs.CertText.{header_keys, natural_at, header_members, header_read, at_line, lines_left, cert_read};
 
 use crate::fault::CertTextFault;
 use crate::line::{CERT_LINE_MAX, read_line};
-use aud_accept::{Cert, CertLine};
 use aud_text::{
     TextFault, count_lines, has_only_allowed, has_required, json_in, next_filled, whole_of,
 };
+use cert_accept::{Cert, CertLine};
 use serde_json::Value;
 use std::alloc::{Allocator, Global};
 

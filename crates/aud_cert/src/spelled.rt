@@ -1,15 +1,15 @@
 //! Reading a line that is spelled as `write_cert` spells it, with no JSON value in between.
 
 ghost use Rattle.std.specs.Prelude.{◌≡◌, ◌∷◌, [], Ok, IfSome};
-ghost use Rattle.aud_accept.specs.Acceptance.{elsewhere};
+ghost use Rattle.cert_accept.specs.Acceptance.{elsewhere};
 ghost use Rattle.aud_cert.specs.LineText.{line_read};
 ghost use Rattle.aud_cert.specs.Written.{alone_text, decided_text, line_text, prefix_text, HasShort, IsShort};
 
 use crate::line::{CERT_LINE_MAX, only};
 use crate::order::order_at;
-use aud_accept::CertLine;
 use aud_text::after;
 use aud_witness::{Decision, Prefix};
+use cert_accept::CertLine;
 use std::alloc::Allocator;
 
 /// The prefix, which ends each line.

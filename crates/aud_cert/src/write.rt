@@ -4,10 +4,10 @@ ghost use Rattle.std.specs.Prelude.{◌≡◌, ◌++◌, ◌∷◌, [], IfOk, On
 ghost use Rattle.aud_text.specs.Orders.{decision_text, fate_letter};
 ghost use Rattle.aud_cert.specs.Written.{prefix_text, alone_text, decided_text, same_text, line_text, header_text, ended, cert_text, ReadsBack};
 
-use aud_accept::{Cert, CertLine};
 use aud_event::OutOfMemory;
 use aud_text::push_order;
 use aud_witness::{Decision, Fate, Prefix};
+use cert_accept::{Cert, CertLine};
 use itoa::Buffer;
 use std::alloc::Allocator;
 

@@ -9,7 +9,7 @@ use Rattle.std.specs.declared.string.String.{String}
 use Rattle.std.proofs.Common.{sym, ◌∙◌, ap, subst, cond}
 use Rattle.std.proofs.lemmas.Slice.Eq.{bytes_eq-Decides}
 use Rattle.aud_event.specs.Meanings.{Declared}
-use Rattle.aud_base.proofs.Bools.{and_true, or_false, or_right, not_true, same_bools, and_no}
+use Rattle.base_values.proofs.Bools.{and_true, or_false, or_right, not_true, same_bools, and_no}
 use Rattle.aud_event.specs.Plans.{has_name, names_differ, number_of}
 
 -- a number that was found, or the given one if the test holds

@@ -5,7 +5,7 @@ ghost use Rattle.aud_event.specs.Exactness.{answer_exact, event_exact, record_ex
 
 use crate::fact::{EndMark, Event, Fact, Record};
 use crate::object::{Answer, Op, OpName};
-use aud_base::Key;
+use base_values::Key;
 
 impl Key for Op {
     ghost exact = { op_exact };

@@ -13,7 +13,7 @@ mod object;
 mod plan;
 mod signature;
 
-pub use aud_base::{Dup, Key, OutOfMemory, Rank};
+pub use base_values::{Dup, Key, OutOfMemory, Rank};
 pub use fact::{EndMark, Event, Fact, FactFault, Record};
 pub use object::{Answer, ObjKind, Op, OpName};
 pub use plan::{ObjDecl, Plan, PlanFault};

@@ -8,7 +8,7 @@ ghost use Rattle.aud_event.specs.Plans.{is_name, is_name_byte, is_opening, is_ki
 use crate::limits::{COUNTER_MAX, COUNTER_MIN, LOGS_MAX, NAME_MAX, OBJECTS_MAX};
 use crate::object::ObjKind;
 use crate::signature::{Format, Opens};
-use aud_base::{Dup, OutOfMemory};
+use base_values::{Dup, OutOfMemory};
 use std::alloc::{Allocator, Global};
 use std::collections::BTreeMap;
 use std::marker::Model;

@@ -26,7 +26,7 @@ use Rattle.aud_facts.specs.Scans.{is_past, first_place}
 use Rattle.aud_facts.proofs.Ordered.{ordered, same_self}
 use Rattle.aud_facts.proofs.Conflicts.{any_same, all_map, Strict, Beyond, strict, twins_is, past_is}
 use Rattle.aud_facts.proofs.Sealing.{not_first, IsSealed, sealed_says, none_below}
-use Rattle.aud_base.proofs.Bools.{unnegated, or_right, true_or, or_false}
+use Rattle.base_values.proofs.Bools.{unnegated, or_right, true_or, or_false}
 
 -- a conflict of some kind is reported
 reported_after : (k : Kind) (o : Option Place) (s : FactStatus) → IsConflict s → IsConflict (reported k o s)

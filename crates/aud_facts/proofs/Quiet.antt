@@ -24,7 +24,7 @@ use Rattle.aud_facts.specs.Quiet.{AreQuiet, AreAmong, QuietIsNoConflict, PartsAr
 use Rattle.aud_facts.specs.Sets.{AreSound}
 use Rattle.aud_facts.specs.Status.{fact_status, or_waiting, or_gap, least_below, is_waiting, is_missing, is_record, count}
 use Rattle.aud_facts.proofs.Grown.{in_conflict, none_passes, sealed_is_full}
-use Rattle.aud_base.proofs.Bools.{is_false, or_false}
+use Rattle.base_values.proofs.Bools.{is_false, or_false}
 
 -- where no fact passes, there is no least place of those that pass
 left_out : (f : Fact) (fs : List Fact) (b : Bool) → b ≡ false → least_place (map place_of fs) ≡ None → least_place (map place_of (if b then f ∷ fs else fs)) ≡ None

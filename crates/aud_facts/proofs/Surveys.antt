@@ -9,7 +9,7 @@ use Rattle.aud_facts.specs.declared.survey.Survey.{Survey}
 use Rattle.aud_facts.specs.Status.{count, has_stamp, is_mark_within}
 use Rattle.aud_facts.specs.Scans.{AreWithin, AreStamps, IsCalm, AreBounds, IsUnderrun, first_place, is_twice, is_past, is_record_from}
 use Rattle.aud_facts.proofs.Lists.{up-more}
-use Rattle.aud_base.proofs.Bools.{or_right}
+use Rattle.base_values.proofs.Bools.{or_right}
 
 -- where no mark is above one, no stamp stands twice
 pub never_twice : (facts xs : List Fact) (marks : List ℕ) → AreWithin xs → AreStamps facts marks → IsCalm marks → first_place (is_twice facts) xs ≡ None

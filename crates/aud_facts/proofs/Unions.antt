@@ -2,12 +2,12 @@
 use Rattle.std.proofs.Common.{◌||◌, sym, ap, ◌∙◌}
 use Rattle.std.specs.declared.cmp.Ordering.{Ordering}
 use Rattle.std.specs.Cmp.{IsTotalOrder}
-use Rattle.aud_base.specs.Exact.{IsExact}
+use Rattle.base_values.specs.Exact.{IsExact}
 use Rattle.aud_lattice.specs.Sets.{has, union}
 use Rattle.aud_lattice.specs.Sorted.{has-union, sorted_union, same_sorted}
 use Rattle.aud_lattice.proofs.Pours.{union_swap}
 use Rattle.aud_facts.specs.Joins.{UnionsCommute, UnionsAssociate, UnionsRepeat}
-use Rattle.aud_base.proofs.Bools.{or_assoc, or_same}
+use Rattle.base_values.proofs.Bools.{or_assoc, or_same}
 
 module _ {T : Type 0} {R : T → T → Ordering} (o : IsTotalOrder R) (ex : IsExact R) where
   pub unions_commute : UnionsCommute R

@@ -2,7 +2,7 @@
 use Rattle.std.proofs.Common.{◌≡◌, ℕ, true, false, cond, not, ◌&&◌, ◌||◌, nat_eq, [], ◌∷◌, ◌++◌, refl, ◌∙◌, ap}
 use Rattle.aud_history.specs.Histories.{History, is_in, is_completed, is_before, from_first}
 use Rattle.aud_history.specs.Places.{IsBefore}
-use Rattle.aud_base.proofs.Bools.{or_false, and_true, true_and, not_true, not_false}
+use Rattle.base_values.proofs.Bools.{or_false, and_true, true_and, not_true, not_false}
 
 cut_at_first : (u : ℕ) (h : History) → (a : History) × ((h ≡ a ++ from_first u h) × (is_in a u ≡ false))
 cut_at_first u [] = ([], (refl, refl))

@@ -7,7 +7,7 @@ use Rattle.aud_history.specs.Histories.{History, events_of, is_commit, is_abort,
 use Rattle.aud_object.specs.Executions.{AreExecutions, no_execution, execution}
 use Rattle.aud_history.specs.WellFormed.{IsEnding, invocation_aborted, aborted_by_itself, committed, commit_refused, IsWhole, IsTransaction}
 use Rattle.aud_history.specs.Completions.{IsCompletion}
-use Rattle.aud_base.proofs.Bools.{or_false, true_and, true_or, or_right, not_false, split}
+use Rattle.base_values.proofs.Bools.{or_false, true_and, true_or, or_right, not_false, split}
 use Rattle.aud_history.proofs.Insertions.{events_of-inserted}
 
 abbrev pub has_end : List Event → Bool

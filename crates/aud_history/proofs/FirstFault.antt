@@ -11,7 +11,7 @@ use Rattle.aud_history.specs.ByState.{after, run, Passes}
 use Rattle.std.proofs.lemmas.List.{take_all, get_or-replicate, take-append-drop, take_more, append-nil}
 use Rattle.std.proofs.lemmas.Bool.Decides.{nat_tests}
 use Rattle.aud_history.specs.FirstFault.{IsFirstFault}
-use Rattle.aud_base.proofs.Bools.{split, nat_eq-refl, nat_eq-is}
+use Rattle.base_values.proofs.Bools.{split, nat_eq-refl, nat_eq-is}
 use Rattle.aud_history.proofs.StateTable.{Continues-from_Passes, Passes-from_IsTransaction}
 use Rattle.aud_history.proofs.Events.{events_of-append}
 

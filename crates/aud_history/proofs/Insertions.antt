@@ -5,7 +5,7 @@ use Rattle.aud_event.specs.declared.fact.Event.TheVariants.{Inv, Ret, TryC, TryA
 use Rattle.aud_history.specs.Histories.{History, events_of, is_in, is_completed, is_live}
 use Rattle.aud_object.specs.Objects.{is_on, on_object}
 use Rattle.aud_history.specs.Completions.{is_completing, IsInserted, nothing, same, inserted}
-use Rattle.aud_base.proofs.Bools.{or_true, and_true, true_or, or_right, not_true, split, nat_eq-is}
+use Rattle.base_values.proofs.Bools.{or_true, and_true, true_or, or_right, not_true, split, nat_eq-is}
 
 is_in-more : {h a b : History} → IsInserted h a b → (t : ℕ) → is_in a t ≡ true → is_in b t ≡ true
 is_in-more nothing t there = there

@@ -6,7 +6,7 @@ use Rattle.std.proofs.lemmas.List.{get_or_past}
 use Rattle.std.proofs.lemmas.Bool.Decides.{nat_tests}
 use Rattle.aud_event.specs.Limits as limit
 use Rattle.aud_event.specs.Meanings.{PlanOf}
-use Rattle.aud_base.proofs.Bools.{split}
+use Rattle.base_values.proofs.Bools.{split}
 use Rattle.aud_event.specs.Rows.{below_most}
 use Rattle.aud_history.specs.Histories.{History, is_in}
 use Rattle.aud_history.specs.FirstFault.{FitsPlan}

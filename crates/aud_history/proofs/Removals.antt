@@ -10,7 +10,7 @@ use Rattle.aud_history.specs.Histories.{History, events_of, is_commit, is_abort,
 use Rattle.aud_history.specs.WellFormed.{IsTransaction, IsWellFormed}
 use Rattle.aud_history.specs.ByState.{after, Passes}
 use Rattle.aud_history.specs.Completions.{is_completing, IsInserted, nothing, same, inserted, IsCompletion}
-use Rattle.aud_base.proofs.Bools.{or_false, split}
+use Rattle.base_values.proofs.Bools.{or_false, split}
 use Rattle.aud_history.proofs.StateTable.{Continues-from_Passes, Passes-from_IsTransaction}
 use Rattle.aud_history.proofs.Insertions.{events_of-inserted}
 

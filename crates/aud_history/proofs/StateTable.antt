@@ -9,7 +9,7 @@ use Rattle.aud_event.specs.declared.object.Answer.{Answer}
 use Rattle.aud_event.specs.declared.fact.Event.{Event}
 use Rattle.aud_event.specs.declared.fact.Event.TheVariants.{Inv, Ret, TryC, TryA, Commit, Abort}
 use Rattle.aud_event.specs.Objects.{name_of, word_of_op}
-use Rattle.aud_base.proofs.Bools.{and_true, true_and, nat_eq-refl}
+use Rattle.base_values.proofs.Bools.{and_true, true_and, nat_eq-refl}
 use Rattle.aud_event.proofs.Names.{bytes_eq-refl}
 use Rattle.aud_event.specs.Rows.{same-from_words}
 use Rattle.std.specs.Prelude.{bytes_eq}

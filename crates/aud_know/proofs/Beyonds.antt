@@ -31,9 +31,9 @@ use Rattle.aud_know.specs.Beyond.{AreNew, AreAllOrNew, IsNewWitness, HasFinding,
 use Rattle.aud_know.proofs.Keeping.{fact_total}
 use Rattle.aud_know.proofs.Norming.{here, norm_append, norm_atoms}
 use Rattle.aud_know.proofs.Staying.{same_lists}
-use Rattle.aud_base.proofs.Bools.{is_false}
+use Rattle.base_values.proofs.Bools.{is_false}
 use Rattle.aud_lattice.proofs.Tries.{same_some}
-use Rattle.aud_base.proofs.Results.{none≢some}
+use Rattle.base_values.proofs.Results.{none≢some}
 
 no_item : {T : Type 0} (x : T) → Contains [] x → ⊥
 no_item x h = let lt = h.1 in omega arith

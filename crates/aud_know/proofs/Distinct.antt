@@ -8,7 +8,7 @@ use Rattle.std.specs.Ordering.{is_lt, ordering_reverse}
 use Rattle.std.proofs.lemmas.List.Sorted.{sorted_far, ranks_by}
 use Rattle.std.proofs.lemmas.Map.Keys.{apart_from_distinct, IsDistinct-IsPermutation}
 use Rattle.aud_event.specs.Meanings.{Declared}
-use Rattle.aud_base.proofs.Bools.{and_true, true_and, or_false, not_true, nat_eq-refl, nat_eq-sym, and_no}
+use Rattle.base_values.proofs.Bools.{and_true, true_and, or_false, not_true, nat_eq-refl, nat_eq-sym, and_no}
 use Rattle.aud_history.specs.Histories.{History}
 use Rattle.aud_history.specs.Table.{transactions}
 use Rattle.aud_history.proofs.Tables.{are_different, different-transactions}

@@ -9,7 +9,7 @@ use Rattle.std.specs.declared.cmp.Ordering.{Ordering}
 use Rattle.std.specs.declared.cmp.Ordering.TheVariants.{Less, Equal, Greater}
 use Rattle.std.proofs.Common.{sym, ap, subst, ◌∙◌}
 use mathlib.Core.Bool.{true≢false}
-use Rattle.aud_base.specs.Exact.{IsExact}
+use Rattle.base_values.specs.Exact.{IsExact}
 use Rattle.aud_event.specs.Exactness.{fact_exact}
 use Rattle.aud_lattice.specs.Covers.{begins, IsFirst}
 use Rattle.aud_lattice.specs.Covering.{cover_sorted}
@@ -27,7 +27,7 @@ use Rattle.aud_know.specs.Members.{IsFirstRefuted, IsLeastShown, IsNormOf}
 use Rattle.aud_know.specs.Laws.{NormIsExact}
 use Rattle.aud_know.proofs.Keeping.{fact_total}
 use Rattle.aud_know.proofs.Norming.{fact_there, there_fact, refuted_there, there_refuted, shown_there, there_shown, has-norm, reaches-norm, is_normal}
-use Rattle.aud_base.proofs.Bools.{same_bools}
+use Rattle.base_values.proofs.Bools.{same_bools}
 use Rattle.aud_know.proofs.Beginnings.{begins-rest, begins-longer}
 
 prefix_total : IsTotalOrder (slice_cmp decision_cmp)

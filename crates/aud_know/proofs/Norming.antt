@@ -8,7 +8,7 @@ use Rattle.std.specs.Cmp.Lexicographic.{slice_cmp, lists_total}
 use Rattle.std.specs.FinSet.{slice_cmp-IsAntisymmetric}
 use Rattle.std.specs.List.{list_any, Contains}
 use Rattle.std.specs.List.Sorted.{IsStrictlySortedBy}
-use Rattle.aud_base.specs.Exact.{IsExact}
+use Rattle.base_values.specs.Exact.{IsExact}
 use Rattle.aud_lattice.specs.Sets.{has}
 use Rattle.aud_lattice.specs.Sorted.{has-union, sorted_union, same_sorted}
 use Rattle.aud_lattice.proofs.Strict.{some_passes, one_passes}
@@ -17,7 +17,7 @@ use Rattle.aud_lattice.specs.Covering.{cover_cover_union, covers-cover_union, sa
 use Rattle.aud_lattice.specs.Least.{reaches}
 use Rattle.aud_lattice.specs.Leasts.{reaches-least_of, same_least}
 use Rattle.aud_know.specs.Norms.{Atom, fact, refuted, shown, facts_of, refuted_of, shown_of, Norm, least_in, norm, merge, witness_atoms, atoms_of, IsNormal}
-use Rattle.aud_base.proofs.Bools.{or_nothing, or_assoc, same_bools}
+use Rattle.base_values.proofs.Bools.{or_nothing, or_assoc, same_bools}
 use Rattle.std.proofs.lemmas.List.{append-nil}
 
 any_append : {X : Type 0} (t : X → Bool) (xs ys : List X) → list_any t (xs ++ ys) ≡ (list_any t xs || list_any t ys)

@@ -5,7 +5,7 @@ use Rattle.std.proofs.Common.{sym, ◌∙◌, ap, subst, inl, inr, arith, get_or
 use Rattle.std.proofs.lemmas.List.{take_more, take_all}
 use Rattle.std.proofs.lemmas.List.Elements.{Contains-push_cases, Contains-get_or}
 use Rattle.aud_event.specs.Meanings.{Declared}
-use Rattle.aud_base.proofs.Bools.{split}
+use Rattle.base_values.proofs.Bools.{split}
 use Rattle.aud_history.specs.Histories.{History}
 use Rattle.aud_witness.specs.declared.decision.Fate.TheVariants.{C}
 use Rattle.aud_witness.specs.declared.decision.Decision.{Decision}

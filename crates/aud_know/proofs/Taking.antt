@@ -4,7 +4,7 @@ use Rattle.std.proofs.Common.{sym, ap, subst, ◌∙◌, arith, inl, inr}
 use Rattle.std.specs.declared.cmp.Ordering.{Ordering}
 use Rattle.std.specs.Cmp.{IsTotalOrder}
 use Rattle.std.specs.Cmp.Lexicographic.{slice_cmp}
-use Rattle.aud_base.specs.Exact.{IsExact}
+use Rattle.base_values.specs.Exact.{IsExact}
 use Rattle.std.specs.List.Sorted.{IsStrictlySortedBy}
 use Rattle.aud_lattice.specs.Sets.{has, union, with_item}
 use Rattle.aud_lattice.specs.Sorted.{has-union, has-with_item, sorted_union, sorted_with_item, same_sorted}
@@ -14,7 +14,7 @@ use Rattle.aud_lattice.specs.Least.{least_of}
 use Rattle.aud_know.specs.Norms.{Atom, fact, refuted, shown, facts_of, refuted_of, shown_of, Norm, set_of, least_in, norm, merge, atoms_of, IsNormal}
 use Rattle.aud_know.proofs.Norming.{first_or_later, is_normal, merge_normal, norm_append, norm_atoms}
 use Rattle.aud_know.proofs.Truths.{QuietParts, WholeStays, IsTrueFor, merge_true}
-use Rattle.aud_base.proofs.Bools.{or_nothing, or_comm}
+use Rattle.base_values.proofs.Bools.{or_nothing, or_comm}
 
 facts-map : (F D : Type 0) (fs : List F) → facts_of {D = D} (map fact fs) ≡ fs
 facts-map F D [] = refl

@@ -7,14 +7,14 @@ use Rattle.std.specs.declared.cmp.Ordering.TheVariants.{Less, Equal, Greater}
 use Rattle.std.specs.Cmp.{IsTotalOrder}
 use Rattle.std.specs.Cmp.Lexicographic.{slice_cmp}
 use Rattle.std.specs.List.Sorted.{IsStrictlySortedBy}
-use Rattle.aud_base.specs.Exact.{IsExact}
+use Rattle.base_values.specs.Exact.{IsExact}
 use Rattle.aud_lattice.specs.Sets.{has, union, by_order}
 use Rattle.aud_lattice.specs.Sorted.{has-union, sorted_union}
 use Rattle.aud_lattice.specs.Covers.{cover_union}
 use Rattle.aud_lattice.proofs.Minimal.{kept}
 use Rattle.aud_lattice.specs.Least.{least_of}
 use Rattle.aud_know.specs.Norms.{Norm, merge, IsNormal}
-use Rattle.aud_base.proofs.Bools.{or_always}
+use Rattle.base_values.proofs.Bools.{or_always}
 
 -- each item of xs is in ys
 abbrev pub IsWithin : {T : Type 0} → (T → T → Ordering) → List T → List T → Type 0

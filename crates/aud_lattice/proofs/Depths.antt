@@ -13,7 +13,7 @@ use Rattle.aud_lattice.specs.declared.trie.Trie.TheOpen.{Trie-F, Rest, Fork}
 use Rattle.aud_lattice.specs.declared.trie.Trie.TheFolds.{fold-Trie, fold_out-Trie, map-Trie}
 use Rattle.aud_lattice.specs.Walks.{nodes_of, under, child}
 use Rattle.aud_lattice.proofs.Tries.{same_some}
-use Rattle.aud_base.proofs.Results.{none≢some}
+use Rattle.base_values.proofs.Results.{none≢some}
 
 abbrev total : {D : Type 0} → List (D × ℕ) → ℕ
 total [] = 0

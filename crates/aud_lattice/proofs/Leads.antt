@@ -11,7 +11,7 @@ use Rattle.std.specs.BTreeMap.{IsOrdered, IsEmpty, is_at}
 use Rattle.std.specs.Map.{lookup, keys_of}
 use Rattle.std.specs.declared.sync.Arc.{Arc}
 use Rattle.std.specs.declared.collections.BTreeMap.{BTreeMap}
-use Rattle.aud_base.specs.Exact.{IsExact}
+use Rattle.base_values.specs.Exact.{IsExact}
 use Rattle.aud_lattice.specs.Sets.{either}
 use Rattle.aud_lattice.proofs.Strict.{some_passes, one_passes}
 use Rattle.aud_lattice.specs.declared.trie.Trie.{Trie, out-Trie}
@@ -22,7 +22,7 @@ use Rattle.aud_lattice.specs.Paths.{paths}
 use Rattle.aud_lattice.proofs.Pathed.{pathed, paths_rest, paths_fork, same_paths, none_paths, and_none, and_more, on_found}
 use Rattle.aud_lattice.proofs.Tries.{pointwise, any_by, any_by-get, good_here, good_child, live_child, fork_child, fork_member, found_kids, sorted_nodes}
 use Rattle.aud_lattice.proofs.Rests.{alike, alike_is, rest_leads}
-use Rattle.aud_base.proofs.Bools.{or_nothing, and_true, is_false, and_yes}
+use Rattle.base_values.proofs.Bools.{or_nothing, and_true, is_false, and_yes}
 
 -- whether q is one of the lists
 abbrev pub held : {D : Type 0} → (D → D → Ordering) → List (List D) → List D → Bool

@@ -9,11 +9,11 @@ use Rattle.std.proofs.lemmas.List.Elements.{filter-append, Contains-append_left,
 use Rattle.std.proofs.lemmas.Map.Views.{any-filter_same}
 use Rattle.std.specs.List.Sorted.{IsStrictlySortedBy}
 use Rattle.std.proofs.lemmas.List.Kept.{IsStrictlySortedBy-filter}
-use Rattle.aud_base.specs.Exact.{IsExact}
+use Rattle.base_values.specs.Exact.{IsExact}
 use Rattle.aud_lattice.specs.Sets.{has, union, without}
 use Rattle.aud_lattice.proofs.Members.{has_is, contains_union, same_members}
 use Rattle.aud_lattice.specs.Sorted.{has-union, sorted_union, same_sorted}
-use Rattle.aud_base.proofs.Bools.{is_false}
+use Rattle.base_values.proofs.Bools.{is_false}
 
 pub sorted_without : {T : Type 0} (R : T → T → Ordering) (xs ys : List T) → IsStrictlySortedBy R xs → IsStrictlySortedBy R (without R xs ys)
 sorted_without R xs ys s = IsStrictlySortedBy-filter R (λ x. not (has R ys x)) xs s

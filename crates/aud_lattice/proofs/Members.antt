@@ -6,12 +6,12 @@ use Rattle.std.specs.Cmp.{IsTotalOrder, tied_itself, Equal-is}
 use Rattle.std.specs.List.{Contains}
 use Rattle.std.specs.List.Sorted.{IsStrictlySortedBy}
 use Rattle.std.proofs.lemmas.Bool.{or_cases}
-use Rattle.aud_base.specs.Exact.{IsExact}
+use Rattle.base_values.specs.Exact.{IsExact}
 use Rattle.aud_lattice.specs.Sets.{has, with_item, union, inserted}
 use Rattle.aud_lattice.specs.Sorted.{has-with_item, has-union, same_sorted}
 use Rattle.aud_lattice.proofs.Strict.{some_passes, one_passes}
 use Rattle.aud_lattice.proofs.Pours.{has-inserted, sorted_inserted}
-use Rattle.aud_base.proofs.Bools.{or_right, same_bools, true_or}
+use Rattle.base_values.proofs.Bools.{or_right, same_bools, true_or}
 
 module _ {T : Type 0} {R : T → T → Ordering} (o : IsTotalOrder R) (ex : IsExact R) where
   pub has_member : (xs : List T) (x : T) → Contains xs x → has R xs x ≡ true

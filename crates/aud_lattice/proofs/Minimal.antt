@@ -5,7 +5,7 @@ use Rattle.std.specs.declared.cmp.Ordering.{Ordering}
 use Rattle.std.specs.Cmp.{IsTotalOrder}
 use Rattle.std.proofs.lemmas.Bool.{cases_lt, or_cases}
 use Rattle.std.proofs.lemmas.List.{get_or_default}
-use Rattle.aud_base.specs.Exact.{IsExact}
+use Rattle.base_values.specs.Exact.{IsExact}
 use Rattle.aud_lattice.specs.Covers.{cover_cmp, begins, IsCover, covers, cover_union, HasBeginning, IsKept}
 use Rattle.aud_lattice.specs.Covering.{begins_itself, begins_trans, begins_ties, begun_ties, same_list, covers-cover_union, cover_cover_union, Less≢Equal}
 use Rattle.aud_lattice.proofs.Strict.{strict_at, some_passes, one_passes}

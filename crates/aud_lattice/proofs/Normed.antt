@@ -4,12 +4,12 @@ use Rattle.std.specs.declared.cmp.Ordering.{Ordering}
 use Rattle.std.specs.Cmp.{IsTotalOrder}
 use Rattle.std.specs.List.{Contains}
 use Rattle.std.specs.List.Sorted.{IsStrictlySortedBy}
-use Rattle.aud_base.specs.Exact.{IsExact}
+use Rattle.base_values.specs.Exact.{IsExact}
 use Rattle.aud_lattice.specs.Covers.{begins, covers, IsCover, cover_union, normal_form}
 use Rattle.aud_lattice.specs.Covering.{covers-cover_union, cover_cover_union, same_cover}
 use Rattle.aud_lattice.proofs.Minimal.{kept, keeps}
 use Rattle.aud_lattice.specs.Norms.{IsNormOfUnion, IsNormWithNorm, IsNormOfFirsts}
-use Rattle.aud_base.proofs.Bools.{or_nothing, or_assoc, or_comm}
+use Rattle.base_values.proofs.Bools.{or_nothing, or_assoc, or_comm}
 
 module _ {D : Type 0} {R : D → D → Ordering} (o : IsTotalOrder R) (ex : IsExact R) where
   covers-append : (ps qs : List (List D)) (r : List D) → covers R (ps ++ qs) r ≡ (covers R ps r || covers R qs r)

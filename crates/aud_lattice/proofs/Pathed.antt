@@ -10,7 +10,7 @@ use Rattle.std.specs.Arc.{arc_value}
 use Rattle.std.specs.declared.sync.Arc.{Arc}
 use Rattle.std.specs.Map.{keys_of}
 use Rattle.std.specs.declared.collections.BTreeMap.{BTreeMap}
-use Rattle.aud_base.specs.Exact.{IsExact}
+use Rattle.base_values.specs.Exact.{IsExact}
 use Rattle.aud_lattice.specs.Sets.{either}
 use Rattle.aud_lattice.specs.Covers.{cover_cmp, begins, covers, extends, IsCover, with_list, cover_union, HasBeginning}
 use Rattle.aud_lattice.proofs.Strict.{any_at, some_passes, one_passes}
@@ -26,8 +26,8 @@ use Rattle.aud_lattice.proofs.Marked.{covered_only, covered_mark, inner≢covere
 use Rattle.aud_lattice.specs.Paths.{below, layer_paths, paths}
 use Rattle.aud_lattice.proofs.Tries.{same_some, gone_on, any_by, any_by-get, good_here, good_child, live_child, parent_opened, fork_child, fork_member, pointwise, found_kids, sorted_nodes}
 use Rattle.aud_lattice.proofs.Rests.{absorbs, rest_walk, rest_marks}
-use Rattle.aud_base.proofs.Bools.{is_false, or_nothing}
-use Rattle.aud_base.proofs.Results.{none≢some}
+use Rattle.base_values.proofs.Bools.{is_false, or_nothing}
+use Rattle.base_values.proofs.Results.{none≢some}
 
 pub on_found : {X : Type 0} (f g : X → Bool) (o : Option X) → ((u : X) → o ≡ Some u → f u ≡ g u) → walk_on f o ≡ walk_on g o
 on_found f g None h = refl

@@ -4,10 +4,10 @@ use Rattle.std.specs.declared.cmp.Ordering.{Ordering}
 use Rattle.std.specs.Ordering.{eq_by_cmp}
 use Rattle.std.specs.Cmp.{IsTotalOrder}
 use Rattle.std.specs.List.Sorted.{IsStrictlySortedBy}
-use Rattle.aud_base.specs.Exact.{IsExact}
+use Rattle.base_values.specs.Exact.{IsExact}
 use Rattle.aud_lattice.specs.Sets.{has, with_item, union, inserted, or_comm, or_same}
 use Rattle.aud_lattice.specs.Sorted.{has-with_item, sorted_with_item, has-union, sorted_union, same_sorted}
-use Rattle.aud_base.proofs.Bools.{or_swap}
+use Rattle.base_values.proofs.Bools.{or_swap}
 
 or_assoc : (a b c : Bool) → (a || (b || c)) ≡ ((a || b) || c)
 or_assoc true b c = refl

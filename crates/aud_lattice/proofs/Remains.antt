@@ -10,7 +10,7 @@ use Rattle.std.specs.List.Sorted.{IsStrictlySortedBy}
 use Rattle.std.proofs.lemmas.List.Folds.{list_any-append}
 use Rattle.std.proofs.lemmas.List.Elements.{filter-append}
 use Rattle.std.proofs.lemmas.List.Filters.{length-filter_both}
-use Rattle.aud_base.specs.Exact.{IsExact}
+use Rattle.base_values.specs.Exact.{IsExact}
 use Rattle.aud_lattice.specs.Cuts.{if_there, IsCut, AreAllIfAsMany}
 use Rattle.aud_lattice.specs.Sets.{has, without}
 use Rattle.aud_lattice.specs.Sorted.{Below-less, absent_below, first_there}

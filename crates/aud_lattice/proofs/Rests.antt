@@ -11,13 +11,13 @@ use Rattle.aud_lattice.specs.declared.trie.Trie.{Trie, out-Trie}
 use Rattle.aud_lattice.specs.declared.trie.Trie.TheVariants.{Rest as made_rest, outs-Rest}
 use Rattle.aud_lattice.specs.declared.trie.Trie.TheOpen.{Rest}
 use Rattle.aud_lattice.specs.Marks.{mark_of}
-use Rattle.aud_base.specs.Exact.{IsExact}
+use Rattle.base_values.specs.Exact.{IsExact}
 use Rattle.aud_lattice.specs.Sets.{either}
 use Rattle.aud_lattice.specs.Walks.{nothing, but, starts, HasBoth, ends, under, IsLayer, child, walk_on, walk, leads, mark_here, mark_on, walk_mark, IsLive, IsTrie}
 use Rattle.aud_lattice.proofs.Tries.{pointwise, same_some, good_from, live_as, begins_live, begins-starts, or_left, alone}
 use Rattle.aud_lattice.proofs.Marked.{covered_only, inner_only}
-use Rattle.aud_base.proofs.Bools.{is_false, or_nothing, and_true, nat_eq-is, or_always}
-use Rattle.aud_base.proofs.Results.{none≢some}
+use Rattle.base_values.proofs.Bools.{is_false, or_nothing, and_true, nat_eq-is, or_always}
+use Rattle.base_values.proofs.Results.{none≢some}
 
 -- whether the lists are one
 abbrev pub alike : {D : Type 0} → (D → D → Ordering) → List D → List D → Bool

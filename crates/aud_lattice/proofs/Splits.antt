@@ -10,7 +10,7 @@ use Rattle.std.specs.List.Sorted.{IsStrictlySortedBy}
 use Rattle.aud_lattice.specs.Sets.{by_order, has, with_item}
 use Rattle.aud_lattice.specs.Sorted.{Below-less, absent_below}
 use Rattle.aud_lattice.specs.Trees.{Found}
-use Rattle.aud_base.proofs.Bools.{or_always}
+use Rattle.base_values.proofs.Bools.{or_always}
 
 pub drop_right : {T : Type 0} (l : List T) (k : T) (r : List T) (m n : ℕ) → m ≡ length l + n + 1 → drop m (l ++ k ∷ r) ≡ drop n r
 drop_right [] k r zero n e = absurd (omega (arith, e))

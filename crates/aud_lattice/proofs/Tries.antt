@@ -13,7 +13,7 @@ use Rattle.std.specs.declared.sync.Arc.{Arc}
 use Rattle.std.specs.Map.{lookup, keys_of, values_of}
 use denote.Param.Weighed.{most}
 use Rattle.std.specs.declared.collections.BTreeMap.{BTreeMap}
-use Rattle.aud_base.specs.Exact.{IsExact}
+use Rattle.base_values.specs.Exact.{IsExact}
 use Rattle.aud_lattice.specs.Covers.{begins}
 use Rattle.aud_lattice.specs.Covering.{begins_itself}
 use Rattle.aud_lattice.specs.declared.trie.Trie.{Trie, out-Trie, size-Trie, size_is-Trie}
@@ -23,8 +23,8 @@ use Rattle.aud_lattice.specs.declared.trie.Trie.TheVariants.{Fork as made, outs-
 use Rattle.aud_lattice.specs.Sets.{either}
 use Rattle.aud_lattice.specs.declared.trie.Trie.TheOpen.{Trie-F, Rest, Fork}
 use Rattle.aud_lattice.specs.Walks.{nodes_of, node_of, ends, under, IsLayer, is_member, child, walk_on, walk, nothing, go_on, node_at, starts, IsLive, IsTrie, IsMet, IsWithin}
-use Rattle.aud_base.proofs.Bools.{or_nothing, is_false, or_always}
-use Rattle.aud_base.proofs.Results.{none≢some}
+use Rattle.base_values.proofs.Bools.{or_nothing, is_false, or_always}
+use Rattle.base_values.proofs.Results.{none≢some}
 
 pub pointwise : {X Y : Type 0} {f g : X → Y} → ((x : X) → f x ≡ g x) → f ≡ g
 pointwise h i x = h x i

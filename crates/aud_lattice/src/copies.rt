@@ -2,7 +2,7 @@
 
 ghost use Rattle.std.specs.Prelude.{◌≡◌, IfOk, OnOk, OnErr, [], ◌∷◌, ◌++◌};
 
-use aud_base::{Dup, OutOfMemory};
+use base_values::{Dup, OutOfMemory};
 use std::alloc::Allocator;
 
 /// Puts a copy of the item at the end.

@@ -14,7 +14,7 @@ use crate::Lattice;
 use crate::mark::Mark;
 use crate::row::Row;
 use crate::trie::Trie;
-use aud_base::{Dup, Key, OutOfMemory};
+use base_values::{Dup, Key, OutOfMemory};
 use std::alloc::{Allocator, Global};
 use std::marker::Model;
 

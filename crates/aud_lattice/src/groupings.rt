@@ -4,7 +4,7 @@ ghost use Rattle.std.specs.Prelude.{◌≡◌, ◌<◌, IfOk, Some, length, map}
 ghost use Rattle.aud_lattice.specs.Laws.{merged};
 
 use crate::Lattice;
-use aud_base::{Dup, OutOfMemory};
+use base_values::{Dup, OutOfMemory};
 
 /// The values joined from the front, of which there is one at least.
 pub fn joined<L: Lattice + Dup>(values: &[L]) -> Result<L, OutOfMemory>

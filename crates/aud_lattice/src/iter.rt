@@ -6,7 +6,7 @@ ghost use Rattle.std.specs.Option.{option_copied};
 ghost use Rattle.aud_lattice.specs.Trees.{IsPart, Found, items_of};
 
 use crate::tree::{Link, Tree, at, count};
-use aud_base::Dup;
+use base_values::Dup;
 use std::alloc::{Allocator, Global};
 use std::marker::Model;
 

@@ -2,7 +2,7 @@
 
 ghost use Rattle.aud_lattice.specs.Norms.{IsNormOfUnion, IsNormWithNorm, IsNormOfFirsts};
 
-use aud_base::Key;
+use base_values::Key;
 
 /// The cover of a union is the cover of the covers.
 #[tactic(auto, using(crate::proofs::Normed::norm_of_union))]

@@ -7,7 +7,7 @@ ghost use Rattle.aud_lattice.specs.Sets.{either, either_laws};
 ghost use Rattle.aud_lattice.specs.Least.{least_of, reaches};
 
 use crate::Lattice;
-use aud_base::{Dup, Key, OutOfMemory};
+use base_values::{Dup, Key, OutOfMemory};
 use std::cmp::Ordering;
 use std::marker::Model;
 

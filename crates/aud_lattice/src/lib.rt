@@ -25,7 +25,7 @@ mod tree;
 mod trie;
 mod union_set;
 
-use aud_base::OutOfMemory;
+use base_values::OutOfMemory;
 pub use cover::Cover;
 pub use groupings::{joined, joined_both_ways};
 pub use iter::Iter;

@@ -7,7 +7,7 @@ ghost use Rattle.aud_lattice.specs.Cuts.{IsCut, AreAllIfAsMany};
 ghost use Rattle.aud_lattice.specs.Trees.{items_of};
 
 use crate::tree::{Link, Tree, balanced, count, node, shared};
-use aud_base::{Dup, Key, OutOfMemory};
+use base_values::{Dup, Key, OutOfMemory};
 use std::alloc::Allocator;
 use std::cmp::Ordering;
 

@@ -11,7 +11,7 @@ use crate::copies::push_copy;
 use crate::iter::all_of;
 use crate::link::{beside, relinked, split};
 use crate::tree::{Link, Tree, contains, count, shared, with};
-use aud_base::{Dup, Key, OutOfMemory};
+use base_values::{Dup, Key, OutOfMemory};
 use std::alloc::Allocator;
 use std::cmp::Ordering;
 

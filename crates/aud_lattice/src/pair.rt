@@ -3,7 +3,7 @@
 ghost use Rattle.aud_lattice.specs.Pairs.{both, both_laws};
 
 use crate::Lattice;
-use aud_base::{Dup, OutOfMemory};
+use base_values::{Dup, OutOfMemory};
 
 /// Two values, joined part by part. A join copies `second` alone, so the larger part belongs first.
 #[derive(Drop)]

@@ -6,7 +6,7 @@ ghost use Rattle.aud_lattice.specs.Walks.{child, is_member, leads, node_at, walk
 
 use crate::mark::Mark;
 use crate::trie::Trie;
-use aud_base::{Dup, Key};
+use base_values::{Dup, Key};
 use std::alloc::{Allocator, Global};
 use std::collections::BTreeMap;
 use std::sync::Arc;

@@ -7,7 +7,7 @@ ghost use Rattle.std.specs.Ordering.{eq_by_cmp, as_partial_cmp};
 ghost use Rattle.std.specs.FinSet.{slice_cmp-IsAntisymmetric};
 
 use crate::copies::{copied, push_copies};
-use aud_base::{Dup, Key, OutOfMemory};
+use base_values::{Dup, Key, OutOfMemory};
 use std::alloc::{Allocator, Global};
 use std::cmp::Ordering;
 use std::marker::Model;

@@ -6,7 +6,7 @@ ghost use Rattle.std.specs.Option.{option_copied};
 ghost use Rattle.aud_lattice.specs.Sets.{has};
 ghost use Rattle.aud_lattice.specs.Trees.{Found, items_of, AreBalanced, NearlyBalanced, IsHeavy, IsToPart, IsWithNew};
 
-use aud_base::{Dup, Key, OutOfMemory};
+use base_values::{Dup, Key, OutOfMemory};
 use std::alloc::{Allocator, Global};
 use std::cmp::Ordering;
 use std::marker::Model;

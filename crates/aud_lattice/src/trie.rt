@@ -15,7 +15,7 @@ ghost use Rattle.aud_lattice.specs.declared.trie.Trie.TheVariants.{Fork};
 use crate::mark::Mark;
 use crate::place::Place;
 use crate::row::Row;
-use aud_base::{Dup, Key, OutOfMemory};
+use base_values::{Dup, Key, OutOfMemory};
 use std::alloc::{Allocator, Global};
 use std::collections::BTreeMap;
 use std::mem;

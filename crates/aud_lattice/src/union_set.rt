@@ -12,7 +12,7 @@ use crate::iter::{Iter, all_of};
 use crate::merge::{joined, same, without};
 use crate::ranked::ranked;
 use crate::tree::{Link, contains, count, shared, with};
-use aud_base::{Dup, Key, OutOfMemory, Rank};
+use base_values::{Dup, Key, OutOfMemory, Rank};
 use std::alloc::{Allocator, Global};
 use std::marker::Model;
 

@@ -8,7 +8,7 @@ use Rattle.std.proofs.lemmas.Grind.{flat_map-append}
 use Rattle.std.proofs.lemmas.List.Elements.{filter-append}
 use Rattle.std.proofs.lemmas.List.Sorted.{Contains-permutation, IsPermutation-sym}
 use Rattle.aud_event.specs.Meanings.{Declared}
-use Rattle.aud_base.proofs.Bools.{or_true, and_true, true_and, true_or, or_right, not_true, is_false, nat_eq-is, nat_eq-refl, nat_eq-sym}
+use Rattle.base_values.proofs.Bools.{or_true, and_true, true_and, true_or, or_right, not_true, is_false, nat_eq-is, nat_eq-refl, nat_eq-sym}
 use Rattle.aud_history.specs.Histories.{History, is_in}
 use Rattle.aud_history.specs.Table.{RowOf, transactions, first_stamp, table_of}
 use Rattle.aud_history.proofs.Tables.{any-transactions}

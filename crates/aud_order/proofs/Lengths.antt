@@ -4,7 +4,7 @@ use Rattle.std.specs.List.{list_any}
 use Rattle.std.proofs.Common.{sym, ◌∙◌, ap, subst, cond, inl, inr, arith, append_assoc}
 use Rattle.std.proofs.Math.ListN.{length-map}
 use Rattle.aud_event.specs.Meanings.{Declared}
-use Rattle.aud_base.proofs.Bools.{or_true, and_true, true_and, true_or, or_right, not_true, not_false, split, is_false, nat_eq-refl, nat_eq-is, nat_eq-sym}
+use Rattle.base_values.proofs.Bools.{or_true, and_true, true_and, true_or, or_right, not_true, not_false, split, is_false, nat_eq-refl, nat_eq-is, nat_eq-sym}
 use Rattle.aud_history.specs.Histories.{History, is_in}
 use Rattle.aud_history.specs.Table.{RowOf, transactions, row_of, table_of}
 use Rattle.aud_history.proofs.Tables.{any-transactions, are_different, different-transactions}

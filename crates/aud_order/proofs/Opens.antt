@@ -3,7 +3,7 @@ use Rattle.std.specs.Prelude.{◌≡◌, ℕ, ◌+◌, ◌<◌, Bool, true, fals
 use Rattle.std.specs.List.{position}
 use Rattle.std.proofs.Common.{sym, ap, subst, inl, inr, arith, get_or, set}
 use Rattle.std.proofs.lemmas.Bool.Decides.{nat_tests}
-use Rattle.aud_base.proofs.Bools.{split}
+use Rattle.base_values.proofs.Bools.{split}
 use Rattle.aud_history.specs.Table.{RowOf}
 use Rattle.aud_object.specs.Objects.{ObjState}
 use Rattle.aud_object.specs.Replayed.{replayed}

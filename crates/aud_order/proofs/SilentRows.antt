@@ -5,7 +5,7 @@ use Rattle.std.proofs.Common.{sym, ◌∙◌, ap, subst, cond, get_or}
 use Rattle.std.proofs.lemmas.List.Quantifiers.{position-Some}
 use Rattle.aud_event.specs.declared.fact.Event.{Event}
 use Rattle.aud_event.specs.declared.fact.Event.TheVariants.{Inv, Ret, TryC, TryA, Commit, Abort}
-use Rattle.aud_base.proofs.Bools.{nat_eq-is}
+use Rattle.base_values.proofs.Bools.{nat_eq-is}
 use Rattle.aud_event.specs.Objects.{is_observing}
 use Rattle.aud_object.specs.declared.execution.Execution.{Execution}
 use Rattle.aud_history.specs.declared.state.TxState.TheVariants.{Idle, TriedCommit, TriedAbort}

@@ -5,7 +5,7 @@ use Rattle.std.proofs.Common.{sym, ◌∙◌, ap, subst, get_or}
 use Rattle.std.proofs.Math.ListN.{length-map}
 use Rattle.std.proofs.lemmas.List.Quantifiers.{position-Some}
 use Rattle.aud_event.specs.Meanings.{Declared, PlanOf}
-use Rattle.aud_base.proofs.Bools.{is_false, nat_eq-is}
+use Rattle.base_values.proofs.Bools.{is_false, nat_eq-is}
 use Rattle.aud_history.specs.Histories.{History, is_in}
 use Rattle.aud_history.specs.WellFormed.{IsWellFormed}
 use Rattle.aud_history.specs.FirstFault.{IsWithinLimits}

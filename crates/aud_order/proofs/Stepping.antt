@@ -6,7 +6,7 @@ use Rattle.std.proofs.lemmas.List.{set_comm, get_or-set_other}
 use Rattle.std.proofs.lemmas.List.Quantifiers.{position-Some}
 use Rattle.aud_event.specs.declared.object.Op.{Op}
 use Rattle.aud_event.specs.declared.object.Op.TheVariants.{Read, Get, Contains}
-use Rattle.aud_base.proofs.Bools.{and_true, true_and, or_right, nat_eq-is}
+use Rattle.base_values.proofs.Bools.{and_true, true_and, or_right, nat_eq-is}
 use Rattle.aud_event.specs.Objects.{is_observing}
 use Rattle.aud_object.specs.Objects.{ObjState, after_op}
 use Rattle.aud_object.specs.Kinds.{observing_stays}

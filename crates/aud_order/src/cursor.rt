@@ -13,9 +13,9 @@ ghost use Rattle.aud_order.specs.Kids.{AreKids, goods_at};
 use crate::pushed::Pushed;
 use crate::shape::Shape;
 use aud_event::OutOfMemory;
-use aud_marks::Marks;
 use aud_object::Store;
 use aud_witness::{Decision, Fate, Placing};
+use base_bits::Marks;
 use std::alloc::{Allocator, Global};
 use std::marker::Model;
 

@@ -7,14 +7,14 @@ ghost use Rattle.aud_order.specs.Shapes.{objects_of, history_of};
 ghost use Rattle.search_prefix.specs.Searches.{Decides};
 ghost use Rattle.aud_search.specs.Learned.{IsLearned};
 
-use aud_clauses::{Judgement, Refutation, judge};
-pub use aud_engine::Effort;
-use aud_engine::{Answer, solve};
 use aud_event::OutOfMemory;
-use aud_laws::ObjectLaw;
 use aud_order::{Cursor, Shape};
 use aud_witness::laws::shows_is_full_and_good;
 use aud_witness::{Decision, Prefix};
+use judge_clauses::{Judgement, Refutation, judge};
+use judge_laws::ObjectLaw;
+pub use search_engine::Effort;
+use search_engine::{Answer, solve};
 use search_prefix::Decided;
 use std::alloc::{Allocator, Global};
 

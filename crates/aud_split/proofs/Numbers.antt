@@ -2,10 +2,10 @@
 use Rattle.std.proofs.Common.{◌≡◌, ◌≢◌, ℕ, zero, suc, ◌+◌, ◌<◌, ◌≤◌, Bool, true, false, cond, ◌||◌, List, [], ◌∷◌, ◌++◌, length, length-append, map, filter, get_or, take, sym, refl, ap, subst, ◌∙◌, append_assoc, append-nil, All, eqb, eq-eqb, ne_eqb, arith}
 use Rattle.std.proofs.lemmas.List.{map-append, length-map, get_or-map}
 use Rattle.std.proofs.lemmas.List.Elements.{All-nil, All-append, All-map}
-use Rattle.aud_pool.specs.declared.worker.WorkerEnd.{WorkerEnd}
+use Rattle.node_pool.specs.declared.worker.WorkerEnd.{WorkerEnd}
 use Rattle.aud_split.specs.declared.fault.PoolFault.{PoolFault}
 use Rattle.aud_split.specs.declared.fault.PoolFault.TheVariants.{OutOfMemory}
-use Rattle.aud_pool.specs.Workers.{all_drawn, AreWorked, HaveGrown}
+use Rattle.node_pool.specs.Workers.{all_drawn, AreWorked, HaveGrown}
 use Rattle.aud_split.specs.Ends.{numbered, failures, drawn_by, faulted, AreFaults}
 
 pick : {X : Type 0} → (xs : List X) (i : ℕ) → i < length xs → X

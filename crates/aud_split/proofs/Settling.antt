@@ -14,7 +14,7 @@ use Rattle.aud_node.specs.Logs.{Entry, atoms_in, IsKnownIn, Offered}
 use Rattle.aud_node.specs.Meanings.{PassOf, GoesOn, mine}
 use Rattle.aud_node.proofs.Own.{atoms_snoc}
 use Rattle.aud_split.proofs.Keeping.{known_kept}
-use Rattle.aud_task.specs.Found.{SaysOf}
+use Rattle.node_task.specs.Found.{SaysOf}
 use Rattle.aud_split.specs.Pools.{IsFindingOf, IsSettled, HasSearched}
 
 -- what the node knows to be refuted is settled

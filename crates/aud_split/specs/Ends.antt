@@ -1,7 +1,7 @@
 -- What the workers of a pool leave, as lists by their numbers.
 use Rattle.std.specs.Prelude.{◌≡◌, ◌≤◌, ℕ, ◌+◌, ◌++◌, ◌==◌, Bool, List, [], ◌∷◌, map, filter, cond, vec_capacity}
 use Rattle.std.specs.List.{list_any}
-use Rattle.aud_pool.specs.declared.worker.WorkerEnd.{WorkerEnd}
+use Rattle.node_pool.specs.declared.worker.WorkerEnd.{WorkerEnd}
 use Rattle.aud_split.specs.declared.fault.PoolFault.{PoolFault}
 use Rattle.aud_split.specs.declared.fault.PoolFault.TheVariants.{OutOfMemory}
 use Rattle.aud_split.specs.declared.ends.Lists.{Lists}

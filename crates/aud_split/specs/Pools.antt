@@ -16,7 +16,7 @@ use Rattle.aud_know.specs.declared.item.Item.TheVariants as item
 use Rattle.aud_node.specs.Logs.{Entry, atoms_in}
 use Rattle.aud_node.specs.Meanings.{NodeOf, PassOf, mine}
 use Rattle.aud_node.specs.Faults.{AreAt}
-use Rattle.aud_pool.specs.Workers.{AreWorked, IsCrew}
+use Rattle.node_pool.specs.Workers.{AreWorked, IsCrew}
 use Rattle.aud_split.specs.Searched.{IsRefutedBy}
 use Rattle.aud_split.specs.Ends.{drawn_by, faulted, AreFaults}
 use Rattle.aud_split.specs.declared.fault.PoolFault.{PoolFault}

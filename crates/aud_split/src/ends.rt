@@ -1,14 +1,14 @@
 //! What the workers of a pool leave, as lists by their numbers.
 
 ghost use Rattle.std.specs.Prelude.{◌≡◌, ◌<◌, ◌≤◌, ◌+◌, ◌++◌, ◌∷◌, [], length, map, IfOk, vec_len, vec_capacity, if◌then◌else◌};
-ghost use Rattle.aud_pool.specs.Workers.{all_drawn};
+ghost use Rattle.node_pool.specs.Workers.{all_drawn};
 ghost use Rattle.aud_split.specs.Ends.{numbered, failures, HaveRoom};
 ghost use Rattle.aud_split.specs.declared.fault.PoolFault.TheVariants.{OutOfMemory as Exhausted};
-ghost use Rattle.aud_pool.specs.Rule.{all_parts};
+ghost use Rattle.node_pool.specs.Rule.{all_parts};
 
 use crate::fault::PoolFault;
 use aud_event::OutOfMemory;
-use aud_pool::WorkerEnd;
+use node_pool::WorkerEnd;
 use std::alloc::{Allocator, Global};
 
 /// Lists for what the workers leave: their seats, the tasks that they drew and their faults, with the workers' numbers.

@@ -9,10 +9,10 @@ use aud_event::OutOfMemory;
 use aud_know::Item;
 use aud_node::{Fleet, OfferFault, Pass, Running};
 use aud_order::Shape;
-use aud_pool::Work;
 use aud_search::{Memory, Scene, Shared};
-use aud_task::find;
 use aud_witness::Prefix;
+use node_pool::Work;
+use node_task::find;
 use std::alloc::Global;
 use std::sync::{Arc, Wait};
 

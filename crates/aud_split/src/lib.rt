@@ -8,7 +8,7 @@ pub mod laws;
 mod pool;
 mod splitting;
 
-pub use aud_pool::Gate;
 pub use fault::PoolFault;
+pub use node_pool::Gate;
 pub use pool::{PoolEnd, run_pool, run_pool_with};
 pub use splitting::split;

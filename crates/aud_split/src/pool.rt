@@ -3,7 +3,7 @@
 ghost use Rattle.std.specs.Prelude.{◌≡◌, ◌<◌, ◌++◌, ◌⊎◌, ◌↔◌, ℕ, [], true, map, All, IfOk, IfErr, IfNone, IfSome, OnOk, IsTrue, vec_len};
 ghost use Rattle.std.specs.List.Sorted.{IsPermutation};
 ghost use Rattle.aud_node.specs.Faults.{AreAt};
-ghost use Rattle.aud_pool.specs.Workers.{all_drawn, AreWorked, HaveGrown, IsCrew, IsRefusal};
+ghost use Rattle.node_pool.specs.Workers.{all_drawn, AreWorked, HaveGrown, IsCrew, IsRefusal};
 ghost use Rattle.aud_split.specs.Ends.{faulted, AreFaults};
 ghost use Rattle.aud_split.specs.Pools.{HasRun, HasSearched, HaveSearched, IsPoolFault, IsSettled, MayRun};
 
@@ -12,9 +12,9 @@ use crate::explorer::Explorer;
 use crate::fault::PoolFault;
 use aud_node::{Fleet, Pass, Running};
 use aud_order::Shape;
-use aud_pool::{Gate, Refusal, run};
 use aud_search::{Scene, Shared};
 use aud_witness::Prefix;
+use node_pool::{Gate, Refusal, run};
 use std::alloc::{Allocator, Global};
 use std::marker::Brand;
 use std::sync::{Arc, Wait};

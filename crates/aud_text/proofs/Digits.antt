@@ -4,7 +4,7 @@ use Rattle.std.specs.Str.Parse.{digits_value_after}
 use Rattle.std.specs.Char.{digit_value}
 use Rattle.aud_text.specs.Orders.{all_digits}
 use Rattle.std.proofs.lemmas.Str.{digit_value_digit}
-use Rattle.aud_base.proofs.Bools.{and_true}
+use Rattle.base_values.proofs.Bools.{and_true}
 use Rattle.aud_event.specs.Limits.{most_transactions}
 
 pub after_grows : (x : ℕ) (cs : List ℕ) → x ≤ digits_value_after 10 x cs

@@ -2,7 +2,7 @@
 use Rattle.std.specs.Prelude.{slice_index}
 use Rattle.std.proofs.Common.{◌≡◌, ◌<◌, ◌==◌, ◌+◌, ℕ, zero, suc, List, [], ◌∷◌, length, Bool, true, cond, Option, None, Some, refl, ap, ◌∙◌, sym, inl, inr, arith}
 use Rattle.std.specs.List.{position_from}
-use Rattle.aud_base.proofs.Bools.{split}
+use Rattle.base_values.proofs.Bools.{split}
 use Rattle.memchr.specs.Find.{IsFirstByte, is_byte}
 
 abbrev feed : ℕ → Bool

@@ -24,7 +24,7 @@ use Rattle.aud_text.specs.declared.shape.Shape.{Shape}
 use Rattle.aud_text.specs.declared.shape.Shape.TheVariants.{EndMark, Invoke, Respond, TryCommit, TryAbort, Commit, Abort, Strange}
 use Rattle.aud_text.specs.Json.{Key, has, has_all, has_only, is_one_of, fits_at, small, whole, small_at, whole_at, word_at}
 use Rattle.aud_text.specs.FactText.{shape_of, shape_of_ev, argument_keys, base_keys, operation_keys, required, allowed, types_fit, answer_of, answer_fits, answer_at, object_number, object_at, op_at, args_at, event_of, record_of, fact_of, checked, fact_or_word, judged_as, judged}
-use Rattle.aud_base.proofs.Bools.{and_true}
+use Rattle.base_values.proofs.Bools.{and_true}
 
 -- ---- a key that stands
 

@@ -19,7 +19,7 @@ use Rattle.aud_event.specs.declared.fact.FactFault.{FactFault}
 use Rattle.aud_event.specs.declared.fact.FactFault.TheVariants.{LogRange, AtRange, StampRange, TxRange}
 use Rattle.aud_text.specs.FactText.{object_number}
 use Rattle.aud_text.specs.Written.{object_name}
-use Rattle.aud_base.proofs.Bools.{unnegated, and_true}
+use Rattle.base_values.proofs.Bools.{unnegated, and_true}
 
 -- ---- the plan
 

@@ -45,7 +45,7 @@ use Rattle.aud_text.specs.Spelled.{place_text, log_text, use_text, tail_text, an
 use Rattle.aud_text.specs.Written.{data_of, record_members, end_members, object_name, whole_data, answer_data, headed, tailed, operated, invoked, with_value, first_of, AnswerFits, ArgsFit, EventFits, FactFits}
 use Rattle.aud_text.proofs.Back.{written_reads}
 use Rattle.aud_text.proofs.Sound.{IsSound, sound, named_at, RecordInRange, EndInRange, record_in_range, end_in_range}
-use Rattle.aud_base.proofs.Bools.{and_true}
+use Rattle.base_values.proofs.Bools.{and_true}
 
 -- ---- names and words are not escaped
 

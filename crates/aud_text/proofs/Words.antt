@@ -12,7 +12,7 @@ use Rattle.aud_text.specs.declared.fault.TextFault.TheVariants as fault
 use Rattle.aud_text.specs.declared.word.WordRead.TheVariants.{Decided, TooGreat, Unknown}
 use Rattle.aud_text.specs.Orders.{word_read, ended_read, id_read, is_plain, all_digits, with_word, decision_text, fate_letter}
 use Rattle.aud_text.proofs.Digits.{one_digit}
-use Rattle.aud_base.proofs.Bools.{and_true}
+use Rattle.base_values.proofs.Bools.{and_true}
 use Rattle.aud_event.specs.Limits.{most_transactions}
 
 -- ---- one word

@@ -8,7 +8,7 @@ use Rattle.aud_history.specs.Histories.{History, events_of, is_in, is_commit, is
 use Rattle.aud_object.specs.Objects.{IsLegal}
 use Rattle.aud_witness.specs.Orders.{is_allowed, block, is_kept, is_named, are_named_once, stands_before, kept, visible, Shows}
 use Rattle.aud_witness.specs.Sameness.{without}
-use Rattle.aud_base.proofs.Bools.{or_false, and_true, true_and, not_true, not_false, split, nat_eq-is, nat_eq-sym}
+use Rattle.base_values.proofs.Bools.{or_false, and_true, true_and, not_true, not_false, split, nat_eq-is, nat_eq-sym}
 use Rattle.aud_witness.proofs.Beginnings.{is_named-append, new_at, new_after, named_at, visible_at}
 use Rattle.aud_witness.proofs.Selected.{differ}
 use Rattle.aud_witness.proofs.FromLetter.{is_in-completed}

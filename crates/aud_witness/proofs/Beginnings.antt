@@ -7,7 +7,7 @@ use Rattle.aud_witness.specs.declared.decision.Decision.{Decision}
 use Rattle.aud_history.specs.Histories.{History}
 use Rattle.aud_object.specs.Objects.{IsLegal}
 use Rattle.aud_witness.specs.Orders.{is_allowed, block, is_kept, is_named, are_named_once, stands_before, kept, visible, Shows, Refuted, IsGoodNext, IsGood}
-use Rattle.aud_base.proofs.Bools.{or_true, or_false, and_true, true_or, or_right, not_true, nat_eq-refl, nat_eq-sym}
+use Rattle.base_values.proofs.Bools.{or_true, or_false, and_true, true_or, or_right, not_true, nat_eq-refl, nat_eq-sym}
 
 pub is_named-append : (p q : List Decision) (t : ℕ) → is_named (p ++ q) t ≡ (is_named p t || is_named q t)
 is_named-append p q t = list_any-append (λ d. nat_eq d.tx t) p q

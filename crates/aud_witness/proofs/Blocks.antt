@@ -7,7 +7,7 @@ use Rattle.aud_witness.specs.declared.decision.Decision.{Decision}
 use Rattle.aud_history.specs.Histories.{History, events_of, is_in, is_commit, is_committed, is_aborted, is_completed, is_before, from_first}
 use Rattle.aud_witness.specs.Orders.{is_kept, is_named, are_named_once, stands_before}
 use Rattle.aud_witness.specs.Letter.{seen_by}
-use Rattle.aud_base.proofs.Bools.{or_true, or_false, true_and, true_or, or_right, not_false, split, nat_eq-refl, nat_eq-is, nat_eq-sym}
+use Rattle.base_values.proofs.Bools.{or_true, or_false, true_and, true_or, or_right, not_false, split, nat_eq-refl, nat_eq-is, nat_eq-sym}
 use Rattle.aud_history.proofs.Events.{events_of-append}
 use Rattle.aud_witness.proofs.Beginnings.{is_named-append, new_at, new_after, named_at, first_is_named}
 use Rattle.aud_witness.proofs.Good.{place_of}

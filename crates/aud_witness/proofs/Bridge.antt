@@ -3,7 +3,7 @@ use Rattle.std.specs.Prelude.{◌≡◌, ℕ, suc, zero, ◌<◌, Bool, true, fa
 use Rattle.std.specs.List.{list_any, list_all}
 use Rattle.std.proofs.Common.{sym, ◌∙◌, ap, subst, cond, inl, inr, arith, get_or}
 use Rattle.aud_event.specs.declared.fact.Event.{Event}
-use Rattle.aud_base.proofs.Bools.{or_right, true_or, split, nat_eq-is, nat_eq-refl}
+use Rattle.base_values.proofs.Bools.{or_right, true_or, split, nat_eq-is, nat_eq-refl}
 use Rattle.aud_history.specs.declared.status.Status.{Status}
 use Rattle.aud_history.specs.declared.status.Status.TheVariants.{Committed, Aborted, CommitPending, Live}
 use Rattle.aud_history.specs.Histories.{History, events_of, is_in, is_commit, is_abort, is_try_commit, is_committed, is_aborted, is_completed, is_before}

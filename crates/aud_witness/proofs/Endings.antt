@@ -18,7 +18,7 @@ use Rattle.aud_history.specs.WellFormed.{IsEnding, invocation_aborted, aborted_b
 use Rattle.aud_history.specs.ByState.{Passes, is_match}
 use Rattle.aud_witness.specs.Orders.{is_allowed, live_ending, block, is_kept}
 use Rattle.aud_history.specs.Completions.{is_completing}
-use Rattle.aud_base.proofs.Bools.{or_true, or_false, and_true, not_true, split, unnegated}
+use Rattle.base_values.proofs.Bools.{or_true, or_false, and_true, not_true, split, unnegated}
 use Rattle.aud_history.proofs.StateTable.{matched_passes, matched, Passes-from_IsTransaction}
 use Rattle.aud_object.proofs.Replays.{on_object-append}
 use Rattle.aud_history.proofs.Ends.{has_end, not_both, has_end-whole}

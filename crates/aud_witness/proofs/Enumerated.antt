@@ -9,7 +9,7 @@ use Rattle.aud_history.specs.Histories.{History, is_in}
 use Rattle.aud_witness.specs.Orders.{is_allowed, is_named, are_named_once, IsFull, Shows, Opaque}
 use Rattle.aud_history.specs.Table.{transactions}
 use Rattle.aud_witness.specs.Enumeration.{at_each_place, permutations, with_fates, all_orders, witnesses, shows}
-use Rattle.aud_base.proofs.Bools.{and_true, true_and, true_or, or_right, not_true, not_false, split, nat_eq-refl, nat_eq-is, nat_eq-sym, and_no, and_yes}
+use Rattle.base_values.proofs.Bools.{and_true, true_and, true_or, or_right, not_true, not_false, split, nat_eq-refl, nat_eq-is, nat_eq-sym, and_no, and_yes}
 use Rattle.aud_witness.proofs.Tested.{test-from_Shows}
 
 pub data IsMember {X : Type 0} (x : X) : List X → Type 0 where

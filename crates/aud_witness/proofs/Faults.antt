@@ -10,7 +10,7 @@ use Rattle.aud_witness.specs.Orders.{is_allowed, block, kept, is_named, are_name
 use Rattle.aud_witness.specs.Enumeration.{is_legal_from}
 use Rattle.aud_history.specs.Table.{transactions}
 use Rattle.aud_witness.specs.OrderFaults.{is_enabled, place_fault, least_tx, missing_fault, fault_after, first_order_fault}
-use Rattle.aud_base.proofs.Bools.{same_bools, or_true, or_false, true_and, true_or, or_right, not_false, is_false, nat_eq-refl, nat_eq-is, unnegated}
+use Rattle.base_values.proofs.Bools.{same_bools, or_true, or_false, true_and, true_or, or_right, not_false, is_false, nat_eq-refl, nat_eq-is, unnegated}
 use Rattle.aud_witness.proofs.Beginnings.{IsGood-from_Shows}
 use Rattle.aud_witness.proofs.Good.{IsGood-empty, IsGood-push, place_of, Shows-from_IsGood}
 use Rattle.aud_witness.proofs.Tested.{before_in, implied, implies, all_of, each_in, each_named, IsLegal-from_test, test-from_IsLegal}

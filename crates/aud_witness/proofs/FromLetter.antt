@@ -10,7 +10,7 @@ use Rattle.aud_object.specs.Objects.{on_object}
 use Rattle.aud_witness.specs.Orders.{is_allowed, is_named, visible, IsFull, Opaque}
 use Rattle.aud_history.specs.Completions.{IsCompletion, IsEquivalent}
 use Rattle.aud_witness.specs.Letter.{IsSequential, seen_by, Letter}
-use Rattle.aud_base.proofs.Bools.{and_true, true_and, true_or, or_right, not_false, split}
+use Rattle.base_values.proofs.Bools.{and_true, true_and, true_or, or_right, not_false, split}
 use Rattle.aud_witness.proofs.Beginnings.{named_at}
 use Rattle.aud_witness.proofs.Blocks.{Each, Each-from_places, Each-at, is_filled, joined_by, IsOrder, is_in-events_of}
 use Rattle.aud_witness.proofs.Runs.{fate_in, order_of, is_named-order_of, fates-order_of, joined-order_of, IsOrder-order_of}

@@ -12,7 +12,7 @@ use Rattle.aud_object.specs.Objects.{IsLegal}
 use Rattle.aud_witness.specs.Orders.{is_allowed, live_ending, block, is_kept, visible, Shows, Opaque}
 use Rattle.aud_history.specs.Completions.{IsInserted, nothing, same, IsEquivalent}
 use Rattle.aud_witness.specs.Letter.{IsSequential, KeepsRealTime, seen_by, Letter}
-use Rattle.aud_base.proofs.Bools.{or_false, and_true, true_and, not_true, not_false, is_false, split, nat_eq-is, nat_eq-sym}
+use Rattle.base_values.proofs.Bools.{or_false, and_true, true_and, not_true, not_false, is_false, split, nat_eq-is, nat_eq-sym}
 use Rattle.aud_witness.proofs.FromLetter.{is_in-equivalent, Opaque-from_Letter}
 
 pub list_all-same : {X : Type 0} (f g : X → Bool) → ((x : X) → f x ≡ g x) → (xs : List X) → list_all f xs ≡ list_all g xs

@@ -7,7 +7,7 @@ use Rattle.aud_history.specs.Histories.{History, events_of, is_in, is_commit, is
 use Rattle.aud_object.specs.Objects.{IsLegal}
 use Rattle.aud_witness.specs.Orders.{is_allowed, block, is_kept, is_named, are_named_once, stands_before, visible, Shows}
 use Rattle.aud_witness.specs.Sameness.{renamed, renamed_order}
-use Rattle.aud_base.proofs.Bools.{split, nat_eq-refl, nat_eq-is}
+use Rattle.base_values.proofs.Bools.{split, nat_eq-refl, nat_eq-is}
 use Rattle.aud_witness.proofs.Interleavings.{is_allowed-same, block-same}
 
 -- r tells numbers apart as they are

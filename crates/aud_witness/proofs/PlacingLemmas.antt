@@ -3,7 +3,7 @@ use Rattle.std.specs.Prelude.{◌≡◌, ◌≢◌, ℕ, suc, zero, ◌+◌, ◌
 use Rattle.std.proofs.Common.{sym, ◌∙◌, ap, subst, cond, inl, inr, arith, get_or, set, drop, length-set}
 use Rattle.std.proofs.lemmas.Bool.Decides.{nat_tests}
 use Rattle.std.proofs.lemmas.List.{reverse-append, drop_more}
-use Rattle.aud_base.proofs.Bools.{or_true, and_true, true_and, or_right, true_or, not_true, not_false, split, is_false}
+use Rattle.base_values.proofs.Bools.{or_true, and_true, true_and, or_right, true_or, not_true, not_false, split, is_false}
 use Rattle.aud_object.specs.Objects.{ObjState}
 use Rattle.aud_object.specs.Meanings.{StoreOf}
 use Rattle.aud_object.specs.Replayed.{replayed}

@@ -8,7 +8,7 @@ use Rattle.aud_witness.specs.declared.decision.Decision.{Decision}
 use Rattle.aud_history.specs.Histories.{History, events_of, is_in, is_commit, is_committed, is_completed, is_before, from_first}
 use Rattle.aud_witness.specs.Orders.{is_kept, is_named, are_named_once}
 use Rattle.aud_witness.specs.Letter.{IsSequential}
-use Rattle.aud_base.proofs.Bools.{or_false, and_true, true_and, true_or, or_right, not_true, not_false, split, nat_eq-refl, nat_eq-is, nat_eq-sym, or_again}
+use Rattle.base_values.proofs.Bools.{or_false, and_true, true_and, true_or, or_right, not_true, not_false, split, nat_eq-refl, nat_eq-is, nat_eq-sym, or_again}
 use Rattle.aud_history.proofs.Events.{events_of-append}
 use Rattle.aud_witness.proofs.Beginnings.{named_at}
 use Rattle.aud_history.proofs.ByPlaces.{not_in_rest}

@@ -7,7 +7,7 @@ use Rattle.aud_history.specs.Histories.{History, is_in, is_completed, is_before,
 use Rattle.aud_object.specs.Objects.{on_object, opening_of, IsInSeq, IsLegal}
 use Rattle.aud_witness.specs.Orders.{block, is_kept, is_named, stands_before, kept, visible}
 use Rattle.aud_witness.specs.Letter.{seen_by}
-use Rattle.aud_base.proofs.Bools.{and_true, not_true}
+use Rattle.base_values.proofs.Bools.{and_true, not_true}
 use Rattle.aud_witness.proofs.Beginnings.{is_named-append, visible_at}
 use Rattle.aud_witness.proofs.Good.{place_of, stands_at}
 use Rattle.aud_object.proofs.Replays.{on_object-append}

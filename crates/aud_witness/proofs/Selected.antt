@@ -6,7 +6,7 @@ use Rattle.aud_witness.specs.declared.decision.Decision.{Decision}
 use Rattle.aud_history.specs.Histories.{History}
 use Rattle.aud_witness.specs.Orders.{block, is_kept, is_named, are_named_once, visible}
 use Rattle.aud_witness.specs.Selection.{joined, standing_before, seen}
-use Rattle.aud_base.proofs.Bools.{or_false, and_true, true_or, or_right, not_true, split, nat_eq-refl, nat_eq-is, nat_eq-sym}
+use Rattle.base_values.proofs.Bools.{or_false, and_true, true_or, or_right, not_true, split, nat_eq-refl, nat_eq-is, nat_eq-sym}
 
 -- what is picked from the joined blocks by a test on transactions
 abbrev picked : History → (ℕ → Bool) → List Decision → List Event

@@ -11,7 +11,7 @@ use Rattle.aud_history.specs.WellFormed.{IsTransaction, IsWellFormed}
 use Rattle.aud_witness.specs.Orders.{is_allowed, live_ending, block, is_kept, is_named, are_named_once, stands_before, visible, IsFull, Shows}
 use Rattle.aud_history.specs.Completions.{has_live, IsInserted, nothing, same, inserted, IsCompletion}
 use Rattle.aud_witness.specs.Letter.{seen_by, Letter}
-use Rattle.aud_base.proofs.Bools.{or_true, or_false, and_true, true_and, not_true, is_false, split, nat_eq-is}
+use Rattle.base_values.proofs.Bools.{or_true, or_false, and_true, true_and, not_true, is_false, split, nat_eq-is}
 use Rattle.aud_history.proofs.Events.{events_of-append}
 use Rattle.aud_witness.proofs.Beginnings.{named_at, second_is_named, allowed_at}
 use Rattle.aud_witness.proofs.Good.{place_of}

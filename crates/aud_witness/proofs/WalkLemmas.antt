@@ -4,7 +4,7 @@ use Rattle.std.specs.List.{list_any, list_all}
 use Rattle.std.proofs.Common.{sym, ◌∙◌, ap, subst, cond, inl, inr, get_or, append_assoc}
 use Rattle.std.proofs.lemmas.List.{drop_more, drop_all, append-nil}
 use Rattle.aud_event.specs.Meanings.{Declared, PlanOf}
-use Rattle.aud_base.proofs.Bools.{and_true, true_and, or_true, or_right, true_or, nat_eq-is, nat_eq-refl}
+use Rattle.base_values.proofs.Bools.{and_true, true_and, or_true, or_right, true_or, nat_eq-is, nat_eq-refl}
 use Rattle.aud_history.specs.Histories.{History, events_of}
 use Rattle.aud_history.specs.WellFormed.{IsWellFormed}
 use Rattle.aud_history.specs.FirstFault.{IsWithinLimits}

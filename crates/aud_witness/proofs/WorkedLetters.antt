@@ -12,7 +12,7 @@ use Rattle.aud_witness.specs.Orders.{Opaque}
 use Rattle.aud_history.specs.Completions.{has_live, IsInserted, nothing, same, inserted}
 use Rattle.aud_witness.specs.Letter.{seen_by, Letter}
 use Rattle.aud_history.specs.Worked as run
-use Rattle.aud_base.proofs.Bools.{split, nat_eq-is}
+use Rattle.base_values.proofs.Bools.{split, nat_eq-is}
 use Rattle.aud_history.proofs.StateTable.{Passes-from_IsTransaction}
 use Rattle.aud_history.proofs.Insertions.{events_of-inserted}
 use Rattle.aud_witness.proofs.WorkedOrders.{c}

@@ -14,8 +14,8 @@ use crate::fault::OrderFault;
 use crate::step::Step;
 use aud_event::{OutOfMemory, Plan};
 use aud_history::TxRow;
-use aud_marks::Marks;
 use aud_object::{Block, Store};
+use base_bits::Marks;
 use std::alloc::{Allocator, Global};
 use std::marker::Model;
 

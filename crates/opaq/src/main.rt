@@ -1,9 +1,9 @@
 // Does what the words ask for with standard input, and prints one line.
 #![tactic(auto)]
 
-use aud_audit::run_command;
-use aud_cli::{Cause, Ended, read_whole};
-use aud_words::{Usage, exit_status, job_of};
+use cli_audit::run_command;
+use cli_lines::{Cause, Ended, read_whole};
+use cli_words::{Usage, exit_status, job_of};
 use std::alloc::Global;
 use std::io::{self, ErrorKind, Write};
 use std::process::ExitCode;

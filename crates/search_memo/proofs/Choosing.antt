@@ -7,7 +7,7 @@ use Rattle.std.proofs.lemmas.List.{take_more, append-nil, length-take-le}
 use Rattle.std.proofs.lemmas.List.Elements.{Contains-append_left, Contains-append_right, Contains-append_cases, Contains-push_cases}
 use Rattle.std.proofs.lemmas.List.Sums.{sum_by-append}
 use Rattle.std.proofs.lemmas.List.Sorted.{IsPermutation-sym, IsPermutation-map, Contains-permutation, sum_by-IsPermutation}
-use Rattle.aud_base.proofs.Bools.{or_false, and_true, not_true, split, nat_eq-refl, nat_eq-is}
+use Rattle.base_values.proofs.Bools.{or_false, and_true, not_true, split, nat_eq-refl, nat_eq-is}
 use Rattle.aud_history.specs.Histories.{History}
 use Rattle.aud_history.specs.WellFormed.{IsWellFormed}
 use Rattle.aud_history.specs.Table.{RowOf, transactions, row_of, table_of}

@@ -2,7 +2,7 @@
 use Rattle.std.specs.Prelude.{◌≡◌, ℕ, ◌/◌, ◌%◌, ◌<◌, ◌≤◌, Bool, true, List, [], ◌∷◌, length, Option, Some, None, refl}
 use Rattle.std.proofs.Common.{sym, ◌∙◌, ap, subst, arith, get_or, set}
 use Rattle.std.proofs.lemmas.List.{length-set}
-use Rattle.aud_marks.specs.Marked.{marks_of, IsBitWritten}
+use Rattle.base_bits.specs.Marked.{marks_of, IsBitWritten}
 use Rattle.aud_object.specs.Objects.{ObjState}
 use Rattle.aud_history.specs.Table.{transactions}
 use Rattle.aud_order.specs.Shapes.{ShapeOf, history_of}

@@ -5,8 +5,8 @@ use Rattle.std.proofs.Common.{sym, ◌∙◌, ap, subst, inl, inr, arith, get_or
 use Rattle.std.proofs.Math.Nat.{zero-mul, suc-mul, mul-le-mul_right}
 use Rattle.std.proofs.Math.Seq.{take-length, drop-nil}
 use Rattle.std.proofs.lemmas.List.{nil_from_length, length-append, take-append-le, take_all, drop-append-le, length-drop, map-append}
-use Rattle.aud_marks.specs.Marked.{marks_of}
-use Rattle.aud_marks.proofs.Marking.{marks-written, word-written}
+use Rattle.base_bits.specs.Marked.{marks_of}
+use Rattle.base_bits.proofs.Marking.{marks-written, word-written}
 use Rattle.search_memo.specs.Spots.{EntryOf, chunks, entry_of, with_place, WithPlace, IsSpot, AreWith, IsKeptAs}
 
 -- # Lists of one length

@@ -1,7 +1,7 @@
 -- Spots of refuted lists, as words.
 use Rattle.std.specs.Prelude.{◌≡◌, ℕ, zero, suc, ◌/◌, ◌%◌, ◌<◌, Bool, true, false, List, [], ◌∷◌, ◌++◌, length, take, drop, Option, Some, None, slice_index_or, slice_set, ◌⊎◌, map, slice_get, MatchOption}
 use Rattle.std.specs.List.{Contains}
-use Rattle.aud_marks.specs.Marked.{marks_of, IsBitWritten}
+use Rattle.base_bits.specs.Marked.{marks_of, IsBitWritten}
 
 -- which rows were placed after a refuted list, and the number of the states there
 pub record EntryOf : Type 0 where

@@ -8,9 +8,9 @@ ghost use Rattle.search_memo.specs.Spots.{with_place};
 ghost use Rattle.search_memo.specs.Recorders.{IsHearable, HasNote, HasKids, HasSilent, IsNotedAlike};
 
 use aud_event::OutOfMemory;
-use aud_marks::Marks;
 use aud_object::Store;
 use aud_witness::Decision;
+use base_bits::Marks;
 use std::alloc::Allocator;
 use std::sync::Arc;
 

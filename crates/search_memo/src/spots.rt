@@ -5,7 +5,7 @@ ghost use Rattle.search_memo.specs.Spots.{IsKeptAs, with_place, WithPlace, IsSpo
 
 use crate::index::{Index, Look, hash_of};
 use crate::room::reserves;
-use aud_marks::{Marks, are_same, with_bit};
+use base_bits::{Marks, are_same, with_bit};
 use std::alloc::{Allocator, Global};
 use std::marker::Model;
 use std::mem::size_of;

@@ -5,7 +5,7 @@ use Rattle.std.proofs.Common.{sym, ◌∙◌, ap, subst, inl, inr, arith, take, 
 use Rattle.std.proofs.lemmas.Bool.Decides.{nat_tests}
 use Rattle.std.proofs.lemmas.List.{append-nil}
 use Rattle.aud_event.specs.Meanings.{Declared, PlanOf}
-use Rattle.aud_base.proofs.Bools.{split}
+use Rattle.base_values.proofs.Bools.{split}
 use Rattle.aud_history.specs.Histories.{History}
 use Rattle.aud_history.specs.WellFormed.{IsWellFormed}
 use Rattle.aud_history.specs.FirstFault.{IsWithinLimits}

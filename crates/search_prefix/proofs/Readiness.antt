@@ -6,7 +6,7 @@ use Rattle.std.proofs.lemmas.Bool.Decides.{nat_tests}
 use Rattle.std.proofs.lemmas.List.Sums.{position_or_len_is}
 use Rattle.std.proofs.lemmas.List.{get_or_past, get_or-set_same, get_or-set_other, length-map}
 use Rattle.std.proofs.lemmas.Option.{slice_get_within, slice_get_read, get_or_from_slice_get}
-use Rattle.aud_base.proofs.Bools.{and_true, true_and, or_true, or_right, true_or, not_true, is_false, split, nat_eq-refl, nat_eq-is}
+use Rattle.base_values.proofs.Bools.{and_true, true_and, or_true, or_right, true_or, not_true, is_false, split, nat_eq-refl, nat_eq-is}
 use Rattle.aud_history.specs.Histories.{History, is_before}
 use Rattle.aud_history.specs.Table.{RowOf, transactions, row_of, table_of}
 use Rattle.aud_history.proofs.Tables.{are_different, different-transactions}

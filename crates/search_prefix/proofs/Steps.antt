@@ -4,7 +4,7 @@ use Rattle.std.proofs.Common.{sym, ◌∙◌, ap, subst, inl, inr, arith, take}
 use Rattle.std.proofs.lemmas.Bool.Decides.{nat_tests}
 use Rattle.std.proofs.lemmas.List.{map-append, append-nil, reverse-append}
 use Rattle.aud_event.specs.Meanings.{Declared}
-use Rattle.aud_base.proofs.Bools.{and_true, split}
+use Rattle.base_values.proofs.Bools.{and_true, split}
 use Rattle.aud_history.specs.Histories.{History, is_in}
 use Rattle.aud_history.specs.WellFormed.{IsWellFormed}
 use Rattle.aud_history.specs.FirstFault.{IsWithinLimits}
@@ -32,7 +32,7 @@ use Rattle.search_prefix.specs.declared.outcome.Ended.TheVariants as ended
 use Rattle.search_memo.specs.Choices.{AreChoices}
 use Rattle.search_prefix.specs.Searches.{SpentBy, Reports}
 use Rattle.search_prefix.specs.Levels.{AreTried, IsSearching}
-use Rattle.aud_base.specs.Budgets.{IsOneLess}
+use Rattle.base_values.specs.Budgets.{IsOneLess}
 use Rattle.search_memo.specs.Memos.{MemoOf, states_reached, Names, NameWay, IsStep}
 use Rattle.search_prefix.specs.Tried.{IsTried, IsFound, IsNextPlace, IsWitnessOf, Spends, ReportsFrom, outcome_of}
 use Rattle.search_prefix.proofs.Levels.{there-below, tried-more, tried-after, search-on, search-deeper, search-spent, search-unspent, refuted-here, search-back, search-refuted, search-begins}

@@ -1,15 +1,15 @@
 //! Which choices may be good, by what is placed.
 
 ghost use Rattle.std.specs.Prelude.{◌≡◌, ◌<◌, length, Some, None, IfOk, MatchOption, slice_set};
-ghost use Rattle.aud_marks.specs.Marked.{IsNextMark};
+ghost use Rattle.base_bits.specs.Marked.{IsNextMark};
 ghost use Rattle.aud_order.specs.Shapes.{history_of};
 ghost use Rattle.search_memo.specs.Choices.{AreChoices};
 ghost use Rattle.search_prefix.specs.Readiness.{chosen, HasRows, IsLeft, IsReady, IsReadyAfter, IsReadyBefore, IsRowMarked};
 
 use aud_event::OutOfMemory;
-use aud_marks::Marks;
 use aud_order::{Cursor, Shape};
 use aud_witness::{Decision, Fate};
+use base_bits::Marks;
 use search_memo::Choice;
 use std::alloc::{Allocator, Global};
 use std::marker::Model;

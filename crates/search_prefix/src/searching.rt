@@ -17,10 +17,10 @@ ghost use Rattle.search_prefix.specs.Turns.{IsSought, IsArrived, IsClosed, unnum
 
 use crate::outcome::{Ended, Outcome, Searched};
 use crate::ready::Ready;
-use aud_base::spend;
 use aud_event::OutOfMemory;
 use aud_order::{Cursor, Pushed, Shape};
 use aud_witness::{Decision, Prefix};
+use base_values::spend;
 use search_memo::{
     BOUND, Choice, Effect, Memo, Order, Reason, Recorder, Unnoted, Unrecorded, choices_of,
 };

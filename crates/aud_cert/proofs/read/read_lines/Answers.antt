@@ -1,6 +1,6 @@
 use Rattle.std.proofs.Common.{◌≡◌, ◌+◌, ◌-◌, ◌∷◌, ◌++◌, [], suc, length, map, Err, inl, inr, ap, sym, ◌∙◌, arith, rules}
 use Rattle.aud_text.specs.Lines.{lines_of, filled_left, filled_at}
-use Rattle.aud_accept.specs.Acceptance.{elsewhere}
+use Rattle.cert_accept.specs.Acceptance.{elsewhere}
 use Rattle.aud_cert.specs.CertText.{lines_left}
 use Rattle.aud_cert.proofs.Reading.{onto, one-pushed, one-more, refused, missing, ended, one-too_many}
 use Rattle.aud_cert.proofs.read.read_lines.Goals as goal

@@ -1,5 +1,5 @@
 use Rattle.std.proofs.Common.{◌≡◌, ◌+◌, ◌-◌, ◌≤◌, length, map}
-use Rattle.aud_accept.specs.Acceptance.{elsewhere}
+use Rattle.cert_accept.specs.Acceptance.{elsewhere}
 use Rattle.aud_cert.specs.CertText.{lines_left}
 use Rattle.aud_cert.proofs.Reading.{onto}
 use Rattle.aud_cert.proofs.read.read_lines.Given as goal

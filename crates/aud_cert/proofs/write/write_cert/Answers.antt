@@ -1,5 +1,5 @@
 use Rattle.std.proofs.Common.{◌≡◌, Ok, map, sym, subst}
-use Rattle.aud_accept.specs.Acceptance.{elsewhere}
+use Rattle.cert_accept.specs.Acceptance.{elsewhere}
 use Rattle.aud_cert.specs.CertText.{cert_read}
 use Rattle.aud_cert.proofs.LineSpelled.{cert-back}
 use Rattle.aud_cert.proofs.write.write_cert.Goals as goal

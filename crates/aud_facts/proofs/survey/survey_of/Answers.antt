@@ -9,7 +9,7 @@ use Rattle.aud_facts.specs.Scans.{is_record_from, up_to_two}
 use Rattle.aud_facts.proofs.Lists.{count-le, count-cons}
 use Rattle.aud_facts.proofs.survey.survey_of.Goals as goal
 use Rattle.aud_facts.proofs.survey.survey_of.Goals.{then-note_stamp, else-note_stamp}
-use Rattle.aud_base.proofs.Bools.{or_assoc}
+use Rattle.base_values.proofs.Bools.{or_assoc}
 
 one_there : {X : Type 0} (b : Bool) (x : X) (ys : List X) → b ≡ true → 1 ≤ length (if b then x ∷ ys else ys)
 one_there true x ys e = omega arith

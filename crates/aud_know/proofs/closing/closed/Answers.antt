@@ -2,7 +2,7 @@ use Rattle.std.specs.Prelude.{◌≡◌, ◌↔◌, IsTrue, List, Some, None}
 use Rattle.std.proofs.Common.{sym, ◌∙◌, ap, subst}
 use Rattle.aud_lattice.specs.declared.mark.Mark.TheVariants.{Covered}
 use Rattle.aud_lattice.specs.Marks.{mark_of}
-use Rattle.aud_base.proofs.Results.{if_both}
+use Rattle.base_values.proofs.Results.{if_both}
 use Rattle.aud_lattice.specs.Places.{trie_at, tries_at}
 use Rattle.aud_lattice.specs.Walks.{node_at}
 use Rattle.aud_witness.specs.declared.decision.Decision.{Decision}

@@ -2,7 +2,7 @@ use Rattle.std.specs.Prelude.{◌≡◌, ◌∷◌, [], ◌++◌, List}
 use Rattle.std.proofs.Common.{rules, sym, ◌∙◌, ap, subst, get_or}
 use Rattle.aud_lattice.specs.Places.{trie_at, tries_at}
 use Rattle.aud_lattice.proofs.Depths.{child_depth}
-use Rattle.aud_base.proofs.Results.{on_ok}
+use Rattle.base_values.proofs.Results.{on_ok}
 use Rattle.aud_witness.specs.declared.decision.Decision.{Decision}
 use Rattle.aud_witness.specs.DecisionOrder.{decision_cmp}
 use Rattle.aud_witness.proofs.Good.{IsGood-push}

@@ -1,7 +1,7 @@
 use Rattle.std.proofs.Common.{◌≡◌}
 use Rattle.aud_lattice.specs.Walks.{walk, IsTrie}
 use Rattle.aud_lattice.specs.Paths.{paths}
-use Rattle.aud_base.proofs.Results.{if_both}
+use Rattle.base_values.proofs.Results.{if_both}
 use Rattle.aud_lattice.proofs.Pathed.{same_paths}
 use Rattle.aud_lattice.proofs.cover.copied_trie.Goals as goal
 

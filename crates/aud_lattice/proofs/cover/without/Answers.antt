@@ -1,7 +1,7 @@
 use Rattle.std.proofs.Common.{◌≡◌, ◌∙◌}
 use Rattle.aud_lattice.specs.Places.{trie_at}
 use Rattle.aud_lattice.specs.Walks.{leads, but, IsTrie}
-use Rattle.aud_base.proofs.Results.{if_both}
+use Rattle.base_values.proofs.Results.{if_both}
 use Rattle.aud_lattice.proofs.Pathed.{cover-paths}
 use Rattle.aud_lattice.proofs.Leads.{left_members}
 use Rattle.aud_lattice.proofs.cover.without.Goals as goal

@@ -1,7 +1,7 @@
 use Rattle.std.proofs.Common.{◌≡◌, ◌∙◌}
 use Rattle.aud_lattice.specs.Sets.{union}
 use Rattle.aud_lattice.specs.Trees.{items_of}
-use Rattle.aud_base.proofs.Results.{if_both}
+use Rattle.base_values.proofs.Results.{if_both}
 use Rattle.aud_lattice.proofs.Leftovers.{union_of_new}
 use Rattle.aud_lattice.proofs.merge.grown.Goals as goal
 

@@ -1,7 +1,7 @@
 use Rattle.std.proofs.Common.{◌≡◌, ◌∙◌}
 use Rattle.aud_lattice.specs.Sets.{union}
 use Rattle.aud_lattice.specs.Trees.{items_of}
-use Rattle.aud_base.proofs.Results.{if_both}
+use Rattle.base_values.proofs.Results.{if_both}
 use Rattle.aud_lattice.proofs.Leftovers.{rebuilt_is}
 use Rattle.aud_lattice.proofs.merge.rebuilt.Goals as goal
 

@@ -2,7 +2,7 @@ use Rattle.std.proofs.Common.{ap, ◌∙◌, Some, cond}
 use Rattle.std.specs.Arc.{arc_value}
 use Rattle.aud_lattice.specs.Walks.{walk, node_of}
 use Rattle.aud_lattice.proofs.Tries.{added, fork_ordered}
-use Rattle.aud_base.proofs.Results.{on_ok}
+use Rattle.base_values.proofs.Results.{on_ok}
 use Rattle.aud_lattice.proofs.trie.add.Goals as goal
 
 pub set-requires : goal.set-requires

@@ -3,7 +3,7 @@ use Rattle.std.proofs.lemmas.Iterator.Consumers.{YieldsList-turn, YieldsList-so_
 use Rattle.std.proofs.lemmas.Iterator.Adapters.{YieldsList-from_vec}
 use Rattle.std.proofs.lemmas.List.{map-append, length_push}
 use Rattle.aud_split.specs.declared.fault.PoolFault.TheVariants.{OutOfMemory}
-use Rattle.aud_pool.specs.Workers.{all_drawn}
+use Rattle.node_pool.specs.Workers.{all_drawn}
 use Rattle.aud_split.specs.Ends.{numbered, failures}
 use Rattle.aud_split.proofs.Numbers.{map_itself, room_at, length_numbered, failures_few, numbered-push, failures-push}
 use Rattle.aud_split.proofs.ends.take_apart.Goals as goal

@@ -9,7 +9,7 @@ use Rattle.aud_node.proofs.Crosses.{pass_send}
 use Rattle.aud_search.proofs.Crosses.{memory_send}
 use Rattle.std.proofs.Crossing as heap
 use Rattle.std.proofs.alloc.Global.TheSendSync as global
-use Rattle.aud_pool.specs.Workers.{all_drawn, AreWorked}
+use Rattle.node_pool.specs.Workers.{all_drawn, AreWorked}
 use Rattle.aud_split.specs.declared.fault.PoolFault.{PoolFault}
 use Rattle.aud_split.specs.Ends.{failures, faulted, drawn_by, AreFaults}
 use Rattle.aud_split.specs.Pools.{IsSettled, HasSearched, HaveSearched, MayRun}

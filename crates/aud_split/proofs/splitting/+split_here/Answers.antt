@@ -9,7 +9,7 @@ use Rattle.aud_split.specs.Tasks.{AreAdded}
 use Rattle.aud_split.proofs.Tasks.{IsLast, none_by_length, some_by_length, added-last, no_kids, gathered-none, gathered-more, added-kids}
 use Rattle.aud_split.proofs.splitting.+split_here.Goals as goal
 use Rattle.aud_split.proofs.splitting.+split_here.Goals.{then-depth-eq0-via-then-depth-eq0, then-depth-eq0-via-else-depth-eq0+then-full}
-use Rattle.aud_base.proofs.Results.{on_ok}
+use Rattle.base_values.proofs.Results.{on_ok}
 
 pub returns-then-depth-eq0-clause-added : goal.returns-then-depth-eq0-clause-added
 returns-then-depth-eq0-clause-added g t c =

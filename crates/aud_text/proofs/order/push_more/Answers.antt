@@ -1,4 +1,4 @@
-use Rattle.aud_base.proofs.Results.{err_anyway}
+use Rattle.base_values.proofs.Results.{err_anyway}
 use Rattle.aud_text.proofs.OrderText.{further}
 use Rattle.aud_text.proofs.order.push_more.Goals as goal
 

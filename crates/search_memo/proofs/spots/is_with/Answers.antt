@@ -1,6 +1,6 @@
 use Rattle.std.specs.Prelude.{◌+◌, ◌/◌}
 use Rattle.std.proofs.Common.{sym, ◌∙◌, arith, get_or}
-use Rattle.aud_base.proofs.Bools.{nat_eq-is}
+use Rattle.base_values.proofs.Bools.{nat_eq-is}
 use Rattle.search_memo.proofs.Spotting.{set-between, rest-all}
 use Rattle.search_memo.proofs.spots.is_with.Goals as goal
 use Rattle.search_memo.proofs.spots.is_with.Goals.{then-words-at, else-words-at}

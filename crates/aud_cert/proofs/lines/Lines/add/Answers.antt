@@ -2,7 +2,7 @@ use Rattle.std.specs.Prelude.{◌≡◌, [], map, length, slice_get}
 use Rattle.std.proofs.Common.{sym, ◌∙◌, ap, subst, arith}
 use Rattle.std.proofs.lemmas.List.{append-nil}
 use Rattle.aud_order.specs.Shapes.{objects_of, history_of}
-use Rattle.aud_accept.specs.Acceptance.{prefix_in, IsAcceptedLine, AreAccepted}
+use Rattle.cert_accept.specs.Acceptance.{prefix_in, IsAcceptedLine, AreAccepted}
 use Rattle.aud_cert.specs.Recorded.{LinesOf}
 use Rattle.aud_cert.proofs.Recording.{last-line, accepted-push}
 use Rattle.aud_cert.proofs.lines.Lines.add.Goals as goal

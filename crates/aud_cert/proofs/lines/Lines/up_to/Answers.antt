@@ -1,7 +1,7 @@
 use Rattle.std.specs.Prelude.{◌≡◌, ◌<◌, ◌+◌, Some, [], map, length, refl, slice_get}
 use Rattle.std.proofs.Common.{sym, subst, arith}
 use Rattle.aud_order.specs.Shapes.{objects_of, history_of}
-use Rattle.aud_accept.specs.Acceptance.{prefix_in, IsAccepted}
+use Rattle.cert_accept.specs.Acceptance.{prefix_in, IsAccepted}
 use Rattle.aud_cert.specs.Recorded.{LinesOf}
 use Rattle.aud_cert.proofs.Recording.{accepted-up_to, inside-line}
 use Rattle.aud_cert.proofs.lines.Lines.up_to.Goals as goal

@@ -2,7 +2,7 @@ use Rattle.std.proofs.Common.{◌≡◌, [], ◌∷◌}
 use Rattle.aud_lattice.specs.Covers.{with_list}
 use Rattle.aud_lattice.proofs.Minimal.{kept, keeps}
 use Rattle.aud_lattice.specs.Paths.{paths}
-use Rattle.aud_base.proofs.Results.{on_ok}
+use Rattle.base_values.proofs.Results.{on_ok}
 use Rattle.aud_lattice.proofs.Pathed.{cover-paths}
 use Rattle.aud_lattice.proofs.cover.Cover.insert.Goals as goal
 

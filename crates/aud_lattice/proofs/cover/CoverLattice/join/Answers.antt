@@ -2,7 +2,7 @@ use Rattle.std.proofs.Common.{◌∙◌, List, sym, subst, Contains, ◌↔◌}
 use Rattle.aud_lattice.specs.Covers.{cover_union, IsCover, IsKept}
 use Rattle.aud_lattice.proofs.Minimal.{kept, keeps}
 use Rattle.aud_lattice.proofs.Normed.{norm_of_join}
-use Rattle.aud_base.proofs.Results.{on_ok}
+use Rattle.base_values.proofs.Results.{on_ok}
 use Rattle.aud_lattice.proofs.cover.CoverLattice.join.Goals as goal
 
 pub returns-clause-kept : goal.returns-clause-kept

@@ -12,7 +12,7 @@ use Rattle.aud_lattice.specs.declared.trie.Trie.{out-Trie}
 use Rattle.aud_lattice.specs.Walks.{walk, leads, nothing, but, after, child, starts, nodes_of, node_of, IsTrie, IsLive, IsLeft}
 use Rattle.aud_lattice.specs.Sets.{either}
 use Rattle.aud_lattice.proofs.Tries.{any_by, pointwise, found_kids, child_size, good_child, live_child, fork_ordered, fork_set_good, sorted_nodes, empty_good, empty_walk}
-use Rattle.aud_base.proofs.Results.{on_ok, if_both}
+use Rattle.base_values.proofs.Results.{on_ok, if_both}
 use Rattle.aud_lattice.proofs.Leads.{any_leads, nothing_leads, same_leads, set_leads, gone_left, known_left, still_absent, absent_at_first, starts_but, starts_nothing, either_nothing, passed_on, rising}
 use Rattle.aud_lattice.proofs.trie.Trie.+leavings.Goals as goal
 

@@ -8,7 +8,7 @@ use Rattle.aud_lattice.specs.Walks.{walk, HasBoth, IsAdded, IsTrie}
 use Rattle.aud_lattice.specs.Sets.{either}
 use Rattle.aud_lattice.specs.Covers.{begins}
 use Rattle.aud_lattice.proofs.Tries.{nil_covers, fork_good_at, fork_ordered, found_node, gone_node, wrote, added, alike_good, alike_walk, begins_live, begins-starts}
-use Rattle.aud_base.proofs.Results.{if_both, both_ways_out, on_ok, on_err}
+use Rattle.base_values.proofs.Results.{if_both, both_ways_out, on_ok, on_err}
 use Rattle.aud_lattice.proofs.trie.Trie.+puts.Goals as goal
 
 pub put_under-with-requires : goal.put_under-with-requires

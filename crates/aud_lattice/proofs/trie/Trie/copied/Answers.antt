@@ -5,7 +5,7 @@ use Rattle.aud_lattice.specs.declared.trie.Trie.{out-Trie}
 use Rattle.aud_lattice.specs.declared.trie.Trie.TheVariants.{outs-Rest}
 use Rattle.aud_lattice.proofs.Rests.{rest_walk}
 use Rattle.aud_lattice.proofs.Tries.{alike_good, alike_walk}
-use Rattle.aud_base.proofs.Results.{if_both}
+use Rattle.base_values.proofs.Results.{if_both}
 use Rattle.aud_lattice.proofs.trie.Trie.copied.Goals as goal
 
 pub returns-in_ok-all-in-Fork-clause-good : goal.returns-in_ok-all-in-Fork-clause-good

@@ -3,7 +3,7 @@ use Rattle.aud_lattice.specs.Covers.{begins}
 use Rattle.aud_lattice.specs.Walks.{walk, HasBoth, IsTrie}
 use Rattle.aud_lattice.specs.declared.trie.Trie.TheVariants.{Rest, outs-Rest}
 use Rattle.aud_lattice.proofs.Rests.{covered_both, inner_both, rest_marks}
-use Rattle.aud_base.proofs.Results.{if_both}
+use Rattle.base_values.proofs.Results.{if_both}
 use Rattle.aud_lattice.proofs.trie.Trie.of_both.Goals as goal
 
 pub returns-in-Covered-clause-both : goal.returns-in-Covered-clause-both

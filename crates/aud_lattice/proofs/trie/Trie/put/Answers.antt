@@ -5,7 +5,7 @@ use Rattle.aud_lattice.specs.Walks.{walk, IsTrie}
 use Rattle.aud_lattice.specs.declared.trie.Trie.TheVariants.{Rest, outs-Rest}
 use Rattle.aud_lattice.proofs.Rests.{rest_walk}
 use Rattle.aud_lattice.proofs.Tries.{nil_covers}
-use Rattle.aud_base.proofs.Results.{on_ok, on_err}
+use Rattle.base_values.proofs.Results.{on_ok, on_err}
 use Rattle.aud_lattice.proofs.trie.Trie.put.Goals as goal
 
 pub returns-in-Ok-clause-ok : goal.returns-in-Ok-clause-ok

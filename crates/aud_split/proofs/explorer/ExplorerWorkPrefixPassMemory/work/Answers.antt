@@ -1,8 +1,8 @@
 use Rattle.std.proofs.Common.{OnOk, Result, Option, sym, subst}
-use Rattle.aud_base.specs.declared.memory.OutOfMemory.{OutOfMemory}
+use Rattle.base_values.specs.declared.memory.OutOfMemory.{OutOfMemory}
 use Rattle.aud_know.specs.Findings.{FindingOf}
 use Rattle.aud_node.specs.Meanings.{PassOf}
-use Rattle.aud_task.specs.Found.{IsFound}
+use Rattle.node_task.specs.Found.{IsFound}
 use Rattle.aud_split.specs.Pools.{HasSearched, IsSettled}
 use Rattle.aud_split.specs.Settling.{searched_onward}
 use Rattle.aud_split.proofs.Settling.{known_settles, settled_by, searched_read, searched_offered}

@@ -1,5 +1,0 @@
-use Rattle.std.proofs.Common.{length}
-use Rattle.aud_audit.proofs.closing.+known_by_all.Given as goal
-
-abbrev pub decreases-known_by_all : goal.decreases-known_by_all
-decreases-known_by_all g l = length l.mesh.nodes.items

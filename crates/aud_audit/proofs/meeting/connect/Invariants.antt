@@ -1,5 +1,0 @@
-use Rattle.aud_audit.proofs.Connecting.{ConnectedTo}
-use Rattle.aud_audit.proofs.meeting.connect.Given as goal
-
-abbrev pub invariant-loop-place : goal.invariant-loop-place
-invariant-loop-place g l = ConnectedTo l.place l.initial.crews l.crews

@@ -1,6 +1,0 @@
-use Rattle.std.specs.Prelude.{◌≡◌, length}
-use Rattle.aud_clauses.specs.Touching.{AreMarked}
-use Rattle.aud_clauses.proofs.touched.marks_of_rows.Given as goal
-
-abbrev pub invariant-loop-row : goal.invariant-loop-row
-invariant-loop-row g l = (length l.touched.items ≡ l.row-index) × (AreMarked l.rows l.touched.items)

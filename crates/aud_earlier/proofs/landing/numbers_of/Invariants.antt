@@ -1,6 +1,0 @@
-use Rattle.std.specs.Prelude.{◌≡◌, map, take}
-use Rattle.aud_object.specs.Kinds.{numbered}
-use Rattle.aud_earlier.proofs.landing.numbers_of.Given as goal
-
-abbrev pub invariant-loop-object : goal.invariant-loop-object
-invariant-loop-object g l = map numbered l.numbers.items ≡ take l.object l.store.now

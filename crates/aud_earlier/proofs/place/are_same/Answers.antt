@@ -1,5 +1,0 @@
-use Rattle.aud_earlier.proofs.Keys.{same-pointwise}
-use Rattle.aud_earlier.proofs.place.are_same.Goals as goal
-
-pub returns : goal.returns
-returns c = same-pointwise c.args.a.now c.args.b.now c.eq.result c.eq.ensures

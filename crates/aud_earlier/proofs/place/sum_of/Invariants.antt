@@ -1,6 +1,0 @@
-use Rattle.std.specs.Prelude.{◌≡◌, take}
-use Rattle.aud_earlier.specs.Places.{sum_of}
-use Rattle.aud_earlier.proofs.place.sum_of.Given as goal
-
-abbrev pub invariant-loop-decision : goal.invariant-loop-decision
-invariant-loop-decision l = l.sum ≡ sum_of (take l.decision-index l.decisions)

@@ -1,8 +1,0 @@
-use Rattle.std.specs.Prelude.{nat_eq}
-use Rattle.std.specs.Int.{w64}
-use Rattle.std.proofs.Common.{ap}
-use Rattle.std.proofs.lemmas.Nat.Bits.{bit_at_clear_same, bit_at_clear_other}
-use Rattle.aud_marks.proofs.marks.without_bit.Goals as goal
-
-pub returns : goal.returns
-returns c = (ap (λ n. nat_eq n 1) (bit_at_clear_same w64 c.args.word c.args.place c.requires), (λ i below ne. bit_at_clear_other w64 c.args.word c.args.place c.requires i below ne))

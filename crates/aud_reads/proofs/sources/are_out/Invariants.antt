@@ -1,6 +1,0 @@
-use Rattle.std.specs.Prelude.{◌<◌, ℕ}
-use Rattle.aud_reads.specs.Sources.{IsOutAt}
-use Rattle.aud_reads.proofs.sources.are_out.Given as goal
-
-abbrev pub invariant-loop-place : goal.invariant-loop-place
-invariant-loop-place g l = (k : ℕ) → k < l.place → IsOutAt l.facts l.clause l.read k

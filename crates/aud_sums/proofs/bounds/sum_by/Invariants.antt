@@ -1,5 +1,0 @@
-use Rattle.aud_sums.proofs.Bounding.{Bounded}
-use Rattle.aud_sums.proofs.bounds.sum_by.Given as goal
-
-abbrev pub invariant-loop-place : goal.invariant-loop-place
-invariant-loop-place g l = Bounded l.facts l.clause l.effect l.reader l.sum l.place

@@ -1,0 +1,32 @@
+use Rattle.std.proofs.Common.{◌<◌, length, get_or, sym, subst, arith}
+use denote.Param.Send.{sendable}
+use Rattle.std.proofs.Crossing as heap
+use Rattle.std.proofs.alloc.Global.TheSendSync as global
+use Rattle.aud_facts.proofs.Crosses.{facts_sync}
+use Rattle.aud_node.proofs.Captures.{captures}
+use Rattle.aud_node.proofs.Crosses.{node_sync}
+use Rattle.cli_audit.specs.Seats.{CollectorOf, IsCollectorAt}
+use Rattle.cli_audit.proofs.Crosses.{collector_send}
+use Rattle.cli_audit.proofs.meeting.offer_all.Goals as goal
+
+pub for_each_mut-requires-send-T : goal.for_each_mut-requires-send-T
+for_each_mut-requires-send-T g c κs within = search (collector_send, sendable)
+
+pub for_each_mut-requires-sync-F : goal.for_each_mut-requires-sync-F
+for_each_mut-requires-sync-F g c κs within = search (captures, node_sync, facts_sync, global.the_sync, heap.crosses, heap.send, heap.sync, heap.frees, sendable) depth 60 fits 20000
+
+pub for_each_mut-requires-clause-accepts : goal.for_each_mut-requires-clause-accepts
+for_each_mut-requires-clause-accepts g c κs outlive = λ i p lt is.
+    let count = c.requires.collectors.count in
+    let inside : i < length c.args.nodes.now = omega (arith, lt, count) in
+    (inside, (c.requires.planned, λ n. subst (λ (d : CollectorOf). IsCollectorAt (get_or c.args.nodes.now i n) d) (sym is) (c.requires.collectors.each i n p.now inside)))
+
+pub returns : goal.returns
+returns g c =
+    let count = c.requires.collectors.count in
+    let same = c.for_each_mut.auto.s in record {
+      count = omega (arith, count, same);
+      each = λ k n d lt.
+          let f = (c.for_each_mut.ensures k d (omega (arith, lt, count))).1 in
+          subst (λ (v : CollectorOf). IsCollectorAt (get_or c.args.nodes.now k n) v) f.left (f.call n);
+    }

@@ -1,0 +1,22 @@
+//! What a kind of objects brings: laws by which clauses hold.
+
+ghost use Rattle.std.specs.Prelude.{IfOk, IsTrue};
+
+use crate::clause::Literal;
+use crate::facts::Facts;
+use aud_event::OutOfMemory;
+use std::alloc::Allocator;
+
+/// A law of objects, with what it is applied to.
+pub trait Law {
+    ghost use Rattle.judge_clauses.specs.Clauses.{Holds};
+
+    /// Whether the clause is an instance of the law, so that it holds in each list that shows the history.
+    fn is_right<A: Allocator + Copy>(
+        &self,
+        alloc: A,
+        facts: &Facts<A>,
+        clause: &[Literal],
+    ) -> Result<bool, OutOfMemory>
+        ensures { IfOk result (λ yes. IsTrue yes → Holds facts.now clause.now) };
+}

@@ -1,0 +1,9 @@
+#![tactic(auto)]
+//! The laws of all kinds of objects, as one type. A kind more is a case more here.
+
+mod law;
+
+pub use judge_cells::CellLaw;
+pub use judge_queues::{Front, QueueLaw};
+pub use judge_sums::SumLaw;
+pub use law::ObjectLaw;

@@ -1,0 +1,8 @@
+use Rattle.std.proofs.Common.{◌≡◌, take}
+use Rattle.judge_clauses.specs.Queues.{adds}
+use Rattle.judge_queues.specs.Laws.{NoItem}
+use Rattle.judge_queues.proofs.items.is_none_item.Given as goal
+
+abbrev pub invariant-loop-execution : goal.invariant-loop-execution
+invariant-loop-execution g l =
+    (l.number ≡ adds l.source.take.object (take l.execution-index l.executions)) × (NoItem l.facts l.clause l.source.take l.source.adder l.source.value l.number l.executions)

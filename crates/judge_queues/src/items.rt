@@ -1,0 +1,152 @@
+//! Clauses that list which additions may be what is taken.
+
+ghost use Rattle.std.specs.Prelude.{◌≡◌, true, false, Some, slice_get, IsTrue};
+ghost use Rattle.aud_history.specs.Table.{RowOf, table_of};
+ghost use Rattle.judge_clauses.specs.Clauses.{says, Unless, Holds};
+ghost use Rattle.judge_clauses.specs.declared.clause.Atom.TheVariants.{Item};
+ghost use Rattle.judge_queues.specs.Blocks.{is_addition_of};
+ghost use Rattle.judge_queues.specs.Laws.{NoItem, IsListed, AreListed};
+
+use crate::blocks::{is_addition, is_addition_of};
+use crate::known::{is_queue, may_come, taken_by};
+use aud_history::TxRow;
+use aud_object::Execution;
+use judge_clauses::{Atom, Facts, Literal, Take};
+use std::alloc::Allocator;
+
+/// Whose addition may be what is taken, and with which value.
+#[derive(Clone, Copy)]
+struct Source {
+    take: Take,
+    adder: u32,
+    value: i64,
+}
+
+/// Whether the addition of this number is not what is taken where the clause does not hold, if it is of the value.
+fn is_no_item<A: Allocator + Copy>(
+    facts: &Facts<A>,
+    clause: &[Literal],
+    source: Source,
+    addition: u32,
+    execution: &Execution,
+) -> bool
+    ensures { IsTrue result → is_addition_of source.take.object source.value execution.now ≡ true → Unless facts.now clause.now (λ p. says facts.now.history p (Item source.take source.adder addition) ≡ false) }
+{
+    if !is_addition_of(execution, source.take.object, source.value) {
+        return true;
+    }
+    facts.is_not_so(clause, Atom::Item(source.take, source.adder, addition))
+}
+
+/// Whether none of the first additions of the value among the executions, so many, is what is taken where the clause does not hold.
+fn is_none_item<A: Allocator + Copy>(
+    facts: &Facts<A>,
+    clause: &[Literal],
+    source: Source,
+    limit: usize,
+    executions: &[Execution],
+) -> bool
+    ensures { IsTrue result → NoItem facts.now clause.now source.take source.adder source.value limit executions.now }
+{
+    let mut number: u32 = 0;
+    for execution in executions {
+        if is_addition(execution, source.take.object) {
+            if number as usize >= limit {
+                return true;
+            }
+            if !is_no_item(facts, clause, source, number, execution) {
+                return false;
+            }
+            let Some(next) = number.checked_add(1) else {
+                return false;
+            };
+            number = next;
+        }
+    }
+    true
+}
+
+/// Whether none of the row's additions of the value is what is taken where the clause does not hold, if the row is kept and stands before
+/// the taker.
+fn is_listed<A: Allocator + Copy>(
+    facts: &Facts<A>,
+    clause: &[Literal],
+    take: Take,
+    value: i64,
+    row: &TxRow<A>,
+) -> bool
+    ensures { IsTrue result → IsListed facts.now clause.now take value row.now }
+{
+    let adder = row.tx();
+    if !may_come(facts, adder, take.taker) {
+        return true;
+    }
+    let executions = row.block().executions();
+    let source = Source { take, adder, value };
+    is_none_item(facts, clause, source, executions.len(), executions)
+}
+
+/// The same of the row of the place. It looks at no executions of a row that does not touch the queue.
+fn is_listed_at<A: Allocator + Copy>(
+    facts: &Facts<A>,
+    clause: &[Literal],
+    take: Take,
+    value: i64,
+    place: usize,
+) -> bool
+    ensures { IsTrue result → (row : RowOf) → slice_get (table_of facts.now.history) place ≡ Some row → IsListed facts.now clause.now take value row }
+{
+    if !facts.touches(place, take.object) {
+        return true;
+    }
+    match facts.rows().get(place) {
+        Some(row) => is_listed(facts, clause, take, value, row),
+        None => false,
+    }
+}
+
+/// The same of each row.
+fn are_listed<A: Allocator + Copy>(
+    facts: &Facts<A>,
+    clause: &[Literal],
+    take: Take,
+    value: i64,
+) -> bool
+    ensures { IsTrue result → AreListed facts.now clause.now take value }
+{
+    for place in 0..facts.rows().len() {
+        if !is_listed_at(facts, clause, take, value, place) {
+            return false;
+        }
+    }
+    true
+}
+
+/// Whether the clause lists each addition that may be what is taken.
+pub(crate) fn lists_items<A: Allocator + Copy>(
+    facts: &Facts<A>,
+    clause: &[Literal],
+    take: Take,
+) -> bool
+    ensures { IsTrue result → Holds facts.now clause.now }
+{
+    let _history = facts.history();
+    if !is_queue(facts, take.object) {
+        return false;
+    }
+    let Some(item) = taken_by(facts, take) else {
+        return false;
+    };
+    let Some(row) = facts.row(take.taker) else {
+        return false;
+    };
+    let own = Source {
+        take,
+        adder: take.taker,
+        value: item.value,
+    };
+    if !is_none_item(facts, clause, own, item.additions, row.block().executions()) {
+        return false;
+    }
+    are_listed(facts, clause, take, item.value)
+}

@@ -1,0 +1,26 @@
+-- What sums are in each list that shows a history.
+use Rattle.std.specs.Prelude.{◌≡◌, ℕ, ℤ, true, [], Some, slice_get}
+use Rattle.aud_event.specs.Meanings.{Declared}
+use Rattle.aud_object.specs.Objects.{counter, set_of, opening_of}
+use Rattle.judge_clauses.specs.Clauses.{FactsOf, Always}
+use Rattle.judge_sums.specs.declared.effect.Effect.{Effect}
+use Rattle.aud_history.specs.Histories.{is_in}
+use Rattle.aud_history.specs.Table.{row_of}
+use Rattle.judge_sums.specs.Effects.{net_of, asked}
+use Rattle.judge_sums.specs.Sums.{total}
+
+-- in each list that shows the history those before R come to this number
+abbrev pub ComesTo : FactsOf → Effect → ℕ → ℤ → Type 0
+ComesTo f effect r n = Always f (λ p. total f.history (net_of f.history effect) p r ≡ n)
+
+-- the object is a counter that opens at the number
+abbrev pub CountsFrom : FactsOf → ℕ → ℤ → Type 0
+CountsFrom f x v = (d : Declared) × ((slice_get f.plan.objects x ≡ Some d) × (opening_of d ≡ counter v))
+
+-- the object is a set, which opens empty
+abbrev pub IsSet : FactsOf → ℕ → Type 0
+IsSet f x = (d : Declared) × ((slice_get f.plan.objects x ≡ Some d) × (opening_of d ≡ set_of []))
+
+-- R in H has to find the number, by its own answers
+abbrev pub IsAskedBy : FactsOf → ℕ → Effect → ℤ → Type 0
+IsAskedBy f r effect n = (is_in f.history r ≡ true) × (asked effect (row_of f.history r).block.executions ≡ Some n)

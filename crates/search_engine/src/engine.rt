@@ -1,0 +1,382 @@
+//! The engine.
+
+use crate::draft::Role;
+use crate::items::{FALSE, NONE, at, fill, neg, set, short};
+use crate::orders::{block, decisions_of, first_bad, order_of};
+use crate::problem::{Problem, Work};
+use crate::reading::{Asked, read};
+use crate::refuted::refutation_of;
+use crate::solver::{Bounds, Found, Solver, begin, bytes_held, prepare, search, solver_of};
+use crate::spans::{Span, instant, span_of};
+use aud_event::{ObjKind, OutOfMemory};
+use aud_order::Shape;
+use aud_witness::Decision;
+use judge_clauses::{Cell, Reason, Refutation, Step};
+use judge_laws::{CellLaw, ObjectLaw, SumLaw};
+use std::alloc::{Allocator, Global};
+
+/// What the engine came to: an order that it tried, steps that refute the history, or nothing within its effort.
+#[derive(Drop)]
+pub enum Answer<A: Allocator + Copy = Global> {
+    Order(Vec<Decision, A>),
+    Refuted(Refutation<ObjectLaw, A>),
+    Unknown,
+}
+
+/// How far the engine goes: it ends with any of these. A look is a unit of its work, and the bytes are those that it holds.
+#[derive(Clone, Copy)]
+pub struct Effort {
+    pub conflicts: u64,
+    pub looks: u64,
+    pub bytes: usize,
+}
+
+/// An order by an instant, near which orders are sought: which part of twenty of its time each transaction took effect after, how many
+/// places one may stand away, and whether there may be such orders.
+#[derive(Clone, Copy)]
+struct Near {
+    part: u64,
+    reach: usize,
+    is_open: bool,
+}
+
+fn nearby(part: u64, reach: usize) -> Near {
+    Near {
+        part,
+        reach,
+        is_open: true,
+    }
+}
+
+/// How many hundred conflicts the rounds of a search are given: 1, 1, 2, 1, 1, 2, 4 and so on (Luby, Sinclair and Zuckerman, Optimal
+/// speedup of Las Vegas algorithms, 1993; by Knuth's two counters).
+#[derive(Clone, Copy)]
+struct Luby {
+    turn: u64,
+    share: u64,
+}
+
+/// The share of the round after.
+fn next_share(now: Luby) -> Luby {
+    if now.turn & now.turn.wrapping_neg() == now.share {
+        Luby {
+            turn: now.turn.wrapping_add(1),
+            share: 1,
+        }
+    } else {
+        Luby {
+            turn: now.turn,
+            share: now.share.wrapping_mul(2),
+        }
+    }
+}
+
+/// A row by when it takes effect.
+#[derive(Clone, Copy, PartialEq, Eq, PartialOrd, Ord)]
+struct Ranked {
+    key: u64,
+    row: usize,
+}
+
+/// The rows in the order of their instants.
+fn sort_rows<A: Allocator + Copy>(
+    ranked: &mut Vec<Ranked, A>,
+    spans: &[Span],
+    part: u64,
+) -> Result<(), OutOfMemory> {
+    for (row, found) in spans.iter().enumerate() {
+        let key = instant(*found, part);
+        ranked.push(Ranked { key, row })?;
+    }
+    ranked.sort_unstable();
+    Ok(())
+}
+
+/// The rank of each row in the order of their instants.
+fn ranks_of<A: Allocator + Copy>(
+    alloc: A,
+    spans: &[Span],
+    part: u64,
+) -> Result<Vec<usize, A>, OutOfMemory> {
+    let mut ranked = Vec::new(alloc);
+    sort_rows(&mut ranked, spans, part)?;
+    let mut ranks = Vec::new(alloc);
+    fill(&mut ranks, spans.len(), 0)?;
+    for (rank, found) in ranked.iter().enumerate() {
+        set(&mut ranks, found.row, rank);
+    }
+    Ok(ranks)
+}
+
+/// Tries pairs first as the ranks say.
+fn rank_phases(roles: &[Role], ranks: &[usize], phases: &mut [bool]) {
+    for variable in 1..roles.len() {
+        if let Role::Pair(row, other) = roles[variable] {
+            let one = at(ranks, row as usize, 0);
+            set(phases, variable, one < at(ranks, other as usize, 0));
+        }
+    }
+}
+
+/// The literal of the pair that stands so far apart, as the ranks say, if both ended; or the one that never holds.
+fn far_literal(role: Role, spans: &[Span], ranks: &[usize], variable: usize, reach: usize) -> u32 {
+    let Role::Pair(row, other) = role else {
+        return FALSE;
+    };
+    let (row, other) = (row as usize, other as usize);
+    if span_of(spans, row).last == NONE || span_of(spans, other).last == NONE {
+        return FALSE;
+    }
+    let one = at(ranks, row, 0);
+    let two = at(ranks, other, 0);
+    if one.abs_diff(two) <= reach {
+        return FALSE;
+    }
+    let literal = short(variable).wrapping_mul(2);
+    if one < two { literal } else { neg(literal) }
+}
+
+/// Assumes that pairs of those that ended stand as in the order of the instants, if they stand so far apart in it.
+fn assume_near<A: Allocator + Copy>(
+    solver: &mut Solver<A>,
+    ranks: &[usize],
+    reach: usize,
+) -> Result<(), OutOfMemory> {
+    let spans = &solver.problem.spans[..];
+    let variables = &mut solver.problem.variables;
+    rank_phases(&variables.roles, ranks, &mut variables.phases);
+    for variable in 1..variables.roles.len() {
+        if at(&variables.decided, variable, false) {
+            let role = at(&variables.roles, variable, Role::Nothing);
+            let literal = far_literal(role, spans, ranks, variable, reach);
+            if literal != FALSE {
+                solver.assumed.push(literal)?;
+            }
+        }
+    }
+    Ok(())
+}
+
+/// The next of the instants that may have orders near it, from that one on.
+fn next_near(nears: &[Near], turn: usize) -> Option<usize> {
+    for step in 0..nears.len() {
+        let place = turn.wrapping_add(1).wrapping_add(step) % 4;
+        if at(nears, place, nearby(0, 0)).is_open {
+            return Some(place);
+        }
+    }
+    None
+}
+
+/// There is no order so near: the next ones may be further away.
+fn widen(nears: &mut [Near], place: usize, count: usize) {
+    if let Some(found) = nears.get_mut(place) {
+        found.reach = (found.reach.saturating_mul(4) / 3).saturating_add(1);
+        if found.reach > count / 2 {
+            found.is_open = false;
+        }
+    }
+}
+
+/// Tries the order. If the trial refutes it, the search goes on without it, if it can.
+fn try_order<A: Allocator + Copy>(
+    alloc: A,
+    shape: &Shape<A>,
+    solver: &mut Solver<A>,
+    order: &[usize],
+) -> Result<Tried<A>, OutOfMemory> {
+    let decisions = decisions_of(alloc, solver, order)?;
+    let bad = first_bad(alloc, shape, &decisions)?;
+    let Some(place) = bad else {
+        return Ok(Tried::Good(decisions));
+    };
+    if block(alloc, solver, order, place)? {
+        Ok(Tried::Blocked)
+    } else {
+        Ok(Tried::Nothing)
+    }
+}
+
+/// Tries the order that the search found.
+fn try_found<A: Allocator + Copy>(
+    alloc: A,
+    shape: &Shape<A>,
+    solver: &mut Solver<A>,
+) -> Result<Tried<A>, OutOfMemory> {
+    let order = order_of(alloc, solver)?;
+    try_order(alloc, shape, solver, &order)
+}
+
+/// What the trial of an order came to.
+#[derive(Drop)]
+enum Tried<A: Allocator + Copy> {
+    Good(Vec<Decision, A>),
+    Blocked,
+    Nothing,
+}
+
+/// Searches in rounds, plainly and near the orders of instants by turns. None where there is no order.
+fn search_rounds<A: Allocator + Copy>(
+    alloc: A,
+    shape: &Shape<A>,
+    solver: &mut Solver<A>,
+    effort: Effort,
+) -> Result<Option<Answer<A>>, OutOfMemory> {
+    let mut nears = [
+        nearby(19, 6),
+        nearby(10, 12),
+        nearby(19, 10),
+        nearby(15, 12),
+    ];
+    let rows = solver.problem.spans.len();
+    let mut turn = 0;
+    let mut luby = Luby { turn: 1, share: 1 };
+    for round in 0..u64::MAX {
+        let mut used = None;
+        let mut budget = luby.share.saturating_mul(100);
+        luby = next_share(luby);
+        solver.assumed.clear();
+        if round >= 6 && round % 2 == 0 {
+            used = next_near(&nears, turn);
+        }
+        if let Some(place) = used {
+            turn = place;
+            let found = nears[place % 4];
+            let ranks = ranks_of(alloc, &solver.problem.spans, found.part)?;
+            assume_near(solver, &ranks, found.reach)?;
+            budget = round.saturating_mul(100).saturating_add(300);
+        }
+        let conflicts = solver
+            .conflicts
+            .saturating_add(budget)
+            .min(effort.conflicts);
+        let bounds = Bounds {
+            conflicts,
+            looks: effort.looks,
+            bytes: effort.bytes,
+        };
+        solver.tries_best = true;
+        match search(solver, bounds)? {
+            Found::Nothing => return Ok(None),
+            Found::All => match try_found(alloc, shape, solver)? {
+                Tried::Good(decisions) => return Ok(Some(Answer::Order(decisions))),
+                Tried::Blocked => {}
+                Tried::Nothing => return Ok(None),
+            },
+            Found::NotAssumed => {
+                if let Some(place) = used {
+                    widen(&mut nears, place, rows);
+                }
+            }
+            Found::Spent => {
+                let is_past = solver.known.looks >= effort.looks;
+                let is_full = bytes_held(solver) > effort.bytes;
+                if solver.conflicts >= effort.conflicts || is_past || is_full {
+                    return Ok(Some(Answer::Unknown));
+                }
+            }
+        }
+    }
+    Ok(Some(Answer::Unknown))
+}
+
+/// The refutation that the search wrote down, if it did.
+fn refuted<A: Allocator + Copy>(alloc: A, solver: &Solver<A>) -> Result<Answer<A>, OutOfMemory> {
+    let found = refutation_of(alloc, &solver.problem, &solver.log.steps, solver.log.last)?;
+    match found {
+        Some(refutation) => Ok(Answer::Refuted(refutation)),
+        None => Ok(Answer::Unknown),
+    }
+}
+
+/// The law that the transaction breaks which contradicts itself on the cell.
+fn law_of_block<A: Allocator + Copy>(
+    shape: &Shape<A>,
+    tx: u32,
+    object: u16,
+    cell: Cell,
+) -> ObjectLaw {
+    match shape.plan().object(usize::from(object)) {
+        Some(decl) if decl.kind == ObjKind::Counter => ObjectLaw::Sum(SumLaw::Clash(tx, object)),
+        _ => ObjectLaw::Cell(CellLaw::Clash(tx, object, cell)),
+    }
+}
+
+/// The refutation of a history by one law.
+fn refuted_by<A: Allocator + Copy>(alloc: A, law: ObjectLaw) -> Result<Answer<A>, OutOfMemory> {
+    let mut steps = Vec::new(alloc);
+    steps.push(Step::new(Vec::new(alloc), Reason::Law(law)))?;
+    let atoms = Vec::new(alloc);
+    Ok(Answer::Refuted(Refutation { atoms, steps }))
+}
+
+/// Searches, and gives the order that it found or the steps that it wrote down. None where there is no order, and nothing was written
+/// down of that.
+fn search_for<A: Allocator + Copy>(
+    alloc: A,
+    shape: &Shape<A>,
+    solver: &mut Solver<A>,
+    effort: Effort,
+) -> Result<Option<Answer<A>>, OutOfMemory> {
+    prepare(solver)?;
+    if begin(solver)? {
+        let found = search_rounds(alloc, shape, solver, effort)?;
+        if found.is_some() {
+            return Ok(found);
+        }
+    }
+    if solver.log.last == NONE {
+        return Ok(None);
+    }
+    Ok(Some(refuted(alloc, solver)?))
+}
+
+/// Searches for an order of the problem.
+fn search_problem<A: Allocator + Copy>(
+    alloc: A,
+    shape: &Shape<A>,
+    problem: Problem<A>,
+    effort: Effort,
+    logs: bool,
+) -> Result<Option<Answer<A>>, OutOfMemory> {
+    let mut solver = solver_of(alloc, problem, logs)?;
+    search_for(alloc, shape, &mut solver, effort)
+}
+
+/// Searches once, and writes its steps down, if that is asked for.
+fn search_once<A: Allocator + Copy>(
+    alloc: A,
+    shape: &Shape<A>,
+    effort: Effort,
+    logs: bool,
+) -> Result<Option<Answer<A>>, OutOfMemory> {
+    let work = Work {
+        looks: 0,
+        most: effort.looks,
+        bytes: effort.bytes,
+    };
+    match read(alloc, shape, work)? {
+        Asked::Problem(problem) => search_problem(alloc, shape, problem, effort, logs),
+        Asked::Block(tx, object, cell) => {
+            let law = law_of_block(shape, tx, object, cell);
+            Ok(Some(refuted_by(alloc, law)?))
+        }
+        Asked::Large => Ok(Some(Answer::Unknown)),
+    }
+}
+
+/// Searches for an order that shows the history, or for steps that refute it, within the effort. The order is tried; whoever needs it
+/// proved tries it again. Where the steps were not written down, the same search is made again.
+pub fn solve<A: Allocator + Copy>(
+    alloc: A,
+    shape: &Shape<A>,
+    effort: Effort,
+) -> Result<Answer<A>, OutOfMemory> {
+    if let Some(answer) = search_once(alloc, shape, effort, false)? {
+        return Ok(answer);
+    }
+    match search_once(alloc, shape, effort, true)? {
+        Some(answer) => Ok(answer),
+        None => Ok(Answer::Unknown),
+    }
+}

@@ -1,0 +1,531 @@
+//! Reads what the transactions of a history ask of an order.
+
+use crate::cells::{Need, Touch, add_cell, sort_parts};
+use crate::draft::{Cause, add_pairs};
+use crate::items::{TRUE, at, between, short};
+use crate::problem::{Problem, Work, is_large, sort_uses, spend};
+use crate::queues::{Deed, Move, add_queue};
+use crate::spans::{NOBODY, Span, count_pairs, spans_of};
+use crate::sums::{Beside, add_terms, end_sum, find_beside, sum_ended};
+use aud_event::{Answer, ObjDecl, ObjKind, Op, OutOfMemory};
+use aud_history::TxRow;
+use aud_order::Shape;
+use judge_clauses::Cell;
+use std::alloc::{Allocator, Global};
+
+/// What a history asks: an order, as a problem, or nothing, as one transaction contradicts itself on a cell, or more than there is room
+/// for.
+#[derive(Drop)]
+pub(crate) enum Asked<A: Allocator + Copy> {
+    Problem(Problem<A>),
+    Block(u32, u16, Cell),
+    Large,
+}
+
+/// An execution: of which object and key, by which row, and at which place of its block.
+#[derive(Clone, Copy, PartialEq, Eq, PartialOrd, Ord)]
+struct Use {
+    object: u16,
+    key: i64,
+    row: usize,
+    number: usize,
+    op: Op,
+    answer: Answer,
+}
+
+/// What a counter's user first sees, and by how much it changes it.
+#[derive(Clone, Copy)]
+struct Count {
+    row: usize,
+    need: Option<i64>,
+    gain: i64,
+}
+
+/// What an execution tells of its cell: what it sees, and what it leaves.
+#[derive(Clone, Copy)]
+struct Told {
+    sees: Option<Need>,
+    leaves: Option<Option<i64>>,
+}
+
+/// The key of the cell that the operation is about.
+fn key_of(op: Op) -> i64 {
+    match op {
+        Op::Add(key) | Op::Remove(key) | Op::Contains(key) => key,
+        Op::Put(key, _) | Op::Look(key) | Op::Del(key) => key,
+        _ => 0,
+    }
+}
+
+/// The part of the object that the operations of the key are about.
+pub(crate) fn cell_of(kind: ObjKind, key: i64) -> Cell {
+    match kind {
+        ObjKind::SetOf => Cell::Element(key),
+        ObjKind::MapOf => Cell::Key(key),
+        ObjKind::Register | ObjKind::Counter | ObjKind::Queue => Cell::Whole,
+    }
+}
+
+/// All executions, by their cells.
+fn read_uses<A: Allocator + Copy>(
+    uses: &mut Vec<Use, A>,
+    rows: &[TxRow<A>],
+) -> Result<(), OutOfMemory> {
+    for (row, found) in rows.iter().enumerate() {
+        for (number, x) in found.block().executions().iter().enumerate() {
+            uses.push(Use {
+                object: x.object,
+                key: key_of(x.op),
+                row,
+                number,
+                op: x.op,
+                answer: x.answer,
+            })?;
+        }
+    }
+    uses.sort_unstable();
+    Ok(())
+}
+
+fn sees(value: Option<i64>) -> Option<Need> {
+    Some(Need {
+        value,
+        differs: false,
+    })
+}
+
+/// What it tells that an element is or was a member.
+fn member(is_member: bool) -> Option<i64> {
+    if is_member { Some(1) } else { None }
+}
+
+/// What the execution tells of its cell, if it is of one that can be.
+fn told_by(op: Op, answer: Answer) -> Option<Told> {
+    let (sees, leaves) = match (op, answer) {
+        (Op::Read, Answer::Int(value)) => (sees(Some(value)), None),
+        (Op::Write(value), _) => (None, Some(Some(value))),
+        (Op::Add(_), Answer::Flag(flag)) => (sees(member(!flag)), Some(Some(1))),
+        (Op::Remove(_), Answer::Flag(flag)) => (sees(member(flag)), Some(None)),
+        (Op::Contains(_), Answer::Flag(flag)) => (sees(member(flag)), None),
+        (Op::Put(_, value), _) => (None, Some(Some(value))),
+        (Op::Look(_), Answer::Int(value)) => (sees(Some(value)), None),
+        (Op::Look(_), Answer::Empty) => (sees(None), None),
+        (Op::Del(_), Answer::Flag(differs)) => {
+            let value = None;
+            (Some(Need { value, differs }), Some(None))
+        }
+        _ => return None,
+    };
+    Some(Told { sees, leaves })
+}
+
+/// Adds what the execution tells to what its transaction did before. False where it contradicts that. The value is what the transaction
+/// knows to be in the cell.
+fn add_told(touch: &mut Touch, value: &mut Option<Option<i64>>, told: Told) -> bool {
+    if let Some(need) = told.sees {
+        match *value {
+            Some(known) => {
+                if (known == need.value) == need.differs {
+                    return false;
+                }
+            }
+            None => {
+                touch.need = Some(need);
+                if !need.differs {
+                    *value = Some(need.value);
+                }
+            }
+        }
+    }
+    if told.leaves.is_some() {
+        touch.leaves = told.leaves;
+        *value = told.leaves;
+    }
+    true
+}
+
+/// What each row does with a cell, by its executions there; or the row that contradicts itself.
+fn read_touches<A: Allocator + Copy>(
+    touches: &mut Vec<Touch, A>,
+    uses: &[Use],
+) -> Result<Option<usize>, OutOfMemory> {
+    let mut value = None;
+    for found in uses {
+        let is_same = match touches.last() {
+            Some(last) => last.row == found.row,
+            None => false,
+        };
+        if !is_same {
+            touches.push(Touch {
+                row: found.row,
+                need: None,
+                leaves: None,
+            })?;
+            value = None;
+        }
+        let Some(told) = told_by(found.op, found.answer) else {
+            return Ok(Some(found.row));
+        };
+        let last = touches.len().wrapping_sub(1);
+        if let Some(touch) = touches.get_mut(last) {
+            if !add_told(touch, &mut value, told) {
+                return Ok(Some(found.row));
+            }
+        }
+    }
+    Ok(None)
+}
+
+/// Adds what the execution tells of the counter. False where it contradicts what its transaction did before.
+fn add_count(count: &mut Count, op: Op, answer: Answer) -> bool {
+    match (op, answer) {
+        (Op::Inc, _) => count.gain = count.gain.wrapping_add(1),
+        (Op::Dec, _) => count.gain = count.gain.wrapping_sub(1),
+        (Op::Plus(amount), _) => count.gain = count.gain.wrapping_add(amount),
+        (_, Answer::Int(value)) => {
+            let Some(need) = value.checked_sub(count.gain) else {
+                return false;
+            };
+            if let Some(known) = count.need {
+                return known == need;
+            }
+            count.need = Some(need);
+        }
+        _ => return false,
+    }
+    true
+}
+
+/// What each row does with a counter; or the row that contradicts itself.
+fn read_counts<A: Allocator + Copy>(
+    counts: &mut Vec<Count, A>,
+    uses: &[Use],
+) -> Result<Option<usize>, OutOfMemory> {
+    for found in uses {
+        let is_same = match counts.last() {
+            Some(last) => last.row == found.row,
+            None => false,
+        };
+        if !is_same {
+            counts.push(Count {
+                row: found.row,
+                need: None,
+                gain: 0,
+            })?;
+        }
+        let last = counts.len().wrapping_sub(1);
+        if let Some(count) = counts.get_mut(last) {
+            if !add_count(count, found.op, found.answer) {
+                return Ok(Some(found.row));
+            }
+        }
+    }
+    Ok(None)
+}
+
+/// What the rows do with an element of a set, as a count of 0 or 1.
+fn count_members<A: Allocator + Copy>(
+    counts: &mut Vec<Count, A>,
+    touches: &[Touch],
+) -> Result<(), OutOfMemory> {
+    for touch in touches {
+        let need = match touch.need {
+            Some(need) => Some(i64::from(need.value.is_some())),
+            None => None,
+        };
+        let gain = match (touch.need, touch.leaves) {
+            (Some(need), Some(left)) if need.value != left => if left.is_some() { 1 } else { -1 },
+            _ => 0,
+        };
+        counts.push(Count {
+            row: touch.row,
+            need,
+            gain,
+        })?;
+    }
+    Ok(())
+}
+
+/// Adds a sum for each reader of a counter, or of an element of a set, as far as there is room.
+fn add_all_sums<A: Allocator + Copy>(
+    problem: &mut Problem<A>,
+    beside: &Beside<A>,
+    counts: &[Count],
+    named: (u16, Option<i64>),
+    opening: i64,
+    tables: &Tables<A>,
+) -> Result<(), OutOfMemory> {
+    for (place, count) in counts.iter().enumerate() {
+        let Some(need) = count.need else {
+            continue;
+        };
+        if is_large(problem) {
+            break;
+        }
+        let row = short(count.row);
+        let cause = match named.1 {
+            Some(element) => Cause::Element(row, named.0, element),
+            None => Cause::Counter(row, named.0),
+        };
+        let wanted = need.saturating_sub(opening);
+        let wanted = wanted.saturating_sub(at(&tables.ended, place, 0));
+        add_sum(problem, beside, tables, place, wanted, cause)?;
+    }
+    Ok(())
+}
+
+/// Of the rows that touch a counter which they are, what each one adds, and what those add that had ended before it.
+#[derive(Drop)]
+struct Tables<A: Allocator + Copy = Global> {
+    rows: Vec<usize, A>,
+    gains: Vec<i64, A>,
+    ended: Vec<i64, A>,
+}
+
+/// Adds the sum of what stands before the row at the place.
+fn add_sum<A: Allocator + Copy>(
+    problem: &mut Problem<A>,
+    beside: &Beside<A>,
+    tables: &Tables<A>,
+    place: usize,
+    wanted: i64,
+    cause: Cause,
+) -> Result<(), OutOfMemory> {
+    let (sums, decided) = (&mut problem.sums, &mut problem.variables.decided);
+    let from = sums.terms.len();
+    let (rows, gains, spans) = (&tables.rows[..], &tables.gains[..], &problem.spans[..]);
+    add_terms(sums, decided, spans, beside, rows, gains, place, usize::MAX)?;
+    spend(&mut problem.work, sums.terms.len().saturating_sub(from));
+    end_sum(sums, from, TRUE, wanted, cause)
+}
+
+/// Reads the tables of the counts.
+fn read_tables<A: Allocator + Copy>(
+    tables: &mut Tables<A>,
+    beside: &mut Beside<A>,
+    spans: &[Span],
+    counts: &[Count],
+) -> Result<(), OutOfMemory> {
+    for count in counts {
+        tables.rows.push(count.row)?;
+        tables.gains.push(count.gain)?;
+    }
+    find_beside(beside, spans, &tables.rows)?;
+    let (rows, gains) = (&tables.rows[..], &tables.gains[..]);
+    sum_ended(&mut tables.ended, &beside.ended, spans, rows, gains)
+}
+
+/// Adds what is asked of a counter, or of an element of a set.
+fn add_counts<A: Allocator + Copy>(
+    alloc: A,
+    problem: &mut Problem<A>,
+    beside: &mut Beside<A>,
+    counts: &[Count],
+    named: (u16, Option<i64>),
+    opening: i64,
+) -> Result<(), OutOfMemory> {
+    let mut tables = Tables {
+        rows: Vec::new(alloc),
+        gains: Vec::new(alloc),
+        ended: Vec::new(alloc),
+    };
+    read_tables(&mut tables, beside, &problem.spans, counts)?;
+    add_all_sums(problem, beside, counts, named, opening, &tables)
+}
+
+/// The moves of the rows on a queue, and the rows.
+fn read_queue_uses<A: Allocator + Copy>(
+    moves: &mut Vec<Move, A>,
+    rows: &mut Vec<usize, A>,
+    uses: &[Use],
+) -> Result<(), OutOfMemory> {
+    for found in uses {
+        let is_same = match rows.last() {
+            Some(last) => *last == found.row,
+            None => false,
+        };
+        if !is_same {
+            rows.push(found.row)?;
+        }
+        let deed = match (found.op, found.answer) {
+            (Op::Enq(value), _) => Deed::Adds(value),
+            (_, Answer::Int(value)) => Deed::Takes(value),
+            _ => Deed::SeesEmpty,
+        };
+        moves.push(Move {
+            place: rows.len().wrapping_sub(1),
+            number: short(found.number),
+            deed,
+        })?;
+    }
+    Ok(())
+}
+
+/// Adds what is asked of a queue.
+fn add_queue_uses<A: Allocator + Copy>(
+    alloc: A,
+    problem: &mut Problem<A>,
+    beside: &mut Beside<A>,
+    uses: &[Use],
+    object: u16,
+) -> Result<(), OutOfMemory> {
+    let mut rows = Vec::new(alloc);
+    let mut moves = Vec::new(alloc);
+    read_queue_uses(&mut moves, &mut rows, uses)?;
+    add_queue(alloc, problem, beside, object, rows, &moves)
+}
+
+/// Adds what is asked of an element of a set.
+fn add_members<A: Allocator + Copy>(
+    alloc: A,
+    problem: &mut Problem<A>,
+    beside: &mut Beside<A>,
+    touches: &[Touch],
+    named: (u16, i64),
+) -> Result<(), OutOfMemory> {
+    let mut counts = Vec::new(alloc);
+    count_members(&mut counts, touches)?;
+    add_counts(alloc, problem, beside, &counts, (named.0, Some(named.1)), 0)
+}
+
+/// Adds what is asked of a cell of a register or a map.
+fn add_values<A: Allocator + Copy>(
+    alloc: A,
+    problem: &mut Problem<A>,
+    touches: &[Touch],
+    named: (u16, i64),
+    declared: (ObjKind, i64),
+) -> Result<(), OutOfMemory> {
+    let opening = match declared.0 {
+        ObjKind::Register => Some(declared.1),
+        _ => None,
+    };
+    let named = (named.0, cell_of(declared.0, named.1));
+    add_cell(alloc, problem, touches, named, opening)
+}
+
+/// Adds what is asked of a cell; or gives the row that contradicts itself on it.
+fn add_cell_uses<A: Allocator + Copy>(
+    alloc: A,
+    problem: &mut Problem<A>,
+    beside: &mut Beside<A>,
+    uses: &[Use],
+    named: (u16, i64),
+    declared: (ObjKind, i64),
+) -> Result<Option<usize>, OutOfMemory> {
+    let mut touches = Vec::new(alloc);
+    let refused = read_touches(&mut touches, uses)?;
+    if refused.is_some() {
+        return Ok(refused);
+    }
+    if declared.0 == ObjKind::SetOf {
+        add_members(alloc, problem, beside, &touches, named)?;
+    } else {
+        add_values(alloc, problem, &touches, named, declared)?;
+    }
+    Ok(None)
+}
+
+/// Adds what is asked by the executions of one object and key; or gives the row that contradicts itself there.
+fn add_uses<A: Allocator + Copy>(
+    alloc: A,
+    problem: &mut Problem<A>,
+    beside: &mut Beside<A>,
+    uses: &[Use],
+    named: (u16, i64),
+    declared: (ObjKind, i64),
+) -> Result<Option<usize>, OutOfMemory> {
+    match declared.0 {
+        ObjKind::Counter => {
+            let mut counts = Vec::new(alloc);
+            let refused = read_counts(&mut counts, uses)?;
+            if refused.is_none() {
+                add_counts(alloc, problem, beside, &counts, (named.0, None), declared.1)?;
+            }
+            Ok(refused)
+        }
+        ObjKind::Queue => {
+            add_queue_uses(alloc, problem, beside, uses, named.0)?;
+            Ok(None)
+        }
+        _ => add_cell_uses(alloc, problem, beside, uses, named, declared),
+    }
+}
+
+/// The kind of the object, and what it opens with.
+fn declared_as<A: Allocator>(objects: &[ObjDecl<A>], object: u16) -> (ObjKind, i64) {
+    match objects.get(object as usize) {
+        Some(found) => (found.kind, found.opening),
+        None => (ObjKind::Register, 0),
+    }
+}
+
+/// Adds what is asked of all objects; or gives the row that contradicts itself, on that object and key.
+fn add_all<A: Allocator + Copy>(
+    alloc: A,
+    problem: &mut Problem<A>,
+    objects: &[ObjDecl<A>],
+    uses: &[Use],
+) -> Result<Option<Use>, OutOfMemory> {
+    let mut beside = Beside::empty(alloc);
+    let mut from = 0;
+    for (place, found) in uses.iter().enumerate() {
+        let next = place.wrapping_add(1);
+        let named = (found.object, found.key);
+        if let Some(other) = uses.get(next) {
+            if (other.object, other.key) == named {
+                continue;
+            }
+        }
+        let own = between(uses, from, next);
+        let declared = declared_as(objects, found.object);
+        let refused = add_uses(alloc, problem, &mut beside, own, named, declared)?;
+        if let Some(row) = refused {
+            return Ok(Some(Use { row, ..*found }));
+        }
+        if is_large(problem) {
+            return Ok(None);
+        }
+        from = next;
+    }
+    Ok(None)
+}
+
+/// Adds what is asked of all objects, and sorts it; or gives the row that contradicts itself, on that object and key.
+fn add_history<A: Allocator + Copy>(
+    alloc: A,
+    problem: &mut Problem<A>,
+    shape: &Shape<A>,
+) -> Result<Option<Use>, OutOfMemory> {
+    let rows = shape.table().rows();
+    add_pairs(&mut problem.variables, &mut problem.spans)?;
+    let mut uses = Vec::new(alloc);
+    read_uses(&mut uses, rows)?;
+    let refused = add_all(alloc, problem, shape.plan().objects(), &uses)?;
+    sort_parts(alloc, &mut problem.cells, rows.len())?;
+    sort_uses(&mut problem.sums, problem.variables.roles.len())?;
+    Ok(refused)
+}
+
+/// What the history asks of an order, if so much work and so many bytes suffice for it.
+pub(crate) fn read<A: Allocator + Copy>(
+    alloc: A,
+    shape: &Shape<A>,
+    work: Work,
+) -> Result<Asked<A>, OutOfMemory> {
+    let spans = spans_of(alloc, shape.table().rows())?;
+    if count_pairs(&spans).saturating_mul(100) > work.bytes {
+        return Ok(Asked::Large);
+    }
+    let mut problem = Problem::of(alloc, spans, work);
+    let refused = add_history(alloc, &mut problem, shape)?;
+    if let Some(found) = refused {
+        let tx = at(&problem.spans, found.row, NOBODY).tx;
+        let (kind, _) = declared_as(shape.plan().objects(), found.object);
+        return Ok(Asked::Block(tx, found.object, cell_of(kind, found.key)));
+    }
+    if is_large(&problem) {
+        return Ok(Asked::Large);
+    }
+    Ok(Asked::Problem(problem))
+}

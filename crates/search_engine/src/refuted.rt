@@ -1,0 +1,352 @@
+//! Refutations from the steps of a search.
+
+use crate::cells::{NO_CELL, NO_READER, NO_SOURCE, NO_WRITER};
+use crate::draft::{Cause, Role};
+use crate::items::{NONE, at, between, fill, set, short, var};
+use crate::log::{Logged, NOT_LOGGED, Steps, Why};
+use crate::problem::Problem;
+use crate::queues::{NO_ITEM, NO_TAKE, TakeOf};
+use crate::spans::span_of;
+use aud_event::OutOfMemory;
+use judge_clauses::{Atom, Literal, Read, Reason, Refutation, Step, Take};
+use judge_laws::{CellLaw, Front, ObjectLaw, QueueLaw, SumLaw};
+use std::alloc::{Allocator, Global};
+
+/// The transaction of the row.
+fn tx_of<A: Allocator + Copy>(problem: &Problem<A>, row: usize) -> u32 {
+    span_of(&problem.spans, row).tx
+}
+
+/// What the reader of that number reads.
+fn read_of<A: Allocator + Copy>(problem: &Problem<A>, reader: u32) -> Read {
+    let found = at(&problem.cells.readers, reader as usize, NO_READER);
+    let cell = at(&problem.cells.cells, found.cell as usize, NO_CELL);
+    Read {
+        reader: tx_of(problem, found.row),
+        object: cell.object,
+        cell: cell.cell,
+    }
+}
+
+/// The transaction of the writer, if there is one.
+fn writer_of<A: Allocator + Copy>(problem: &Problem<A>, writer: u32) -> Option<u32> {
+    match problem.cells.writers.get(writer as usize) {
+        Some(found) => Some(tx_of(problem, found.row)),
+        None => None,
+    }
+}
+
+fn take_of<A: Allocator + Copy>(problem: &Problem<A>, take: TakeOf) -> Take {
+    Take {
+        taker: tx_of(problem, take.row),
+        object: take.object,
+        number: take.number,
+    }
+}
+
+/// The take of the item, and the addition that it is.
+fn item_of<A: Allocator + Copy>(problem: &Problem<A>, item: u32) -> (Take, u32, u32) {
+    let found = at(&problem.items.items, item as usize, NO_ITEM);
+    let take = at(&problem.items.takes, found.take as usize, NO_TAKE);
+    let adder = tx_of(problem, found.row);
+    (take_of(problem, take), adder, found.addition)
+}
+
+/// The source: what is read, and by whom it was written, or that it was there from the beginning.
+fn source_of<A: Allocator + Copy>(problem: &Problem<A>, source: u32) -> (Read, Option<u32>) {
+    let found = at(&problem.cells.sources, source as usize, NO_SOURCE);
+    (
+        read_of(problem, found.reader),
+        writer_of(problem, found.writer),
+    )
+}
+
+/// What the variable says.
+fn atom_of<A: Allocator + Copy>(problem: &Problem<A>, variable: usize) -> Atom {
+    match at(&problem.variables.roles, variable, Role::Nothing) {
+        Role::Nothing => Atom::Kept(0),
+        Role::Pair(row, other) => {
+            let first = tx_of(problem, row as usize);
+            Atom::Before(first, tx_of(problem, other as usize))
+        }
+        Role::Kept(row) => Atom::Kept(tx_of(problem, row as usize)),
+        Role::Source(source) => match source_of(problem, source) {
+            (read, Some(writer)) => Atom::Source(read, writer),
+            (read, None) => Atom::Opening(read),
+        },
+        Role::Item(item) => {
+            let (take, adder, addition) = item_of(problem, item);
+            Atom::Item(take, adder, addition)
+        }
+    }
+}
+
+/// The law that what was added before is taken before.
+fn gone_of<A: Allocator + Copy>(problem: &Problem<A>, number: u32) -> Option<ObjectLaw> {
+    let found = problem.items.gone.get(number as usize)?;
+    let front = Front {
+        adder: tx_of(problem, found.row),
+        value: found.value,
+    };
+    if found.item == NONE {
+        let taker = tx_of(problem, found.take.row);
+        let (object, place) = (found.take.object, found.take.number);
+        return Some(ObjectLaw::Queue(QueueLaw::Left(taker, object, place, front)));
+    }
+    let (take, adder, addition) = item_of(problem, found.item);
+    Some(ObjectLaw::Queue(QueueLaw::Gone(take, adder, addition, front)))
+}
+
+/// The law of the cause, if it is one of objects.
+fn law_of<A: Allocator + Copy>(problem: &Problem<A>, cause: Cause) -> Option<ObjectLaw> {
+    match cause {
+        Cause::Sources(reader) => Some(ObjectLaw::Cell(CellLaw::Sources(read_of(problem, reader)))),
+        Cause::SourceStands(source) => {
+            let (read, writer) = source_of(problem, source);
+            Some(ObjectLaw::Cell(CellLaw::SourceStands(read, writer?)))
+        }
+        Cause::Between(source, other) => {
+            let (read, writer) = source_of(problem, source);
+            Some(ObjectLaw::Cell(CellLaw::Between(read, writer, writer_of(problem, other)?)))
+        }
+        Cause::Counter(row, object) => Some(ObjectLaw::Sum(SumLaw::Counter(
+            tx_of(problem, row as usize),
+            object,
+        ))),
+        Cause::Element(row, object, element) => {
+            Some(ObjectLaw::Sum(SumLaw::Element(tx_of(problem, row as usize), object, element)))
+        }
+        Cause::Items(take) => {
+            let found = at(&problem.items.takes, take as usize, NO_TAKE);
+            Some(ObjectLaw::Queue(QueueLaw::Items(take_of(problem, found))))
+        }
+        Cause::ItemStands(item) => {
+            let (take, adder, addition) = item_of(problem, item);
+            Some(ObjectLaw::Queue(QueueLaw::ItemStands(take, adder, addition)))
+        }
+        Cause::Place(item) => {
+            let (take, adder, addition) = item_of(problem, item);
+            Some(ObjectLaw::Queue(QueueLaw::Place(take, adder, addition)))
+        }
+        Cause::Empty(row, object, place) => {
+            Some(ObjectLaw::Queue(QueueLaw::Empty(tx_of(problem, row as usize), object, place)))
+        }
+        Cause::Gone(number) => gone_of(problem, number),
+        Cause::Turn(_, _, _, _) | Cause::Tried => None,
+    }
+}
+
+/// The steps that the last one needs, with their numbers among these, and the numbers of the atoms.
+#[derive(Drop)]
+struct Numbers<A: Allocator + Copy = Global> {
+    steps: Vec<u32, A>,
+    atoms: Vec<u32, A>,
+}
+
+/// Marks the steps that the last one needs.
+fn mark_needed(numbers: &mut [u32], steps: &[Logged], hints: &[u32], last: u32) {
+    set(numbers, last as usize, 0);
+    let count = (last as usize).saturating_add(1);
+    for gone in 0..count {
+        let number = count - 1 - gone;
+        if at(numbers, number, NONE) != NONE {
+            if let Why::Units(from, to) = at(steps, number, NOT_LOGGED).why {
+                for hint in between(hints, from, to) {
+                    set(numbers, *hint as usize, 0);
+                }
+            }
+        }
+    }
+}
+
+/// Numbers the steps that are marked.
+fn number_needed(numbers: &mut [u32]) {
+    let mut next: u32 = 0;
+    for place in 0..numbers.len() {
+        if numbers[place] != NONE {
+            numbers[place] = next;
+            next = next.wrapping_add(1);
+        }
+    }
+}
+
+/// Adds the atoms of the literals that are new.
+fn add_atoms<A: Allocator + Copy>(
+    atoms: &mut Vec<Atom, A>,
+    numbers: &mut [u32],
+    problem: &Problem<A>,
+    literals: &[u32],
+) -> Result<(), OutOfMemory> {
+    for literal in literals {
+        if at(numbers, var(*literal), 0) == NONE {
+            set(numbers, var(*literal), short(atoms.len()));
+            atoms.push(atom_of(problem, var(*literal)))?;
+        }
+    }
+    Ok(())
+}
+
+/// The clause, those of its literals first that deny a source or an item.
+fn clause_of<A: Allocator + Copy>(
+    alloc: A,
+    problem: &Problem<A>,
+    numbers: &[u32],
+    literals: &[u32],
+) -> Result<Vec<Literal, A>, OutOfMemory> {
+    let mut clause = Vec::new(alloc);
+    for is_first in &[true, false] {
+        for literal in literals {
+            let role = at(&problem.variables.roles, var(*literal), Role::Nothing);
+            let is_guard = matches!(role, Role::Source(_) | Role::Item(_)) && literal & 1 == 1;
+            if is_guard == *is_first {
+                clause.push(Literal {
+                    atom: at(numbers, var(*literal), NONE),
+                    holds: literal & 1 == 0,
+                })?;
+            }
+        }
+    }
+    Ok(clause)
+}
+
+/// The transactions of a circle.
+fn circle_of<A: Allocator + Copy>(
+    alloc: A,
+    problem: &Problem<A>,
+    rows: [u32; 4],
+) -> Result<Vec<u32, A>, OutOfMemory> {
+    let mut circle = Vec::new(alloc);
+    for row in &rows {
+        let tx = tx_of(problem, *row as usize);
+        if !circle.contains(&tx) {
+            circle.push(tx)?;
+        }
+    }
+    Ok(circle)
+}
+
+/// The numbers of the hints between those places.
+fn hints_of<A: Allocator + Copy>(
+    alloc: A,
+    hints: &[u32],
+    numbers: &[u32],
+) -> Result<Vec<u32, A>, OutOfMemory> {
+    let mut found = Vec::new(alloc);
+    for hint in hints {
+        found.push(at(numbers, *hint as usize, NONE))?;
+    }
+    Ok(found)
+}
+
+/// What the step follows from, if that can be said.
+fn reason_of<A: Allocator + Copy>(
+    alloc: A,
+    problem: &Problem<A>,
+    steps: &Steps<A>,
+    numbers: &[u32],
+    why: Why,
+) -> Result<Option<Reason<ObjectLaw, A>>, OutOfMemory> {
+    match why {
+        Why::Units(from, to) => {
+            let hints = between(&steps.hints, from, to);
+            Ok(Some(Reason::Units(hints_of(alloc, hints, numbers)?)))
+        }
+        Why::Cause(Cause::Turn(first, row, other, last)) => {
+            let rows = [first, row, other, last];
+            Ok(Some(Reason::Turn(circle_of(alloc, problem, rows)?)))
+        }
+        Why::Cause(cause) => match law_of(problem, cause) {
+            Some(law) => Ok(Some(Reason::Law(law))),
+            None => Ok(None),
+        },
+    }
+}
+
+/// Room for the numbers of steps and atoms.
+fn make_numbers<A: Allocator + Copy>(
+    numbers: &mut Numbers<A>,
+    steps: usize,
+    variables: usize,
+) -> Result<(), OutOfMemory> {
+    fill(&mut numbers.steps, steps, NONE)?;
+    fill(&mut numbers.atoms, variables, NONE)
+}
+
+/// The numbers of the steps that the last one needs, and room for those of atoms.
+fn numbers_of<A: Allocator + Copy>(
+    alloc: A,
+    problem: &Problem<A>,
+    steps: &Steps<A>,
+    last: u32,
+) -> Result<Numbers<A>, OutOfMemory> {
+    let mut numbers = Numbers {
+        steps: Vec::new(alloc),
+        atoms: Vec::new(alloc),
+    };
+    make_numbers(
+        &mut numbers,
+        steps.steps.len(),
+        problem.variables.roles.len(),
+    )?;
+    mark_needed(&mut numbers.steps, &steps.steps, &steps.hints, last);
+    number_needed(&mut numbers.steps);
+    Ok(numbers)
+}
+
+/// Adds the step to the refutation. False where its reason cannot be said.
+fn add_step<A: Allocator + Copy>(
+    alloc: A,
+    refutation: &mut Refutation<ObjectLaw, A>,
+    numbers: &mut Numbers<A>,
+    problem: &Problem<A>,
+    steps: &Steps<A>,
+    logged: Logged,
+) -> Result<bool, OutOfMemory> {
+    let literals = between(&steps.literals, logged.from, logged.to);
+    add_atoms(&mut refutation.atoms, &mut numbers.atoms, problem, literals)?;
+    let clause = clause_of(alloc, problem, &numbers.atoms, literals)?;
+    let found = reason_of(alloc, problem, steps, &numbers.steps, logged.why)?;
+    let Some(reason) = found else {
+        return Ok(false);
+    };
+    refutation.steps.push(Step::new(clause, reason))?;
+    Ok(true)
+}
+
+/// Adds the steps to the refutation that are needed. False where a reason cannot be said.
+fn add_steps<A: Allocator + Copy>(
+    alloc: A,
+    refutation: &mut Refutation<ObjectLaw, A>,
+    numbers: &mut Numbers<A>,
+    problem: &Problem<A>,
+    steps: &Steps<A>,
+) -> Result<bool, OutOfMemory> {
+    for (number, logged) in steps.steps.iter().enumerate() {
+        if at(&numbers.steps, number, NONE) != NONE {
+            let is_said = add_step(alloc, refutation, numbers, problem, steps, *logged)?;
+            if !is_said {
+                return Ok(false);
+            }
+        }
+    }
+    Ok(true)
+}
+
+/// The refutation that ends with the step, with no step that it does not need; or none, where a step cannot be said.
+pub(crate) fn refutation_of<A: Allocator + Copy>(
+    alloc: A,
+    problem: &Problem<A>,
+    steps: &Steps<A>,
+    last: u32,
+) -> Result<Option<Refutation<ObjectLaw, A>>, OutOfMemory> {
+    let mut numbers = numbers_of(alloc, problem, steps, last)?;
+    let mut refutation = Refutation {
+        atoms: Vec::new(alloc),
+        steps: Vec::new(alloc),
+    };
+    if add_steps(alloc, &mut refutation, &mut numbers, problem, steps)? {
+        Ok(Some(refutation))
+    } else {
+        Ok(None)
+    }
+}
