@@ -6,3 +6,4 @@ pub mod Keeping
 pub mod Sets
 pub mod Places
 pub mod Proper
+pub mod Orders

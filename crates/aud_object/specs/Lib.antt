@@ -10,3 +10,4 @@ pub mod Meanings
 pub mod Logs
 pub mod Kinds
 pub mod Digests
+pub mod Orders

@@ -9,6 +9,7 @@ use crate::digest::stir;
 use crate::spec::ObjectSpec;
 use aud_event::{Answer, Op, OutOfMemory};
 use std::alloc::{Allocator, Global};
+use std::cmp::Ordering;
 use std::marker::PhantomData;
 
 /// A counter: Inc and Dec move it by one, Plus by a number, Get answers it. Where the next count is no i64, it stays. A change
@@ -38,7 +39,7 @@ impl<A: Allocator + Drop> ObjectSpec for Counter<A> {
         value
     }
 
-    fn apply(state: &mut i64, op: &Op) -> Result<(Answer, Option<i64>), OutOfMemory>
+    fn apply_with_undo(state: &mut i64, op: &Op) -> Result<(Answer, Option<i64>), OutOfMemory>
     where
         A: Clone,
     {
@@ -74,6 +75,13 @@ impl<A: Allocator + Drop> ObjectSpec for Counter<A> {
         *state = change;
     }
 
+    fn observes(op: &Op) -> bool {
+        match op {
+            Op::Get => true,
+            _ => false,
+        }
+    }
+
     fn answer(state: &i64, op: &Op) -> Answer {
         match op {
             Op::Get => Answer::Int(*state),
@@ -84,6 +92,10 @@ impl<A: Allocator + Drop> ObjectSpec for Counter<A> {
 
     fn same(state: &i64, other: &i64) -> bool {
         *state == *other
+    }
+
+    fn order(state: &i64, other: &i64) -> Ordering {
+        state.cmp(other)
     }
 
     fn digest(state: &i64) -> u64 {

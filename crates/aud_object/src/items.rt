@@ -4,10 +4,13 @@ ghost use Rattle.std.specs.Prelude.{◌≡◌, ◌↔◌, IsTrue, [], ◌∷◌,
 ghost use Rattle.aud_object.specs.declared.items.ItemsChange.TheVariants as ItemsChange;
 ghost use Rattle.aud_object.specs.Digests.{digest_values};
 ghost use Rattle.aud_object.specs.Keeps.{items_in, back_items, TakesFirst};
+ghost use Rattle.std.specs.Ordering.{int_cmp};
+ghost use Rattle.std.specs.Cmp.Lexicographic.{slice_cmp};
 
 use crate::digest::stir;
 use aud_event::{Dup, OutOfMemory};
 use std::alloc::{Allocator, Global};
+use std::cmp::Ordering;
 use std::marker::Model;
 
 /// The items of a queue of i64. An item that left stays before the front, so that taking it back wants no memory.
@@ -44,6 +47,12 @@ fn is_same_list(a: &[i64], b: &[i64]) -> bool
     a == b
 }
 
+fn list_order(a: &[i64], b: &[i64]) -> Ordering
+    ensures { result ≡ slice_cmp int_cmp a.now b.now }
+{
+    a.cmp(b)
+}
+
 /// A digest with the values.
 fn digest_list(start: u64, values: &[i64]) -> u64
     ensures { result ≡ digest_values start values.now }
@@ -71,6 +80,13 @@ impl<A: Allocator + Drop> Items<A> {
         ensures { IsTrue result ↔ (items_in self.now ≡ items_in other.now) }
     {
         is_same_list(self.left(), other.left())
+    }
+
+    /// The order of the items, the front first.
+    pub(crate) fn order(&self, other: &Items<A>) -> Ordering
+        ensures { result ≡ slice_cmp int_cmp (items_in self.now) (items_in other.now) }
+    {
+        list_order(self.left(), other.left())
     }
 
     /// How many items are kept.

@@ -4,11 +4,14 @@ ghost use Rattle.std.specs.Prelude.{◌≡◌, ◌<◌, ◌↔◌, IsTrue, [], S
 ghost use Rattle.aud_object.specs.Entries.{value_at, with_entry, without_entry, with_value, Ascend};
 ghost use Rattle.aud_object.specs.Digests.{digest_entries};
 ghost use Rattle.aud_object.specs.Keeps.{entries_in, back_kept, PassesEntry};
+ghost use Rattle.aud_object.specs.Orders.{entry_cmp};
+ghost use Rattle.std.specs.Cmp.Lexicographic.{slice_cmp};
 
 use crate::digest::stir;
 use crate::value::Value;
 use aud_event::{Dup, OutOfMemory};
 use std::alloc::{Allocator, Global};
+use std::cmp::Ordering;
 use std::collections::BTreeMap;
 use std::collections::btree_map::Iter;
 use std::marker::Model;
@@ -94,6 +97,44 @@ fn have_same_entries<V: Value>(
     }
 }
 
+/// The order of two entries: by their keys, and then by what is under them.
+fn entry_order<V: Value>(one: &(i64, V), other: &(i64, V)) -> Ordering
+    ensures { result ≡ entry_cmp V.orders one.now other.now }
+{
+    match one.0.cmp(&other.0) {
+        Ordering::Equal => one.1.order(&other.1),
+        unequal => unequal,
+    }
+}
+
+/// The order of what is left, the least key first.
+fn order_left<V: Value>(
+    mut a: Iter<'_, i64, Option<V>>,
+    mut b: Iter<'_, i64, Option<V>>,
+) -> Ordering
+    ensures { result ≡ slice_cmp (entry_cmp V.orders) (entries_in a.entry) (entries_in b.entry) }
+{
+    loop {
+        match next_entry(&mut a) {
+            None => {
+                if next_entry(&mut b).is_none() {
+                    return Ordering::Equal;
+                }
+                return Ordering::Less;
+            }
+            Some(one) => match next_entry(&mut b) {
+                None => return Ordering::Greater,
+                Some(other) => {
+                    let order = entry_order(&one, &other);
+                    if order.is_ne() {
+                        return order;
+                    }
+                }
+            },
+        }
+    }
+}
+
 /// A digest with the entries that are left.
 fn digest_left<V: Value>(start: u64, mut left: Iter<'_, i64, Option<V>>) -> u64
     ensures { result ≡ digest_entries V.stirs start (entries_in left.entry) }
@@ -120,6 +161,13 @@ impl<V: Value, A: Allocator + Drop> Kept<V, A> {
         ensures { IsTrue result ↔ (entries_in self.now ≡ entries_in other.now) }
     {
         have_same_entries(self.slots.iter(), other.slots.iter())
+    }
+
+    /// The order of the entries, the least key first, in linear time.
+    pub(crate) fn order(&self, other: &Kept<V, A>) -> Ordering
+        ensures { result ≡ slice_cmp (entry_cmp V.orders) (entries_in self.now) (entries_in other.now) }
+    {
+        order_left(self.slots.iter(), other.slots.iter())
     }
 
     /// How many keys are kept.

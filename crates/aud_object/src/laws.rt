@@ -2,6 +2,7 @@
 
 ghost use Rattle.std.specs.Prelude.{◌≡◌};
 ghost use Rattle.aud_object.specs.Laws.{EachOtherChanges, EachObservingTells, OtherKindsStay, ReplayIsLegality, OpeningIsLegality, LegalityIsByParts, BlocksReplayInTurn};
+ghost use Rattle.aud_object.specs.Orders.{StoresAreOrdered};
 
 /// No row is forgotten in the tables of what operations answer and leave: each operation that does not observe changes some
 /// state of its kind, each that observes tells two states of its kind apart, and one of another kind does nothing.
@@ -29,4 +30,9 @@ pub fn legality_is_by_parts()
 /// A replay from the states after legal blocks decides whether those blocks and this one are legal.
 pub fn blocks_replay_in_turn()
     ensures { BlocksReplayInTurn }
+{}
+
+/// The order of stores is total, and ties just where their states are the same.
+pub fn stores_are_ordered()
+    ensures { StoresAreOrdered }
 {}

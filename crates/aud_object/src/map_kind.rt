@@ -10,6 +10,7 @@ use crate::kept::{Kept, KeptChange};
 use crate::spec::ObjectSpec;
 use aud_event::{Answer, Dup, Op, OutOfMemory};
 use std::alloc::{Allocator, Global};
+use std::cmp::Ordering;
 use std::marker::PhantomData;
 
 /// A map from i64 to i64, at first empty: Put puts a value under a key, Look answers the value under it or that there is none, Del
@@ -50,7 +51,7 @@ impl<A: Allocator + Drop> ObjectSpec for MapOf<A> {
         Kept::new(alloc)
     }
 
-    fn apply(
+    fn apply_with_undo(
         state: &mut Kept<i64, A>,
         op: &Op,
     ) -> Result<(Answer, Option<KeptChange<i64>>), OutOfMemory>
@@ -76,6 +77,13 @@ impl<A: Allocator + Drop> ObjectSpec for MapOf<A> {
         state.back(change);
     }
 
+    fn observes(op: &Op) -> bool {
+        match op {
+            Op::Look(_) => true,
+            _ => false,
+        }
+    }
+
     fn answer(state: &Kept<i64, A>, op: &Op) -> Answer {
         match *op {
             Op::Look(key) => answer_found(state.get(key)),
@@ -87,6 +95,10 @@ impl<A: Allocator + Drop> ObjectSpec for MapOf<A> {
 
     fn same(state: &Kept<i64, A>, other: &Kept<i64, A>) -> bool {
         state.same(other)
+    }
+
+    fn order(state: &Kept<i64, A>, other: &Kept<i64, A>) -> Ordering {
+        state.order(other)
     }
 
     fn digest(state: &Kept<i64, A>) -> u64 {

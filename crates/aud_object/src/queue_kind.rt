@@ -10,6 +10,7 @@ use crate::items::{Items, ItemsChange};
 use crate::spec::ObjectSpec;
 use aud_event::{Answer, Dup, Op, OutOfMemory};
 use std::alloc::{Allocator, Global};
+use std::cmp::Ordering;
 use std::marker::PhantomData;
 
 /// A queue of i64, at first empty, first in, first out: Enq puts an item after the others, Deq takes the front one.
@@ -48,7 +49,10 @@ impl<A: Allocator + Drop> ObjectSpec for Queue<A> {
         Items::new(alloc)
     }
 
-    fn apply(state: &mut Items<A>, op: &Op) -> Result<(Answer, Option<ItemsChange>), OutOfMemory>
+    fn apply_with_undo(
+        state: &mut Items<A>,
+        op: &Op,
+    ) -> Result<(Answer, Option<ItemsChange>), OutOfMemory>
     where
         A: Clone,
     {
@@ -70,6 +74,10 @@ impl<A: Allocator + Drop> ObjectSpec for Queue<A> {
         state.back(change);
     }
 
+    fn observes(_op: &Op) -> bool {
+        false
+    }
+
     fn answer(state: &Items<A>, op: &Op) -> Answer {
         match op {
             Op::Deq => front_answer(state.left()),
@@ -80,6 +88,10 @@ impl<A: Allocator + Drop> ObjectSpec for Queue<A> {
 
     fn same(state: &Items<A>, other: &Items<A>) -> bool {
         state.same(other)
+    }
+
+    fn order(state: &Items<A>, other: &Items<A>) -> Ordering {
+        state.order(other)
     }
 
     fn digest(state: &Items<A>) -> u64 {

@@ -9,6 +9,7 @@ use crate::digest::stir;
 use crate::spec::ObjectSpec;
 use aud_event::{Answer, Op, OutOfMemory};
 use std::alloc::{Allocator, Global};
+use std::cmp::Ordering;
 use std::marker::PhantomData;
 
 /// A register of an i64: Read answers its value, Write sets it. It opens at any i64. A change is the value before it.
@@ -37,7 +38,7 @@ impl<A: Allocator + Drop> ObjectSpec for Register<A> {
         value
     }
 
-    fn apply(state: &mut i64, op: &Op) -> Result<(Answer, Option<i64>), OutOfMemory>
+    fn apply_with_undo(state: &mut i64, op: &Op) -> Result<(Answer, Option<i64>), OutOfMemory>
     where
         A: Clone,
     {
@@ -57,6 +58,13 @@ impl<A: Allocator + Drop> ObjectSpec for Register<A> {
         *state = change;
     }
 
+    fn observes(op: &Op) -> bool {
+        match op {
+            Op::Read => true,
+            _ => false,
+        }
+    }
+
     fn answer(state: &i64, op: &Op) -> Answer {
         match op {
             Op::Read => Answer::Int(*state),
@@ -67,6 +75,10 @@ impl<A: Allocator + Drop> ObjectSpec for Register<A> {
 
     fn same(state: &i64, other: &i64) -> bool {
         *state == *other
+    }
+
+    fn order(state: &i64, other: &i64) -> Ordering {
+        state.cmp(other)
     }
 
     fn digest(state: &i64) -> u64 {

@@ -10,6 +10,7 @@ use crate::kept::{Kept, KeptChange};
 use crate::spec::ObjectSpec;
 use aud_event::{Answer, Dup, Op, OutOfMemory};
 use std::alloc::{Allocator, Global};
+use std::cmp::Ordering;
 use std::marker::PhantomData;
 
 /// A set of i64, at first empty: Add and Remove answer whether they changed it, Contains whether the value is a member.
@@ -39,7 +40,7 @@ impl<A: Allocator + Drop> ObjectSpec for SetOf<A> {
         Kept::new(alloc)
     }
 
-    fn apply(
+    fn apply_with_undo(
         state: &mut Kept<(), A>,
         op: &Op,
     ) -> Result<(Answer, Option<KeptChange<()>>), OutOfMemory>
@@ -68,6 +69,13 @@ impl<A: Allocator + Drop> ObjectSpec for SetOf<A> {
         state.back(change);
     }
 
+    fn observes(op: &Op) -> bool {
+        match op {
+            Op::Contains(_) => true,
+            _ => false,
+        }
+    }
+
     fn answer(state: &Kept<(), A>, op: &Op) -> Answer {
         match *op {
             Op::Add(v) => Answer::Flag(state.get(v).is_none()),
@@ -80,6 +88,10 @@ impl<A: Allocator + Drop> ObjectSpec for SetOf<A> {
 
     fn same(state: &Kept<(), A>, other: &Kept<(), A>) -> bool {
         state.same(other)
+    }
+
+    fn order(state: &Kept<(), A>, other: &Kept<(), A>) -> Ordering {
+        state.order(other)
     }
 
     fn digest(state: &Kept<(), A>) -> u64 {

@@ -3,6 +3,7 @@
 ghost use Rattle.std.specs.Prelude.{◌≡◌, ◌↔◌, IsTrue, IfOk, OnErr, OnOk, MatchOption};
 ghost use Rattle.aud_object.specs.Objects.{answer_of, after_op, items_of, opening_of, digest_of};
 ghost use Rattle.aud_object.specs.Kinds.{meaning, back, number_in};
+ghost use Rattle.aud_object.specs.Orders.{place_of, state_cmp};
 
 use crate::counter_kind::Counter;
 use crate::items::{Items, ItemsChange};
@@ -15,6 +16,7 @@ use crate::set_kind::SetOf;
 use crate::spec::ObjectSpec;
 use aud_event::{Answer, Dup, ObjDecl, ObjKind, Op, OutOfMemory};
 use std::alloc::{Allocator, Global};
+use std::cmp::Ordering;
 
 /// The state of one object.
 #[derive(Drop)]
@@ -41,7 +43,10 @@ const _: () = prove!(size_of::<Change>() <= 32);
 
 impl<A: Allocator + Clone> State<A> {
     /// Runs the operation, and says what it changed. An operation that is not of the kind answers Done and changes nothing.
-    pub(crate) fn apply(&mut self, op: &Op) -> Result<(Answer, Option<Change>), OutOfMemory>
+    pub(crate) fn apply_with_undo(
+        &mut self,
+        op: &Op,
+    ) -> Result<(Answer, Option<Change>), OutOfMemory>
         ensures answer { IfOk result (λ a. a.0 ≡ answer_of (meaning self.old) op.now) }
         ensures after { OnOk result (meaning self.new ≡ after_op (meaning self.old) op.now) }
         ensures back { IfOk result (λ a. MatchOption a.1 (self.new ≡ self.old) (λ change. back self.new change ≡ self.old)) }
@@ -49,23 +54,23 @@ impl<A: Allocator + Clone> State<A> {
     {
         // by cases: a change that went through `map` would be copied in memory, which a search feels
         match self {
-            State::Register(state) => match Register::<A>::apply(state, op)? {
+            State::Register(state) => match Register::<A>::apply_with_undo(state, op)? {
                 (answer, Some(change)) => Ok((answer, Some(Change::Register(change)))),
                 (answer, None) => Ok((answer, None)),
             },
-            State::Counter(state) => match Counter::<A>::apply(state, op)? {
+            State::Counter(state) => match Counter::<A>::apply_with_undo(state, op)? {
                 (answer, Some(change)) => Ok((answer, Some(Change::Counter(change)))),
                 (answer, None) => Ok((answer, None)),
             },
-            State::SetOf(state) => match SetOf::<A>::apply(state, op)? {
+            State::SetOf(state) => match SetOf::<A>::apply_with_undo(state, op)? {
                 (answer, Some(change)) => Ok((answer, Some(Change::SetOf(change)))),
                 (answer, None) => Ok((answer, None)),
             },
-            State::Queue(state) => match Queue::<A>::apply(state, op)? {
+            State::Queue(state) => match Queue::<A>::apply_with_undo(state, op)? {
                 (answer, Some(change)) => Ok((answer, Some(Change::Queue(change)))),
                 (answer, None) => Ok((answer, None)),
             },
-            State::MapOf(state) => match MapOf::<A>::apply(state, op)? {
+            State::MapOf(state) => match MapOf::<A>::apply_with_undo(state, op)? {
                 (answer, Some(change)) => Ok((answer, Some(Change::MapOf(change)))),
                 (answer, None) => Ok((answer, None)),
             },
@@ -99,6 +104,33 @@ impl<A: Allocator + Drop> State<A> {
             (State::Queue(p), State::Queue(q)) => Queue::same(p, q),
             (State::MapOf(m), State::MapOf(n)) => MapOf::same(m, n),
             _ => false,
+        }
+    }
+
+    /// The place of the kind among the kinds.
+    fn place(&self) -> u64
+        ensures { result ≡ place_of (meaning self.now) }
+    {
+        match self {
+            State::Register(_) => 1,
+            State::Counter(_) => 2,
+            State::SetOf(_) => 3,
+            State::Queue(_) => 4,
+            State::MapOf(_) => 5,
+        }
+    }
+
+    /// The order of two states: by kind, and then by what they hold, in time linear in their sizes.
+    pub(crate) fn order(&self, other: &State<A>) -> Ordering
+        ensures { result ≡ state_cmp (meaning self.now) (meaning other.now) }
+    {
+        match (self, other) {
+            (State::Register(v), State::Register(w)) => Register::<A>::order(v, w),
+            (State::Counter(v), State::Counter(w)) => Counter::<A>::order(v, w),
+            (State::SetOf(s), State::SetOf(t)) => SetOf::order(s, t),
+            (State::Queue(p), State::Queue(q)) => Queue::order(p, q),
+            (State::MapOf(m), State::MapOf(n)) => MapOf::order(m, n),
+            _ => self.place().cmp(&other.place()),
         }
     }
 

@@ -3,6 +3,7 @@
 ghost use Rattle.std.specs.Prelude.{◌≡◌, ◌≢◌, ◌↔◌, ◌≤◌, IsTrue, [], ◌∷◌, length, true, false, map, IfOk, OnErr, OnOk, option_map, is_some, slice_get};
 ghost use Rattle.aud_object.specs.Objects.{answer_of, items_of, opening_of, digest_of};
 ghost use Rattle.aud_object.specs.Kinds.{meaning, number_of};
+ghost use Rattle.aud_object.specs.Orders.{store_cmp};
 ghost use Rattle.aud_object.specs.Logs.{back_at, LeadsBack};
 ghost use Rattle.aud_object.specs.Replayed.{same_answer, after_at, answer_at, answers, replayed, Replays, Runs};
 
@@ -13,6 +14,7 @@ use crate::number::Number;
 use crate::state::{Change, State};
 use aud_event::{Answer, Dup, ObjDecl, Op, OutOfMemory, Plan};
 use std::alloc::{Allocator, Global};
+use std::cmp::Ordering;
 use std::marker::Model;
 
 /// The states of all objects of a plan. Blocks run on it by `replay`, and `undo` takes the last one back.
@@ -58,7 +60,7 @@ fn apply_at<A: Allocator + Clone>(
     ensures err { OnErr result (states.new.items ≡ states.old.items) }
 {
     match states.get_mut(object as usize) {
-        Some(state) => Ok(Some(state.apply(&op)?)),
+        Some(state) => Ok(Some(state.apply_with_undo(&op)?)),
         None => Ok(None),
     }
 }
@@ -120,6 +122,27 @@ fn have_same_meanings<A: Allocator + Drop>(a: &[State<A>], b: &[State<A>]) -> bo
     }
 }
 
+fn order_of_all<A: Allocator + Drop>(a: &[State<A>], b: &[State<A>]) -> Ordering
+    ensures { result ≡ store_cmp (map meaning a.now) (map meaning b.now) }
+{
+    match a.split_first() {
+        None => {
+            if b.is_empty() {
+                Ordering::Equal
+            } else {
+                Ordering::Less
+            }
+        }
+        Some((one, a_rest)) => match b.split_first() {
+            None => Ordering::Greater,
+            Some((other, b_rest)) => match one.order(other) {
+                Ordering::Equal => order_of_all(a_rest, b_rest),
+                unequal => unequal,
+            },
+        },
+    }
+}
+
 fn size_of_all<A: Allocator + Drop>(states: &[State<A>]) -> usize
     ensures { length states.now ≤ result }
 {
@@ -136,6 +159,15 @@ impl<A: Allocator + Drop> Store<A> {
         ensures { IsTrue result ↔ (self.now.now ≡ other.now.now) }
     {
         have_same_meanings(&self.states, &other.states)
+    }
+
+    /// The order of the states now, those of the first object first: registers before counters, sets, queues and maps, each by
+    /// what it holds. It is total, and ties just where `same` says so. It does not allocate, and takes time linear in the sizes
+    /// of the states.
+    pub fn order(&self, other: &Store<A>) -> Ordering
+        ensures { result ≡ store_cmp self.now.now other.now.now }
+    {
+        order_of_all(&self.states, &other.states)
     }
 
     /// A number for the object's state now, the same for states that mean the same, if there is such an object. It does not
@@ -214,6 +246,15 @@ impl<A: Allocator + Clone> Store<A> {
         let states = dup_all(&self.states)?;
         let alloc = self.states.allocator().clone()?;
         let log = Vec::new(alloc);
+        Ok(Store { states, log })
+    }
+
+    /// The states as they are now, with the same blocks to take back.
+    pub fn copy(&self) -> Result<Store<A>, OutOfMemory>
+        ensures { IfOk result (λ copy. copy ≡ self.now) }
+    {
+        let states = dup_all(&self.states)?;
+        let log = self.log.clone()?;
         Ok(Store { states, log })
     }
 
@@ -296,8 +337,6 @@ fn dup_all<A: Allocator + Clone>(states: &Vec<State<A>, A>) -> Result<Vec<State<
 
 impl<A: Allocator + Clone> Dup for Store<A> {
     fn dup(&self) -> Result<Store<A>, OutOfMemory> {
-        let states = dup_all(&self.states)?;
-        let log = self.log.clone()?;
-        Ok(Store { states, log })
+        self.copy()
     }
 }
