@@ -16,13 +16,19 @@ use Rattle.aud_lattice.specs.Sets.{either}
 use Rattle.aud_lattice.proofs.Strict.{some_passes, one_passes}
 use Rattle.aud_lattice.specs.declared.trie.Trie.{Trie, out-Trie}
 use Rattle.aud_lattice.specs.declared.trie.Trie.TheVariants.{Fork as made, outs-Fork}
-use Rattle.aud_lattice.specs.declared.trie.Trie.TheOpen.{Trie-F, Rest, Fork}
-use Rattle.aud_lattice.specs.Walks.{nodes_of, node_of, ends, IsLayer, is_member, child, walk_on, walk, leads, nothing, but, after, starts, IsLive, IsTrie, AreAlikeBut}
+use Rattle.aud_lattice.specs.declared.trie.Trie.TheOpen.{Trie-F, Member, Fork}
+use Rattle.aud_lattice.specs.Walks.{nodes_of, node_of, ends, under, IsLayer, is_member, child, walk_on, walk, leads, nothing, but, after, starts, IsLive, IsTrie, AreAlikeBut}
 use Rattle.aud_lattice.specs.Paths.{paths}
-use Rattle.aud_lattice.proofs.Pathed.{pathed, paths_rest, paths_fork, same_paths, none_paths, and_none, and_more, on_found}
+use Rattle.aud_lattice.proofs.Pathed.{pathed, paths_member, paths_fork, same_paths, none_paths, and_none, and_more, on_found}
 use Rattle.aud_lattice.proofs.Tries.{pointwise, any_by, any_by-get, good_here, good_child, live_child, fork_child, fork_member, found_kids, sorted_nodes}
-use Rattle.aud_lattice.proofs.Rests.{alike, alike_is, rest_leads}
 use Rattle.base_values.proofs.Bools.{or_nothing, and_true, is_false, and_yes}
+
+-- whether the lists are one
+abbrev pub alike : {D : Type 0} → (D → D → Ordering) → List D → List D → Bool
+alike cmp [] [] = true
+alike cmp [] (y ∷ q) = false
+alike cmp (x ∷ p) [] = false
+alike cmp (x ∷ p) (y ∷ q) = is_eq (cmp x y) && alike cmp p q
 
 -- whether q is one of the lists
 abbrev pub held : {D : Type 0} → (D → D → Ordering) → List (List D) → List D → Bool
@@ -37,11 +43,21 @@ module _ {D : Type 0} (R : D → D → Ordering) where
   alike_itself o [] = refl
   alike_itself o (x ∷ p) = (λ i. is_eq (tied_itself o x i) && alike R p p) ∙ alike_itself o p
 
+  alike_is : IsExact R → (p q : List D) → alike R p q ≡ true → p ≡ q
+  alike_is ex [] [] e = refl
+  alike_is ex [] (y ∷ q) e = absurd (true≢false (sym e))
+  alike_is ex (x ∷ p) [] e = absurd (true≢false (sym e))
+  alike_is ex (x ∷ p) (y ∷ q) e =
+      let both = and_true (is_eq (R x y)) (alike R p q) e in
+      let heads = ex x y ((Equal-is (R x y)).0 both.0) in
+      let tails = alike_is ex p q both.1 in
+      λ i. heads i ∷ tails i
+
   pub held_member : IsTotalOrder R → (ps : List (List D)) (q : List D) → Contains ps q → held R ps q ≡ true
   held_member o ps q h = one_passes (λ p. alike R p q) ps q h (alike_itself o q)
 
   pub member_held : IsExact R → (ps : List (List D)) (q : List D) → held R ps q ≡ true → Contains ps q
-  member_held ex ps q e = let found = some_passes (λ p. alike R p q) ps e in subst (Contains ps) (alike_is R ex found.0 q found.2) found.1
+  member_held ex ps q e = let found = some_passes (λ p. alike R p q) ps e in subst (Contains ps) (alike_is ex found.0 q found.2) found.1
 
   headed : (k : D) (ps rest : List (List D)) (y : D) (q : List D) → held R (map (λ p. k ∷ p) ps ++ rest) (y ∷ q) ≡ ((is_eq (R k y) && held R ps q) || held R rest (y ∷ q))
   headed k [] rest y q = and_none (is_eq (R k y)) (held R rest (y ∷ q))
@@ -72,21 +88,18 @@ module _ {D A : Type 0} (R : D → D → Ordering) where
   pub live_leads : (t : Trie D A) → IsLive R t → leads R t ≡ nothing → ⊥
   live_leads t live e = live (λ q. no_walk q t (λ p i. e i p))
 
-  one_held : (t : Trie D A) (r : List D) → out-Trie D A t ≡ Rest r → (q : List D) → held R (paths t) q ≡ leads R t q
-  one_held t r e q = ap (λ ps. held R ps q) (paths_rest R t r e) ∙ or_nothing (alike R r q) ∙ sym (rest_leads R q r t e)
-
   module _ (o : IsTotalOrder R) (ex : IsExact R) where
     -- the lists of a trie lead to its members
     pub held-paths : (q : List D) (t : Trie D A) → IsTrie R t → held R (paths t) q ≡ leads R t q
     held-paths [] t h = cases (out-Trie D A t) refl
       where
         cases : (l : Trie-F D A (Trie D A)) → out-Trie D A t ≡ l → held R (paths t) [] ≡ is_member t
-        cases (Rest r) e = one_held t r e []
+        cases Member e = ap (λ ps. held R ps []) (paths_member R t e) ∙ sym (ap ends e)
         cases (Fork m) e = ap (λ ps. held R ps []) (paths_fork R t m e) ∙ pathed_nil (nodes_of m.entries) ∙ sym (ap ends e)
     held-paths (y ∷ q) t h = cases (λ u g. held-paths q u g) (out-Trie D A t) refl
       where
         cases : ((u : Trie D A) → IsTrie R u → held R (paths u) q ≡ leads R u q) → (l : Trie-F D A (Trie D A)) → out-Trie D A t ≡ l → held R (paths t) (y ∷ q) ≡ leads R t (y ∷ q)
-        cases further (Rest r) e = one_held t r e (y ∷ q)
+        cases further Member e = ap (λ ps. held R ps (y ∷ q)) (paths_member R t e) ∙ sym (ap (λ l. walk_on (λ u. leads R u q) (under R l y)) e)
         cases further (Fork m) e =
             ap (λ ps. held R ps (y ∷ q)) (paths_fork R t m e)
             ∙ pathed_more (nodes_of m.entries) y q
@@ -177,11 +190,39 @@ module _ {D A : Type 0} (R : D → D → Ordering) where
             ∙ (λ i. (is_eq (R x y) && leads R u q) || walk_on (λ w. leads R w q) (sym (fork_child R (made m) m (outs-Fork m) y) i))
 
   -- what is left under x
-  pub gone_left : (f : List D → Bool) (t : Trie D A) (x : D) → None ≡ child R t x → f ≡ but f (after x (leads R t))
-  gone_left f t x gone = pointwise (λ q. sym (and_yes (f q)) ∙ (λ i. f q && not (walk_on (λ w. leads R w q) (gone i))))
+  there_leads : (m : BTreeMap D (Arc (Trie D A) A) A) (x : D) (q : List D) → leads R (made m) (x ∷ q) ≡ walk_on (λ w. leads R w q) (node_of R m x)
+  there_leads m x q = ap (walk_on (λ w. leads R w q)) (fork_child R (made m) m (outs-Fork m) x)
 
-  pub known_left : (f : List D → Bool) (t : Trie D A) (x : D) (w : Trie D A) → Some w ≡ child R t x → but f (leads R w) ≡ but f (after x (leads R t))
-  known_left f t x w found = pointwise (λ q i. f q && not (walk_on (λ u. leads R u q) (found i)))
+  pub gone_left : (f : List D → Bool) (m : BTreeMap D (Arc (Trie D A) A) A) (x : D) → node_of R m x ≡ None → f ≡ but f (after x (leads R (made m)))
+  gone_left f m x gone = pointwise (λ q. sym (and_yes (f q)) ∙ (λ i. f q && not (sym (there_leads m x q ∙ ap (walk_on (λ w. leads R w q)) gone) i)))
+
+  pub known_left : (f : List D → Bool) (m : BTreeMap D (Arc (Trie D A) A) A) (x : D) (w : Trie D A) → node_of R m x ≡ Some w → but f (leads R w) ≡ but f (after x (leads R (made m)))
+  known_left f m x w found = pointwise (λ q i. f q && not (sym (there_leads m x q ∙ ap (walk_on (λ w. leads R w q)) found) i))
+
+  -- members
+  pub member_leads : (t : Trie D A) → out-Trie D A t ≡ Member → (x : D) (q : List D) → leads R t (x ∷ q) ≡ false
+  member_leads t e x q = ap (λ l. walk_on (λ u. leads R u q) (under R l x)) e
+
+  pub member_from_member : (t u : Trie D A) → out-Trie D A t ≡ Member → out-Trie D A u ≡ Member → nothing ≡ but (leads R t) (leads R u)
+  member_from_member t u e f = pointwise each
+    where
+      each : (q : List D) → false ≡ (leads R t q && not (leads R u q))
+      each [] = λ i. ends (sym e i) && not (ends (sym f i))
+      each (x ∷ q) = λ i. sym (member_leads t e x q) i && not (leads R u (x ∷ q))
+
+  pub member_from_fork : (t u : Trie D A) (m : BTreeMap D (Arc (Trie D A) A) A) → out-Trie D A t ≡ Member → out-Trie D A u ≡ Fork m → leads R t ≡ but (leads R t) (leads R u)
+  member_from_fork t u m e f = pointwise each
+    where
+      each : (q : List D) → leads R t q ≡ (leads R t q && not (leads R u q))
+      each [] = sym (and_yes (ends (out-Trie D A t))) ∙ (λ i. ends (out-Trie D A t) && not (ends (sym f i)))
+      each (x ∷ q) = member_leads t e x q ∙ (λ i. sym (member_leads t e x q) i && not (leads R u (x ∷ q)))
+
+  pub fork_from_member : (t u : Trie D A) (m : BTreeMap D (Arc (Trie D A) A) A) → out-Trie D A t ≡ Fork m → out-Trie D A u ≡ Member → leads R t ≡ but (leads R t) (leads R u)
+  fork_from_member t u m e f = pointwise each
+    where
+      each : (q : List D) → leads R t q ≡ (leads R t q && not (leads R u q))
+      each [] = ap ends e ∙ (λ i. ends (sym e i) && not (is_member u))
+      each (x ∷ q) = sym (and_yes (leads R t (x ∷ q))) ∙ (λ i. leads R t (x ∷ q) && not (sym (member_leads u f x q) i))
 
   -- keys that stay apart
   pub still_absent : (x : D) (m n : BTreeMap D (Arc (Trie D A) A) A) (es : List (D × Trie D A)) → AllByRecursion (λ k. R x k ≡ Less) (keys_of es) → AreAlikeBut R x m n →

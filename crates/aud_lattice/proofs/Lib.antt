@@ -15,7 +15,6 @@ pub mod Members
 pub mod Minimal
 pub mod Marked
 pub mod Tries
-pub mod Depths
-pub mod Rests
 pub mod Pathed
 pub mod Normed
+pub mod Settled

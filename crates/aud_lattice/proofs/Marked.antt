@@ -7,12 +7,12 @@ use Rattle.aud_lattice.specs.Covers.{begins, covers, extends, HasBeginning, Begi
 use Rattle.aud_lattice.specs.Marks.{mark_of}
 use Rattle.aud_lattice.proofs.Strict.{some_passes, one_passes}
 
-pub covered_only : (b c : Bool) → (if b then Covered else (if c then Inner else Outside)) ≡ Covered → b ≡ true
+covered_only : (b c : Bool) → (if b then Covered else (if c then Inner else Outside)) ≡ Covered → b ≡ true
 covered_only true c e = refl
 covered_only false true e = cc
 covered_only false false e = cc
 
-pub inner_only : (b c : Bool) → (if b then Covered else (if c then Inner else Outside)) ≡ Inner → (b ≡ false) × (c ≡ true)
+inner_only : (b c : Bool) → (if b then Covered else (if c then Inner else Outside)) ≡ Inner → (b ≡ false) × (c ≡ true)
 inner_only true c e = cc
 inner_only false true e = (refl, refl)
 inner_only false false e = cc

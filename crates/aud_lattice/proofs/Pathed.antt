@@ -16,17 +16,16 @@ use Rattle.aud_lattice.specs.Covers.{cover_cmp, begins, covers, extends, IsCover
 use Rattle.aud_lattice.proofs.Strict.{any_at, some_passes, one_passes}
 use Rattle.aud_lattice.specs.Covering.{begins_itself, begins_trans, same_cover, cover_with_list, covers-with_list, cover_cover_union, covers-cover_union}
 use Rattle.aud_lattice.specs.declared.trie.Trie.{Trie, out-Trie, roll-Trie, out-roll-Trie}
-use Rattle.aud_lattice.specs.declared.trie.Trie.TheOpen.{Trie-F, Rest, Fork}
+use Rattle.aud_lattice.specs.declared.trie.Trie.TheOpen.{Trie-F, Member, Fork}
 use Rattle.aud_lattice.specs.declared.trie.Trie.TheFolds.{fold_out-Trie, map-Trie, ind-Trie}
 use Rattle.aud_lattice.specs.Walks.{nodes_of, node_of, ends, IsLayer, is_member, child, walk_on, walk, walk_mark, mark_here, mark_on, end_mark, go_on, node_at, nothing, IsLive, IsTrie, IsWithin}
 use Rattle.aud_lattice.specs.declared.trie.Trie.TheShapes.{former-Trie-Fork-0}
 use Rattle.aud_lattice.specs.Marks.{mark_of}
 use Rattle.aud_lattice.specs.declared.mark.Mark.TheVariants.{Covered, Inner, Outside}
-use Rattle.aud_lattice.proofs.Marked.{covered_only, covered_mark, inner≢covered}
+use Rattle.aud_lattice.proofs.Marked.{inner≢covered}
 use Rattle.aud_lattice.specs.Paths.{below, layer_paths, paths}
 use Rattle.aud_lattice.proofs.Tries.{same_some, gone_on, any_by, any_by-get, good_here, good_child, live_child, parent_opened, fork_child, fork_member, pointwise, found_kids, sorted_nodes}
-use Rattle.aud_lattice.proofs.Rests.{absorbs, rest_walk, rest_marks}
-use Rattle.base_values.proofs.Bools.{is_false, or_nothing}
+use Rattle.base_values.proofs.Bools.{is_false}
 use Rattle.base_values.proofs.Results.{none≢some}
 
 pub on_found : {X : Type 0} (f g : X → Bool) (o : Option X) → ((u : X) → o ≡ Some u → f u ≡ g u) → walk_on f o ≡ walk_on g o
@@ -41,6 +40,10 @@ pub and_more : (b x y z : Bool) → ((b && x) || ((b && y) || z)) ≡ ((b && (x 
 and_more true true y z = refl
 and_more true false y z = refl
 and_more false x y z = refl
+
+absorbs : (a b : Bool) → (a ≡ true → b ≡ true) → b ≡ (a || b)
+absorbs true b h = h refl
+absorbs false b h = refl
 
 marked : (a b : Bool) (x y : Bool) → a ≡ x → b ≡ y → (if a then Covered else (if b then Inner else Outside)) ≡ (if x then Covered else (if y then Inner else Outside))
 marked a b x y e f i = if e i then Covered else (if f i then Inner else Outside)
@@ -106,8 +109,8 @@ module _ {D A : Type 0} (R : D → D → Ordering) where
   mapped [] = refl
   mapped (e ∷ es) = ap (λ r. (e.0, paths (arc_value e.1)) ∷ r) (mapped es)
 
-  pub paths_rest : (t : Trie D A) (r : List D) → out-Trie D A t ≡ Rest r → paths t ≡ r ∷ []
-  paths_rest t r e = fold_out-Trie D A (List (List D)) layer_paths t ∙ ap (λ o. layer_paths (map-Trie D A (Trie D A) (List (List D)) paths o)) e
+  pub paths_member : (t : Trie D A) → out-Trie D A t ≡ Member → paths t ≡ [] ∷ []
+  paths_member t e = fold_out-Trie D A (List (List D)) layer_paths t ∙ ap (λ o. layer_paths (map-Trie D A (Trie D A) (List (List D)) paths o)) e
 
   pub paths_fork : (t : Trie D A) (m : BTreeMap D (Arc (Trie D A) A) A) → out-Trie D A t ≡ Fork m → paths t ≡ pathed (nodes_of m.entries)
   paths_fork t m e = fold_out-Trie D A (List (List D)) layer_paths t ∙ ap (λ o. layer_paths (map-Trie D A (Trie D A) (List (List D)) paths o)) e ∙ ap below (mapped m.entries)
@@ -124,20 +127,20 @@ module _ {D A : Type 0} (R : D → D → Ordering) where
   opened_mark : (t : Trie D A) → is_member t ≡ false → (x : D) (q : List D) → walk_mark R t (x ∷ q) ≡ mark_on (λ u. walk_mark R u q) (child R t x)
   opened_mark t opened x q = ap (λ b. if b then Covered else mark_on (λ u. walk_mark R u q) (child R t x)) opened
 
-  one_covers : (t : Trie D A) (r : List D) → out-Trie D A t ≡ Rest r → (q : List D) → covers R (paths t) q ≡ walk R t q
-  one_covers t r e q = ap (λ ps. covers R ps q) (paths_rest t r e) ∙ or_nothing (begins R r q) ∙ (λ i. sym (rest_walk R r t e) i q)
+  pub member_mark : (t : Trie D A) (x : D) (q : List D) → is_member t ≡ true → walk_mark R t (x ∷ q) ≡ Covered
+  member_mark t x q e = ap (λ b. if b then Covered else mark_on (λ u. walk_mark R u q) (child R t x)) e
 
   module _ (o : IsTotalOrder R) (ex : IsExact R) where
     pub covers-paths : (q : List D) (t : Trie D A) → IsTrie R t → covers R (paths t) q ≡ walk R t q
     covers-paths [] t h = cases (out-Trie D A t) refl
       where
         cases : (l : Trie-F D A (Trie D A)) → out-Trie D A t ≡ l → covers R (paths t) [] ≡ is_member t
-        cases (Rest r) e = one_covers t r e []
+        cases Member e = ap (λ ps. covers R ps []) (paths_member t e) ∙ sym (ap ends e)
         cases (Fork m) e = ap (λ ps. covers R ps []) (paths_fork t m e) ∙ pathed_nil (nodes_of m.entries) ∙ sym (ap ends e)
     covers-paths (y ∷ q) t h = cases (λ u g. covers-paths q u g) (out-Trie D A t) refl
       where
         cases : ((u : Trie D A) → IsTrie R u → covers R (paths u) q ≡ walk R u q) → (l : Trie-F D A (Trie D A)) → out-Trie D A t ≡ l → covers R (paths t) (y ∷ q) ≡ walk R t (y ∷ q)
-        cases further (Rest r) e = one_covers t r e (y ∷ q)
+        cases further Member e = ap (λ ps. covers R ps (y ∷ q)) (paths_member t e) ∙ (λ i. ends (sym e i) || walk_on (λ u. walk R u q) (child R t y))
         cases further (Fork m) e =
             ap (λ ps. covers R ps (y ∷ q)) (paths_fork t m e)
             ∙ pathed_more (nodes_of m.entries) y q
@@ -165,7 +168,7 @@ module _ {D A : Type 0} (R : D → D → Ordering) where
 
     layer_cover : (y : Trie-F D A ((u : Trie D A) × (IsTrie R u → IsCover R (paths u)))) (t : Trie D A) → out-Trie D A t ≡ map-Trie D A ((u : Trie D A) × (IsTrie R u → IsCover R (paths u))) (Trie D A) (λ e. e.0) y → IsTrie R t → IsCover R (paths t)
     unfolding IsStrictlySortedBy
-    layer_cover (Rest r) t e h = subst (IsCover R) (sym (paths_rest t r e)) (tt, tt)
+    layer_cover Member t e h = subst (IsCover R) (sym (paths_member t e)) (tt, tt)
     layer_cover (Fork m) t e h = subst (IsCover R) (sym (paths_fork t _ e)) (cover_pathed o _ (sorted_nodes R (kept_nodes t m) (subst (IsLayer R) e (good_here R t h))) (each_nodes t h m.entries (found_kids R o ex t _ e (subst (IsLayer R) e (good_here R t h)))))
 
     pub cover-paths : (t : Trie D A) → IsTrie R t → IsCover R (paths t)
@@ -225,12 +228,12 @@ module _ {D A : Type 0} (R : D → D → Ordering) where
     marks [] t h = cases (out-Trie D A t) refl
       where
         cases : (l : Trie-F D A (Trie D A)) → out-Trie D A t ≡ l → walk_mark R t [] ≡ mark_of R (paths t) []
-        cases (Rest r) e = rest_marks R o [] r t e ∙ sym (ap (λ ps. mark_of R ps []) (paths_rest t r e))
+        cases Member e = ap mark_here e ∙ sym (ap (λ ps. mark_of R ps []) (paths_member t e))
         cases (Fork m) e = ap mark_here e ∙ end_marks t (nodes_of m.entries) (found_kids R o ex t m e (subst (IsLayer R) e (good_here R t h))) h ∙ sym (ap (λ ps. mark_of R ps []) (paths_fork t m e))
     marks (y ∷ q) t h = cases (λ u g. marks q u g) (out-Trie D A t) refl
       where
         cases : ((u : Trie D A) → IsTrie R u → walk_mark R u q ≡ mark_of R (paths u) q) → (l : Trie-F D A (Trie D A)) → out-Trie D A t ≡ l → walk_mark R t (y ∷ q) ≡ mark_of R (paths t) (y ∷ q)
-        cases further (Rest r) e = rest_marks R o (y ∷ q) r t e ∙ sym (ap (λ ps. mark_of R ps (y ∷ q)) (paths_rest t r e))
+        cases further Member e = member_mark t y q (ap ends e) ∙ sym (ap (λ ps. mark_of R ps (y ∷ q)) (paths_member t e))
         cases further (Fork m) e =
             opened_mark t (fork_member R t m e) y q
             ∙ ap (mark_on (λ u. walk_mark R u q)) (fork_child R t m e y)
@@ -239,29 +242,6 @@ module _ {D A : Type 0} (R : D → D → Ordering) where
             (pathed_more (nodes_of m.entries) y q ∙ any_by-get R (λ u r. covers R (paths u) r) o ex (nodes_of m.entries) (sorted_nodes R m (subst (IsLayer R) e (good_here R t h))) y q)
             (pathed_begins (nodes_of m.entries) y q ∙ any_by-get R (λ u r. extends R (paths u) r) o ex (nodes_of m.entries) (sorted_nodes R m (subst (IsLayer R) e (good_here R t h))) y q))
             ∙ sym (ap (λ ps. mark_of R ps (y ∷ q)) (paths_fork t m e))
-
-    -- what has a beginning is marked so, and stays so as it goes on
-    pub covered_walk : (t : Trie D A) → IsTrie R t → (q : List D) → walk_mark R t q ≡ Covered → walk R t q ≡ true
-    covered_walk t h q e = sym (covers-paths o ex q t h) ∙ covered_only (covers R (paths t) q) (extends R (paths t) q) (sym (marks q t h) ∙ e)
-
-    walk_covered : (t : Trie D A) → IsTrie R t → (q : List D) → walk R t q ≡ true → walk_mark R t q ≡ Covered
-    walk_covered t h q e = marks q t h ∙ covered_mark R (paths t) q (covers-paths o ex q t h ∙ e)
-
-    longer_walk : (t : Trie D A) → IsTrie R t → (p q : List D) → walk R t p ≡ true → begins R p q ≡ true → walk R t q ≡ true
-    longer_walk t h p q e k =
-        let found = some_passes (λ r. begins R r p) (paths t) (covers-paths o ex p t h ∙ e) in
-        sym (covers-paths o ex q t h) ∙ one_passes (λ r. begins R r q) (paths t) found.0 found.1 (begins_trans o found.0 p q found.2 k)
-
-    -- one list is within a trie just where it is covered
-    pub rest_within : (t u : Trie D A) (r : List D) → out-Trie D A t ≡ Rest r → IsTrie R u → (walk_mark R u r ≡ Covered) ↔ IsWithin (walk R t) (walk R u)
-    rest_within t u r at h = (
-      λ e. record { at = λ q k. longer_walk u h r q (covered_walk u h r e) ((λ i. sym (rest_walk R r t at) i q) ∙ k) },
-      λ w. walk_covered u h r (w.at r ((λ i. rest_walk R r t at i r) ∙ begins_itself o r)),
-    )
-
-    -- what is within a trie adds nothing to it
-    pub within_joins : (t u : Trie D A) → IsWithin (walk R t) (walk R u) → walk R u ≡ either (walk R t) (walk R u)
-    within_joins t u w = pointwise (λ q. absorbs (walk R t q) (walk R u q) (w.at q))
 
     pub both_within : (x y : Trie D A) → IsTrie R x → IsTrie R y → IsWithin (walk R x) (walk R y) → IsWithin (walk R y) (walk R x) → paths x ≡ paths y
     both_within x y h g v w = same_paths y x g h (pointwise (λ q. both_ways (walk R x q) (walk R y q) (v.at q) (w.at q)))
@@ -286,12 +266,8 @@ module _ {D A : Type 0} (R : D → D → Ordering) where
   inner_opened t = cases (out-Trie D A t)
     where
       cases : (l : Trie-F D A (Trie D A)) → mark_here l ≡ Inner → ends l ≡ false
-      cases (Rest []) e = absurd (inner≢covered (sym e))
-      cases (Rest (x ∷ r)) e = refl
+      cases Member e = absurd (inner≢covered (sym e))
       cases (Fork m) e = refl
-
-  pub member_mark : (t : Trie D A) (x : D) (q : List D) → is_member t ≡ true → walk_mark R t (x ∷ q) ≡ Covered
-  member_mark t x q e = ap (λ b. if b then Covered else mark_on (λ u. walk_mark R u q) (child R t x)) e
 
   pub gone_mark : (t : Trie D A) (x : D) (q : List D) → is_member t ≡ false → child R t x ≡ None → walk_mark R t (x ∷ q) ≡ Outside
   gone_mark t x q opened gone = opened_mark t opened x q ∙ ap (mark_on (λ u. walk_mark R u q)) gone

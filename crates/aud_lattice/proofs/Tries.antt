@@ -1,5 +1,5 @@
 -- One layer of a trie, and all below it.
-use Rattle.std.proofs.Common.{◌≡◌, ◌≢◌, ◌↔◌, ℕ, ◌<◌, ◌≤◌, Bool, true, false, cond, ◌||◌, ◌&&◌, List, [], ◌∷◌, Option, Some, None, refl, sym, ap, subst, ◌∙◌, length, slice_get, IfSome, arith}
+use Rattle.std.proofs.Common.{◌≡◌, ◌≢◌, ℕ, ◌<◌, ◌≤◌, Bool, true, false, cond, ◌||◌, ◌&&◌, List, [], ◌∷◌, Option, Some, None, refl, sym, ap, subst, ◌∙◌, length, slice_get, IfSome, arith}
 use mathlib.Core.Bool.{true≢false}
 use Rattle.std.specs.declared.cmp.Ordering.{Ordering}
 use Rattle.std.specs.declared.cmp.Ordering.TheVariants.{Less, Equal, Greater}
@@ -19,9 +19,9 @@ use Rattle.aud_lattice.specs.Covering.{begins_itself}
 use Rattle.aud_lattice.specs.declared.trie.Trie.{Trie, out-Trie, size-Trie, size_is-Trie}
 use Rattle.aud_lattice.specs.declared.trie.Trie.TheBlock.{weighs-Trie, the_members, the_sigs, the_carrier, the_depth}
 use denote.Hole.Carrier.{Values}
-use Rattle.aud_lattice.specs.declared.trie.Trie.TheVariants.{Fork as made, outs-Fork, Rest as made_rest}
+use Rattle.aud_lattice.specs.declared.trie.Trie.TheVariants.{Fork as made, outs-Fork, Member as made_member, outs-Member}
 use Rattle.aud_lattice.specs.Sets.{either}
-use Rattle.aud_lattice.specs.declared.trie.Trie.TheOpen.{Trie-F, Rest, Fork}
+use Rattle.aud_lattice.specs.declared.trie.Trie.TheOpen.{Trie-F, Member, Fork}
 use Rattle.aud_lattice.specs.Walks.{nodes_of, node_of, ends, under, IsLayer, is_member, child, walk_on, walk, nothing, go_on, node_at, starts, IsLive, IsTrie, IsMet, IsWithin}
 use Rattle.base_values.proofs.Bools.{or_nothing, is_false, or_always}
 use Rattle.base_values.proofs.Results.{none≢some}
@@ -54,7 +54,7 @@ pub gone_on : {X Y : Type 0} (f : X → Option Y) (o : Option X) (y : Y) → go_
 gone_on f None y e = absurd (none≢some y e)
 gone_on f (Some x) y e = (x, refl, e)
 
-pub or_left : (a b : Bool) → (a || b) ≡ false → a ≡ false
+or_left : (a b : Bool) → (a || b) ≡ false → a ≡ false
 or_left true b e = e
 or_left false b e = refl
 
@@ -209,9 +209,8 @@ module _ {D A : Type 0} (R : D → D → Ordering) where
   member_walk t e [] = e
   member_walk t e (x ∷ q) = ap (λ b. b || walk_on (λ u. walk R u q) (child R t x)) e
 
-  member_child : (f : Trie-F D A (Trie D A)) (x : D) (u : Trie D A) → ends f ≡ true → under made_rest R f x ≡ Some u → ⊥
-  member_child (Rest []) x u e c = none≢some u c
-  member_child (Rest (y ∷ r)) x u e c = true≢false (sym e)
+  member_child : (f : Trie-F D A (Trie D A)) (x : D) (u : Trie D A) → ends f ≡ true → under R f x ≡ Some u → ⊥
+  member_child Member x u e c = none≢some u c
   member_child (Fork m) x u e c = true≢false (sym e)
 
   -- a trie with something under an element is no member
@@ -219,7 +218,7 @@ module _ {D A : Type 0} (R : D → D → Ordering) where
   parent_opened t x u c = is_false (is_member t) (λ e. member_child (out-Trie D A t) x u e c)
 
   member_layer : (f : Trie-F D A (Trie D A)) → ends f ≡ true → IsLayer R f
-  member_layer (Rest r) e = tt
+  member_layer Member e = tt
   member_layer (Fork m) e = absurd (true≢false (sym e))
 
   pub member_good : (t : Trie D A) → is_member t ≡ true → IsTrie R t
@@ -264,7 +263,7 @@ module _ {D A : Type 0} (R : D → D → Ordering) where
     fork_member = ap ends at
 
     pub fork_child : (x : D) → child R t x ≡ node_of R m x
-    fork_child x = ap (λ f. under made_rest R f x) at
+    fork_child x = ap (λ f. under R f x) at
 
     pub fork_layer : IsOrdered R m → IsLayer R (out-Trie D A t)
     fork_layer s = subst (IsLayer R) (sym at) s
@@ -290,7 +289,7 @@ module _ {D A : Type 0} (R : D → D → Ordering) where
       opened = fork_member;
       stays = ap ends to;
       layer = subst (IsLayer R) (sym to) s;
-      kids = λ y. ap (λ f. under made_rest R f y) to ∙ kids y ∙ (λ i. cond (is_eq (R x y)) (Some u) (sym (fork_child y) i));
+      kids = λ y. ap (λ f. under R f y) to ∙ kids y ∙ (λ i. cond (is_eq (R x y)) (Some u) (sym (fork_child y) i));
     }
 
   -- the same, for nodes with a map
@@ -319,13 +318,26 @@ module _ {D A : Type 0} (R : D → D → Ordering) where
             (fork_member (made n) n (outs-Fork n) ∙ sym (fork_member (made m) m (outs-Fork m))) i
             || walk_on (λ u. walk R u q) ((fork_child (made n) n (outs-Fork n) x ∙ same x ∙ sym (fork_child (made m) m (outs-Fork m) x)) i)
 
+  pub member_is_good : IsTrie {A = A} R made_member
+  member_is_good = member_good made_member (ap ends outs-Member)
+
   pub live_as : (u : Trie D A) (f : List D → Bool) → walk R u ≡ f → (((q : List D) → f q ≡ false) → ⊥) → IsLive R u
   live_as u f e live none = live (λ q. (λ i. sym e i q) ∙ none q)
 
+  pub member_keeps : (f : List D → Bool) → walk {A = A} R made_member ≡ either f (walk {A = A} R made_member)
+  member_keeps f = pointwise (λ q. member_walk made_member (ap ends outs-Member) q ∙ sym (or_always (f q)) ∙ (λ i. f q || sym (member_walk made_member (ap ends outs-Member) q) i))
+
   -- the empty list begins all
-  pub nil_covers : (t : Trie D A) (l : List D) (f : List D → Bool) → walk R t ≡ begins R [] → length l ≡ 0 → walk R t ≡ either (begins R l) f
-  nil_covers t [] f is e = is
-  nil_covers t (x ∷ l) f is e = absurd (omega (arith, e))
+  pub nil_covers : (l : List D) (f : List D → Bool) → length l ≡ 0 → walk {A = A} R made_member ≡ either (begins R l) f
+  nil_covers [] f e = pointwise (λ q. member_walk made_member (ap ends outs-Member) q)
+  nil_covers (x ∷ l) f e = absurd (omega (arith, e))
+
+  pub member_joins : (f : List D → Bool) → walk {A = A} R made_member ≡ either (walk {A = A} R made_member) f
+  member_joins f = pointwise (λ q. member_walk made_member (ap ends outs-Member) q ∙ (λ i. sym (member_walk made_member (ap ends outs-Member) q) i || f q))
+
+  pub nil_begins : (l : List D) → length l ≡ 0 → walk {A = A} R made_member ≡ begins R l
+  nil_begins [] e = pointwise (λ q. member_walk made_member (ap ends outs-Member) q)
+  nil_begins (x ∷ l) e = absurd (omega (arith, e))
 
   pub alone : (x : D) (p l : List D) (t s : Trie D A) → l ≡ x ∷ p → walk R t ≡ either (starts R x (begins R p)) (walk R s) → ((q : List D) → walk R s q ≡ false) → walk R t ≡ begins R l
   alone x p l t s e h none = h ∙ pointwise (λ q. (λ i. starts R x (begins R p) q || none q i) ∙ or_nothing (starts R x (begins R p) q)) ∙ (λ i. sym (begins-starts R x p) i) ∙ (λ i. begins R (sym e i))
@@ -475,48 +487,46 @@ module _ {D A : Type 0} (R : D → D → Ordering) where
       cases later true h = let same : f (arc_value d.1) ≡ f u = ap f (same_some (arc_value d.1) u h) in omega (arith, same)
       cases later false h = let small : f u ≤ most (λ a. f (arc_value a)) (values_of es) = later h in omega (arith, small)
 
-  abbrev layer_weight : Trie-F D A (Trie D A) → ℕ
-  layer_weight l = (weighs-Trie D A).weight (Values (the_members D A) (the_sigs D A) (the_carrier D A)) (the_depth D A) l
-
-  fork_size : (m : BTreeMap D (Arc (Trie D A) A) A) (x : D) (u : Trie D A) → node_of R m x ≡ Some u → size-Trie D A u ≤ layer_weight (Fork m)
-  fork_size m x u e = let h = most_found (size-Trie D A) (is_at (R x)) m.entries u e in omega (arith, h)
+  layer_size : (o : Trie-F D A (Trie D A)) (x : D) (u : Trie D A) → under R o x ≡ Some u → size-Trie D A u ≤ (weighs-Trie D A).weight (Values (the_members D A) (the_sigs D A) (the_carrier D A)) (the_depth D A) o
+  layer_size Member x u e = absurd (none≢some u e)
+  layer_size (Fork m) x u e = let h = most_found (size-Trie D A) (is_at (R x)) m.entries u e in omega (arith, h)
 
   abbrev nodes_in : Trie-F D A (Trie D A) → List (D × Trie D A)
-  nodes_in (Rest r) = []
+  nodes_in Member = []
   nodes_in (Fork m) = nodes_of m.entries
 
   each_below : (f : Trie D A → ℕ) (k : ℕ) (es : List (D × Arc (Trie D A) A)) → most (λ a. f (arc_value a)) (values_of es) < k → AllByRecursion (λ e. f e.1 < k) (nodes_of es)
   each_below f k [] h = tt
   each_below f k (d ∷ es) h = (omega (arith, h), each_below f k es (omega (arith, h)))
 
-  layer_below : (o : Trie-F D A (Trie D A)) (k : ℕ) → layer_weight o < k → AllByRecursion (λ e. size-Trie D A e.1 < k) (nodes_in o)
-  layer_below (Rest r) k h = tt
+  layer_below : (o : Trie-F D A (Trie D A)) (k : ℕ) → (weighs-Trie D A).weight (Values (the_members D A) (the_sigs D A) (the_carrier D A)) (the_depth D A) o < k → AllByRecursion (λ e. size-Trie D A e.1 < k) (nodes_in o)
+  layer_below Member k h = tt
   layer_below (Fork m) k h = each_below (size-Trie D A) k m.entries (omega (arith, h))
 
   pub nodes_small : (t : Trie D A) (m : BTreeMap D (Arc (Trie D A) A) A) → out-Trie D A t ≡ Fork m → AllByRecursion (λ e. size-Trie D A e.1 < size-Trie D A t) (nodes_of m.entries)
   nodes_small t m at = subst (AllByRecursion (λ e. size-Trie D A e.1 < size-Trie D A t)) (ap nodes_in at) (layer_below (out-Trie D A t) (size-Trie D A t) (let s = size_is-Trie D A t in omega (arith, s)))
 
   -- the depth of a node is more than its kids'
-  pub child_size : (t : Trie D A) (m : BTreeMap D (Arc (Trie D A) A) A) → out-Trie D A t ≡ Fork m → (x : D) (u : Trie D A) → child R t x ≡ Some u → size-Trie D A u < size-Trie D A t
-  child_size t m at x u c =
-      let h : size-Trie D A u ≤ layer_weight (out-Trie D A t) = subst (λ l. size-Trie D A u ≤ layer_weight l) (sym at) (fork_size m x u (sym (fork_child t m at x) ∙ c)) in
-      let s = size_is-Trie D A t in
-      omega (arith, h, s)
+  pub child_size : (t : Trie D A) (x : D) (u : Trie D A) → child R t x ≡ Some u → size-Trie D A u < size-Trie D A t
+  child_size t x u e = let h = layer_size (out-Trie D A t) x u e in let s = size_is-Trie D A t in omega (arith, h, s)
 
   pub member_holds : (f : List D → Bool) (t : Trie D A) → is_member t ≡ true → IsWithin f (walk R t)
   member_holds f t e = record { at = λ q _. member_walk t e q }
 
-  module _ (o : IsTotalOrder R) (ex : IsExact R) (t : Trie D A) (x : D) (n : Trie D A) (opened : is_member t ≡ false) where
-    there_walk : (q : List D) → walk R t (x ∷ q) ≡ walk_on (λ w. walk R w q) (child R t x)
-    there_walk q = λ i. opened i || walk_on (λ w. walk R w q) (child R t x)
+  pub member_not_within : (t u : Trie D A) → is_member t ≡ true → is_member u ≡ false → IsWithin (walk R t) (walk R u) → ⊥
+  member_not_within t u e f w = true≢false (sym (w.at [] e) ∙ f)
+
+  module _ (o : IsTotalOrder R) (ex : IsExact R) (t : Trie D A) (m : BTreeMap D (Arc (Trie D A) A) A) (at : out-Trie D A t ≡ Fork m) (x : D) (n : Trie D A) where
+    there_walk : (q : List D) → walk R t (x ∷ q) ≡ walk_on (λ w. walk R w q) (node_of R m x)
+    there_walk q = λ i. fork_member t m at i || walk_on (λ w. walk R w q) (fork_child t m at x i)
 
     starts_here : (q : List D) → starts R x (walk R n) (x ∷ q) ≡ walk R n q
     starts_here q = ap (λ r. is_eq r && walk R n q) (tied_itself o x)
 
-    pub gone_not_within : child R t x ≡ None → IsLive R n → IsWithin (starts R x (walk R n)) (walk R t) → ⊥
+    pub gone_not_within : node_of R m x ≡ None → IsLive R n → IsWithin (starts R x (walk R n)) (walk R t) → ⊥
     gone_not_within gone live w = live (λ q. is_false (walk R n q) (λ e. true≢false (sym (w.at (x ∷ q) (starts_here q ∙ e)) ∙ there_walk q ∙ ap (walk_on (λ w. walk R w q)) gone)))
 
-    module _ (k : Trie D A) (found : child R t x ≡ Some k) where
+    module _ (k : Trie D A) (found : node_of R m x ≡ Some k) where
       pub known_within : IsWithin (walk R n) (walk R k) → IsWithin (starts R x (walk R n)) (walk R t)
       known_within w = record { at = each }
         where
@@ -530,8 +540,3 @@ module _ {D A : Type 0} (R : D → D → Ordering) where
 
       pub within_known : IsWithin (starts R x (walk R n)) (walk R t) → IsWithin (walk R n) (walk R k)
       within_known w = record { at = λ q e. sym (ap (walk_on (λ w. walk R w q)) found) ∙ sym (there_walk q) ∙ w.at (x ∷ q) (starts_here q ∙ e) }
-
-  -- where nothing stands under x, all that begins with it is within just where a member is
-  pub end_within : IsTotalOrder R → IsExact R → (t : Trie D A) (x : D) (n : Trie D A) (b : Bool) → b ≡ is_member t → None ≡ child R t x → IsLive R n → (b ≡ true) ↔ IsWithin (starts R x (walk R n)) (walk R t)
-  end_within o ex t x n true is gone live = (λ _. member_holds (starts R x (walk R n)) t (sym is), λ _. refl)
-  end_within o ex t x n false is gone live = (λ e. absurd (true≢false (sym e)), λ w. absurd (gone_not_within o ex t x n (sym is) (sym gone) live w))

@@ -9,7 +9,7 @@ pub mod Marks
 pub mod Norms
 pub mod Walks
 pub mod Paths
-pub mod Places
 pub mod Sorted
 pub mod Covering
 pub mod Leasts
+pub mod Nodes

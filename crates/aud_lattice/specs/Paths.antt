@@ -1,7 +1,7 @@
 -- The lists of a trie: the paths to its members.
 use Rattle.std.specs.Prelude.{List, [], ◌∷◌, ◌++◌, map}
 use Rattle.aud_lattice.specs.declared.trie.Trie.{Trie}
-use Rattle.aud_lattice.specs.declared.trie.Trie.TheOpen.{Trie-F, Rest, Fork}
+use Rattle.aud_lattice.specs.declared.trie.Trie.TheOpen.{Trie-F, Member, Fork}
 use Rattle.aud_lattice.specs.declared.trie.Trie.TheFolds.{fold-Trie}
 use Rattle.aud_lattice.specs.Walks.{nodes_of}
 
@@ -12,7 +12,7 @@ below (e ∷ es) = map (λ p. e.0 ∷ p) e.1 ++ below es
 
 -- one layer, with the lists of each node under it
 abbrev pub layer_paths : {D A : Type 0} → Trie-F D A (List (List D)) → List (List D)
-layer_paths (Rest rest) = rest ∷ []
+layer_paths Member = [] ∷ []
 layer_paths (Fork next) = below (nodes_of next.entries)
 
 -- the paths to the members, least first

@@ -12,8 +12,8 @@ use Rattle.aud_lattice.specs.Sets.{either}
 use Rattle.aud_lattice.specs.declared.mark.Mark.{Mark}
 use Rattle.aud_lattice.specs.declared.mark.Mark.TheVariants.{Covered, Inner, Outside}
 use Rattle.aud_lattice.specs.declared.trie.Trie.{Trie, out-Trie}
-use Rattle.aud_lattice.specs.declared.trie.Trie.TheOpen.{Trie-F, Rest, Fork}
-use Rattle.aud_lattice.specs.declared.trie.Trie.TheVariants.{Fork as fork, Rest as one_rest}
+use Rattle.aud_lattice.specs.declared.trie.Trie.TheOpen.{Trie-F, Member, Fork}
+use Rattle.aud_lattice.specs.declared.trie.Trie.TheVariants.{Fork as fork}
 
 -- the entries of a node, each with the node that it shares
 abbrev pub nodes_of : {D X A : Type 0} → List (D × Arc X A) → List (D × X)
@@ -26,18 +26,15 @@ node_of cmp next x = lookup (is_at (cmp x)) (nodes_of next.entries)
 
 -- one layer, with any kind of nodes under it
 abbrev pub ends : {D A X : Type 0} → Trie-F D A X → Bool
-ends (Rest []) = true
-ends (Rest (y ∷ rest)) = false
+ends Member = true
 ends (Fork next) = false
 
--- under what is left of a list stands what is left after its first element, as the first argument makes it
-abbrev pub under : {D A X : Type 0} → (List D → X) → (D → D → Ordering) → Trie-F D A X → D → Option X
-under made cmp (Rest []) x = None
-under made cmp (Rest (y ∷ rest)) x = cond (is_eq (cmp y x)) (Some (made rest)) None
-under made cmp (Fork next) x = node_of cmp next x
+abbrev pub under : {D A X : Type 0} → (D → D → Ordering) → Trie-F D A X → D → Option X
+under cmp Member x = None
+under cmp (Fork next) x = node_of cmp next x
 
 abbrev pub IsLayer : {D A X : Type 0} → (D → D → Ordering) → Trie-F D A X → Type 0
-IsLayer cmp (Rest rest) = ⊤
+IsLayer cmp Member = ⊤
 IsLayer cmp (Fork next) = IsOrdered cmp next
 
 -- whether the node is a member
@@ -45,7 +42,7 @@ abbrev pub is_member : {D A : Type 0} → Trie D A → Bool
 is_member {D} {A} t = ends (out-Trie D A t)
 
 abbrev pub child : {D A : Type 0} → (D → D → Ordering) → Trie D A → D → Option (Trie D A)
-child {D} {A} cmp t x = under one_rest cmp (out-Trie D A t) x
+child {D} {A} cmp t x = under cmp (out-Trie D A t) x
 
 abbrev pub walk_on : {X : Type 0} → (X → Bool) → Option X → Bool
 walk_on f None = false
@@ -109,8 +106,7 @@ mark_on f None = Outside
 mark_on f (Some u) = f u
 
 abbrev pub mark_here : {D A X : Type 0} → Trie-F D A X → Mark
-mark_here (Rest []) = Covered
-mark_here (Rest (y ∷ rest)) = Inner
+mark_here Member = Covered
 mark_here (Fork next) = end_mark (nodes_of next.entries)
 
 abbrev pub walk_mark : {D A : Type 0} → (D → D → Ordering) → Trie D A → List D → Mark
@@ -126,21 +122,17 @@ now_of old (Some new) = new
 abbrev pub IsAdded : {D A : Type 0} → (D → D → Ordering) → List D → Trie D A → Trie D A → Type 0
 IsAdded cmp added old new = walk cmp new ≡ either (begins cmp added) (walk cmp old)
 
--- a list has a beginning in the trie where one of the two begins it
-abbrev pub HasBoth : {D A : Type 0} → (D → D → Ordering) → List D → List D → Trie D A → Type 0
-HasBoth cmp one other t = walk cmp t ≡ either (begins cmp other) (begins cmp one)
-
 -- a list has a beginning in the new trie where it has one in one of the others
 abbrev pub AreJoined : {D A : Type 0} → (D → D → Ordering) → Trie D A → Trie D A → Trie D A → Type 0
 AreJoined cmp from old new = walk cmp new ≡ either (walk cmp from) (walk cmp old)
 
 -- what the node passes that they do not pass under x
-abbrev pub left_under : {D A : Type 0} → (D → D → Ordering) → D → Trie D A → Trie D A → List D → Bool
-left_under cmp x node theirs = but (leads cmp node) (after x (leads cmp theirs))
+abbrev pub left_under : {D A : Type 0} → (D → D → Ordering) → D → Trie D A → BTreeMap D (Arc (Trie D A) A) A → List D → Bool
+left_under cmp x node theirs = but (leads cmp node) (after x (leads cmp (fork theirs)))
 
 -- the nodes lead to what they led to, and after x to what the node leads to and they do not
-abbrev pub LeavesUnder : {D A : Type 0} → (D → D → Ordering) → D → Trie D A → Trie D A → BTreeMap D (Arc (Trie D A) A) A → BTreeMap D (Arc (Trie D A) A) A → Type 0
-LeavesUnder cmp x node theirs old new = leads cmp (fork new) ≡ either (but (starts cmp x (leads cmp node)) (leads cmp theirs)) (leads cmp (fork old))
+abbrev pub LeavesUnder : {D A : Type 0} → (D → D → Ordering) → D → Trie D A → BTreeMap D (Arc (Trie D A) A) A → BTreeMap D (Arc (Trie D A) A) A → BTreeMap D (Arc (Trie D A) A) A → Type 0
+LeavesUnder cmp x node theirs old new = leads cmp (fork new) ≡ either (but (starts cmp x (leads cmp node)) (leads cmp (fork theirs))) (leads cmp (fork old))
 
 -- f passes nothing; or a new node is to stand there, that leads to just what it passes
 abbrev pub IsLeft : {D A : Type 0} → (D → D → Ordering) → (List D → Bool) → Option (Arc (Trie D A) A) → Type 0

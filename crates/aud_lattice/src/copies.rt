@@ -14,24 +14,13 @@ pub fn push_copy<T: Dup, A: Allocator>(all: &mut Vec<T, A>, item: &T) -> Result<
     Ok(())
 }
 
-/// Puts copies of the items at the end.
-pub fn push_copies<T: Dup, A: Allocator>(
-    all: &mut Vec<T, A>,
-    items: &[T],
-) -> Result<(), OutOfMemory>
-    ensures { OnOk result (all.new.items ≡ all.old.items ++ items.now) }
-{
-    for item in items {
-        push_copy(all, item)?;
-    }
-    Ok(())
-}
-
 /// A list with copies of the items.
 pub fn copied<T: Dup, A: Allocator>(alloc: A, items: &[T]) -> Result<Vec<T, A>, OutOfMemory>
     ensures { IfOk result (λ all. all.items ≡ items.now) }
 {
     let mut all = Vec::with_capacity(alloc, items.len())?;
-    push_copies(&mut all, items)?;
+    for item in items {
+        push_copy(&mut all, item)?;
+    }
     Ok(all)
 }

@@ -158,7 +158,7 @@ fn without<D: Key + Dup, A: Allocator + Copy>(
     ensures cover { IfOk result (λ t. IsCover D.Ord.cmp (paths t)) }
     ensures members { IfOk result (λ t. IsWithout (paths root.now) (paths other.now) (paths t)) }
 {
-    root.without(&other.place(), alloc)
+    root.without(other, alloc)
 }
 
 fn covers_each<D: Key + Dup, A: Allocator + Copy>(root: &Trie<D, A>, other: &Trie<D, A>) -> bool
@@ -166,7 +166,7 @@ fn covers_each<D: Key + Dup, A: Allocator + Copy>(root: &Trie<D, A>, other: &Tri
     requires other { IsTrie D.Ord.cmp other.now }
     ensures { IsTrue result ↔ All (λ list. covers D.Ord.cmp (paths root.now) list ≡ true) (paths other.now) }
 {
-    other.is_within(&root.place())
+    other.is_within(root)
 }
 
 fn join_with<D: Key + Dup, A: Allocator + Copy>(
@@ -193,8 +193,8 @@ fn same_tries<D: Key + Dup, A: Allocator + Copy>(x: &Trie<D, A>, y: &Trie<D, A>)
     ensures same { IsTrue result ↔ (paths x.now ≡ paths y.now) }
     ensures covers { IsTrue result ↔ (covers D.Ord.cmp (paths x.now) ≡ covers D.Ord.cmp (paths y.now)) }
 {
-    if x.is_within(&y.place()) {
-        y.is_within(&x.place())
+    if x.is_within(y) {
+        y.is_within(x)
     } else {
         false
     }

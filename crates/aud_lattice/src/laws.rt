@@ -1,8 +1,10 @@
 //! The laws of covers as facts that a caller's proof can take.
 
+ghost use Rattle.aud_lattice.specs.Nodes.{AreSettled};
 ghost use Rattle.aud_lattice.specs.Norms.{IsNormOfUnion, IsNormWithNorm, IsNormOfFirsts};
 
-use base_values::Key;
+use base_values::{Dup, Key};
+use std::alloc::Allocator;
 
 /// The cover of a union is the cover of the covers.
 #[tactic(auto, using(crate::proofs::Normed::norm_of_union))]
@@ -20,4 +22,10 @@ pub fn norm_with_norm<D: Key>()
 #[tactic(auto, using(crate::proofs::Normed::norm_of_firsts))]
 pub fn norm_of_firsts<D: Key>()
     ensures { IsNormOfFirsts D.Ord.cmp }
+{}
+
+/// Tries of the same lists have the same nodes, and the same of them are members.
+#[tactic(auto, using(crate::proofs::Settled::settled))]
+pub fn tries_are_settled<D: Key + Dup, A: Allocator + Copy>()
+    ensures { AreSettled A D.Ord.cmp }
 {}

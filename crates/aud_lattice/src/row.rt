@@ -1,12 +1,12 @@
 //! Lists of elements, as covers keep them.
 
-ghost use Rattle.std.specs.Prelude.{◌≡◌, ◌++◌, [], List, IfOk, refl};
+ghost use Rattle.std.specs.Prelude.{◌≡◌, List, IfOk, refl};
 ghost use Rattle.std.specs.Cmp.Lexicographic.{slice_cmp, lists_total};
 ghost use Rattle.std.specs.Cmp.{po, eq_by_cmp_equiv, partial_equiv_from_equiv};
 ghost use Rattle.std.specs.Ordering.{eq_by_cmp, as_partial_cmp};
 ghost use Rattle.std.specs.FinSet.{slice_cmp-IsAntisymmetric};
 
-use crate::copies::{copied, push_copies};
+use crate::copies::copied;
 use base_values::{Dup, Key, OutOfMemory};
 use std::alloc::{Allocator, Global};
 use std::cmp::Ordering;
@@ -30,25 +30,6 @@ impl<D: Dup, A: Allocator + Clone> Row<D, A> {
         ensures { IfOk result (λ row. row ≡ items.now) }
     {
         let items = copied(alloc, items)?;
-        Ok(Row { items })
-    }
-
-    /// No items. It does not allocate.
-    pub fn empty(alloc: A) -> Row<D, A>
-        ensures { result ≡ [] }
-    {
-        Row {
-            items: Vec::new(alloc),
-        }
-    }
-
-    /// A copy of the items of both, those of the first before the others.
-    pub fn copy_of_both(alloc: A, one: &[D], other: &[D]) -> Result<Row<D, A>, OutOfMemory>
-        ensures { IfOk result (λ row. row ≡ one.now ++ other.now) }
-    {
-        let mut items = Vec::with_capacity(alloc, one.len().saturating_add(other.len()))?;
-        push_copies(&mut items, one)?;
-        push_copies(&mut items, other)?;
         Ok(Row { items })
     }
 

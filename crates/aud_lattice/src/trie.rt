@@ -1,19 +1,15 @@
-//! Tries of lists, whose nodes are shared: a changed trie keeps what it did not change of the old one. A list that stands
-//! alone is kept as a list, since most nodes of a trie of long lists would have one node under them.
+//! Tries of lists, whose nodes are shared: a changed trie keeps what it did not change of the old one.
 
 ghost use Rattle.std.specs.Prelude.{None, ◌≡◌, ◌++◌, OnOk, OnErr, IfOk, IfSome, IsTrue, ◌↔◌, [], ◌∷◌, map};
 ghost use Rattle.std.specs.Option.{option_copied};
 ghost use Rattle.std.specs.Arc.{arc_value};
 ghost use Rattle.std.specs.BTreeMap.{IsOrdered};
-ghost use Rattle.aud_lattice.specs.Places.{trie_at};
-ghost use Rattle.aud_lattice.specs.Sets.{either};
-ghost use Rattle.aud_lattice.specs.Walks.{walk, walk_mark, leads, left_under, nothing, but, starts, node_of, now_of, AreAlike, AreAlikeBut, AreJoined, HasBoth, IsAdded, IsTrie, IsLeft, IsLive, IsMet, IsWithin, JoinsUnder, LeavesUnder, StandsUnder, ReportsWhetherBare};
+ghost use Rattle.aud_lattice.specs.Walks.{child, walk, walk_mark, leads, left_under, nothing, but, starts, node_at, node_of, now_of, AreAlike, AreAlikeBut, AreJoined, IsAdded, IsTrie, IsLeft, IsLive, IsMet, IsWithin, JoinsUnder, LeavesUnder, StandsUnder, ReportsWhetherBare};
 ghost use Rattle.aud_lattice.specs.Paths.{paths};
 ghost use Rattle.aud_lattice.specs.Covers.{begins};
 ghost use Rattle.aud_lattice.specs.declared.trie.Trie.TheVariants.{Fork};
 
 use crate::mark::Mark;
-use crate::place::Place;
 use crate::row::Row;
 use base_values::{Dup, Key, OutOfMemory};
 use std::alloc::{Allocator, Global};
@@ -21,11 +17,12 @@ use std::collections::BTreeMap;
 use std::mem;
 use std::sync::Arc;
 
-/// What is left of one list, or an ordered map from an element to the next node, which other tries may share.
+/// A member, or an ordered map from an element to the next node. A node holds its children by `Arc`: a changed trie shares
+/// with its copies each node that it did not change, so that a delta costs what changed, and not what is there.
 #[derive(Drop)]
 pub enum Trie<D: Key + Dup, A: Allocator + Copy = Global> {
-    /// One list alone. Where it is empty a list ends here.
-    Rest(Row<D, A>),
+    /// A list ends here.
+    Member,
     /// The nodes under each element.
     Fork(BTreeMap<D, Arc<Trie<D, A>, A>, A>),
 }
@@ -89,24 +86,17 @@ fn own_nodes<D: Key + Dup, A: Allocator + Copy>(
     }
 }
 
-// Puts the trie under the element, where there is none.
-fn add<D: Key + Dup, A: Allocator + Copy>(
-    next: &mut BTreeMap<D, Arc<Trie<D, A>, A>, A>,
-    alloc: &A,
-    first: &D,
-    below: Trie<D, A>,
-) -> Result<(), OutOfMemory>
-    requires into { IsTrie D.Ord.cmp (Fork next.old) }
-    requires below { IsTrie D.Ord.cmp below }
-    requires live { IsLive D.Ord.cmp below }
-    requires absent { node_of D.Ord.cmp next.old first.now ≡ None }
-    ensures good { OnOk result (IsTrie D.Ord.cmp (Fork next.new)) }
-    ensures others { OnOk result (AreAlikeBut D.Ord.cmp first.now next.old next.new) }
-    ensures under { OnOk result (walk D.Ord.cmp (Fork next.new)
-        ≡ either (starts D.Ord.cmp first.now (walk D.Ord.cmp below)) (walk D.Ord.cmp (Fork next.old))) }
+// The node that stands alone, with its element. Most nodes have no other beside them, and a walk need not look for one.
+fn alone<D: Key + Dup, A: Allocator + Copy>(
+    nodes: &BTreeMap<D, Arc<Trie<D, A>, A>, A>,
+) -> Option<(&D, &Arc<Trie<D, A>, A>)>
+    ensures { IfSome result (λ e. nodes.now.entries ≡ (e.0.now, e.1.now) ∷ []) }
 {
-    let node = Arc::new(*alloc, below)?;
-    set(next, first, node)
+    if nodes.len() == 1 {
+        nodes.first_key_value()
+    } else {
+        None
+    }
 }
 
 impl<D: Key + Dup, A: Allocator + Copy> Trie<D, A> {
@@ -118,67 +108,45 @@ impl<D: Key + Dup, A: Allocator + Copy> Trie<D, A> {
         Trie::Fork(BTreeMap::new(alloc))
     }
 
-    // The trie of the empty list. It does not allocate.
-    fn end(alloc: A) -> Trie<D, A>
-        ensures nothing_left { walk D.Ord.cmp result ≡ begins D.Ord.cmp [] }
-        ensures good { IsTrie D.Ord.cmp result }
-    {
-        Trie::Rest(Row::empty(alloc))
-    }
-
-    // The trie of one list.
-    fn of_list(alloc: &A, list: &[D]) -> Result<Trie<D, A>, OutOfMemory>
-        ensures good { IfOk result (IsTrie D.Ord.cmp) }
-        ensures one { IfOk result (λ t. walk D.Ord.cmp t ≡ begins D.Ord.cmp list.now) }
-    {
-        let rest = Row::copy_of(*alloc, list)?;
-        Ok(Trie::Rest(rest))
-    }
-
-    // The trie of two lists; of the shorter where it begins the other.
-    fn of_both(alloc: &A, one: &[D], other: &[D]) -> Result<Trie<D, A>, OutOfMemory>
-        ensures good { IfOk result (IsTrie D.Ord.cmp) }
-        ensures both { IfOk result (HasBoth D.Ord.cmp one.now other.now) }
-    {
-        let known: Place<D, A> = Place::Rest(one);
-        match known.mark(other) {
-            Mark::Covered => Trie::of_list(alloc, one),
-            Mark::Inner => Trie::of_list(alloc, other),
-            Mark::Outside => Trie::parted(alloc, one, other),
-        }
-    }
-
-    // The same, node by node.
-    fn parted(alloc: &A, one: &[D], other: &[D]) -> Result<Trie<D, A>, OutOfMemory>
-        ensures good { IfOk result (IsTrie D.Ord.cmp) }
-        ensures both { IfOk result (HasBoth D.Ord.cmp one.now other.now) }
-    {
-        let Some((head, tail)) = one.split_first() else {
-            return Ok(Trie::end(*alloc));
-        };
-        let Some((first, rest)) = other.split_first() else {
-            return Ok(Trie::end(*alloc));
-        };
-        let mut next = BTreeMap::new(*alloc);
-        if head.cmp(first).is_eq() {
-            let below = Trie::parted(alloc, tail, rest)?;
-            add(&mut next, alloc, head, below)?;
-            return Ok(Trie::Fork(next));
-        }
-        let below = Trie::of_list(alloc, tail)?;
-        add(&mut next, alloc, head, below)?;
-        let beside = Trie::of_list(alloc, rest)?;
-        add(&mut next, alloc, first, beside)?;
-        Ok(Trie::Fork(next))
-    }
-
-    /// The place of the whole trie. It does not allocate.
-    pub fn place(&self) -> Place<'_, D, A>
-        ensures { trie_at result ≡ self.now }
+    /// The node under the element, if there is one. It does not allocate.
+    pub fn step(&self, first: &D) -> Option<&Trie<D, A>>
+        ensures { option_copied result ≡ child D.Ord.cmp self.now first.now }
     {
         match self {
-            Trie::Rest(rest) => Place::Rest(rest.as_slice()),
-            Trie::Fork(nodes) => Place::Fork(nodes),
+            Trie::Member => None,
+            Trie::Fork(next) => match next.get(first) {
+                Some(node) => Some(node),
+                None => None,
+            },
+        }
+    }
+
+    /// The node that the list leads to, if it leads to one. It does not allocate.
+    pub fn at(&self, list: &[D]) -> Option<&Trie<D, A>>
+        ensures { option_copied result ≡ node_at D.Ord.cmp list.now self.now }
+    {
+        match list.split_first() {
+            None => Some(self),
+            Some((first, rest)) => match self.step(first) {
+                Some(below) => below.at(rest),
+                None => None,
+            },
+        }
+    }
+
+    /// How the empty list stands to the trie. It does not allocate.
+    pub fn here(&self) -> Mark
+        ensures { result ≡ walk_mark D.Ord.cmp self.now [] }
+    {
+        match self {
+            Trie::Member => Mark::Covered,
+            Trie::Fork(next) => {
+                if next.is_empty() {
+                    Mark::Outside
+                } else {
+                    Mark::Inner
+                }
+            }
         }
     }
 
@@ -186,7 +154,33 @@ impl<D: Key + Dup, A: Allocator + Copy> Trie<D, A> {
     pub fn mark(&self, list: &[D]) -> Mark
         ensures { result ≡ walk_mark D.Ord.cmp self.now list.now }
     {
-        self.place().mark(list)
+        let Some((first, rest)) = list.split_first() else {
+            return self.here();
+        };
+        let Trie::Fork(next) = self else {
+            return Mark::Covered;
+        };
+        match next.get(first) {
+            None => Mark::Outside,
+            Some(node) => node.mark(rest),
+        }
+    }
+
+    // The trie of one list.
+    fn chain(alloc: &A, list: &[D]) -> Result<Trie<D, A>, OutOfMemory>
+        ensures good { IfOk result (IsTrie D.Ord.cmp) }
+        ensures one { IfOk result (λ t. walk D.Ord.cmp t ≡ begins D.Ord.cmp list.now) }
+    {
+        match list.split_first() {
+            None => Ok(Trie::Member),
+            Some((first, rest)) => {
+                let node = Trie::chain(alloc, rest)?;
+                let node = Arc::new(*alloc, node)?;
+                let mut next = BTreeMap::new(*alloc);
+                set(&mut next, first, node)?;
+                Ok(Trie::Fork(next))
+            }
+        }
     }
 
     /// A trie of the same lists, which shares the nodes below the root.
@@ -196,7 +190,7 @@ impl<D: Key + Dup, A: Allocator + Copy> Trie<D, A> {
         ensures same { IfOk result (λ t. walk D.Ord.cmp t ≡ walk D.Ord.cmp self.now) }
     {
         match self {
-            Trie::Rest(rest) => Trie::of_list(alloc, rest.as_slice()),
+            Trie::Member => Ok(Trie::Member),
             Trie::Fork(nodes) => {
                 let all = shared_nodes(nodes, alloc)?;
                 Ok(Trie::Fork(all))
@@ -211,17 +205,8 @@ impl<D: Key + Dup, A: Allocator + Copy> Trie<D, A> {
         ensures ok { OnOk result (IsAdded D.Ord.cmp list.now self.old self.new) }
         ensures err { OnErr result (walk D.Ord.cmp self.new ≡ walk D.Ord.cmp self.old) }
     {
-        match mem::replace(self, Trie::end(*alloc)) {
-            Trie::Rest(known) => match Trie::of_both(alloc, known.as_slice(), list) {
-                Ok(both) => {
-                    *self = both;
-                    Ok(())
-                }
-                Err(refused) => {
-                    *self = Trie::Rest(known);
-                    Err(refused)
-                }
-            },
+        match mem::replace(self, Trie::Member) {
+            Trie::Member => Ok(()),
             Trie::Fork(mut next) => match list.split_first() {
                 None => Ok(()),
                 Some((first, rest)) => {
@@ -252,7 +237,7 @@ impl<D: Key + Dup, A: Allocator + Copy> Trie<D, A> {
                 set(next, first, node)
             }
             None => {
-                let node = Trie::of_list(alloc, rest)?;
+                let node = Trie::chain(alloc, rest)?;
                 let node = Arc::new(*alloc, node)?;
                 set(next, first, node)
             }
@@ -267,9 +252,9 @@ impl<D: Key + Dup, A: Allocator + Copy> Trie<D, A> {
         ensures both { IfOk result (IsAdded D.Ord.cmp list.now self.now) }
     {
         match self {
-            Trie::Rest(known) => Trie::of_both(alloc, known.as_slice(), list),
+            Trie::Member => Ok(Trie::Member),
             Trie::Fork(next) => match list.split_first() {
-                None => Ok(Trie::end(*alloc)),
+                None => Ok(Trie::Member),
                 Some((first, rest)) => {
                     let mut all = shared_nodes(next, alloc)?;
                     Trie::put_under(&mut all, alloc, first, rest)?;
@@ -292,19 +277,17 @@ impl<D: Key + Dup, A: Allocator + Copy> Trie<D, A> {
         ensures good { IfOk result (λ joined. IsTrie D.Ord.cmp (now_of self.now joined)) }
         ensures both { IfOk result (λ joined. AreJoined D.Ord.cmp from.now self.now (now_of self.now joined)) }
     {
-        match from {
-            Trie::Rest(theirs) => match self.mark(theirs.as_slice()) {
-                Mark::Covered => Ok(None),
-                _ => Ok(Some(self.with(alloc, theirs.as_slice())?)),
-            },
-            Trie::Fork(theirs) => match self {
-                Trie::Rest(ours) => {
-                    if from.is_within(&self.place()) {
-                        return Ok(None);
+        match self {
+            Trie::Member => Ok(None),
+            Trie::Fork(ours) => match from {
+                Trie::Member => Ok(Some(Trie::Member)),
+                Trie::Fork(theirs) => {
+                    if let Some((first, node)) = alone(theirs) {
+                        return match Trie::grafted(ours, None, first, node, alloc)? {
+                            Some(nodes) => Ok(Some(Trie::Fork(nodes))),
+                            None => Ok(None),
+                        };
                     }
-                    Ok(Some(from.with(alloc, ours.as_slice())?))
-                }
-                Trie::Fork(ours) => {
                     let mut all = None;
                     for (first, node) in theirs {
                         all = Trie::grafted(ours, all, first, node, alloc)?;
@@ -366,37 +349,43 @@ impl<D: Key + Dup, A: Allocator + Copy> Trie<D, A> {
 
     /// Whether each list with a beginning here has one there. It does not allocate.
     #[cycle(withins)]
-    pub(crate) fn is_within(&self, other: &Place<D, A>) -> bool
+    pub(crate) fn is_within(&self, other: &Trie<D, A>) -> bool
         requires here { IsTrie D.Ord.cmp self.now }
-        requires there { IsTrie D.Ord.cmp (trie_at other.now) }
-        ensures { IsTrue result ↔ IsWithin (walk D.Ord.cmp self.now) (walk D.Ord.cmp (trie_at other.now)) }
+        requires there { IsTrie D.Ord.cmp other.now }
+        ensures { IsTrue result ↔ IsWithin (walk D.Ord.cmp self.now) (walk D.Ord.cmp other.now) }
     {
-        match self {
-            Trie::Rest(rest) => match other.mark(rest.as_slice()) {
-                Mark::Covered => true,
-                _ => false,
-            },
-            Trie::Fork(nodes) => {
-                for (first, node) in nodes {
-                    if !Trie::is_within_at(node, first, other) {
-                        return false;
+        match other {
+            Trie::Member => true,
+            Trie::Fork(_) => match self {
+                Trie::Member => false,
+                Trie::Fork(nodes) => {
+                    if let Some((first, node)) = alone(nodes) {
+                        return Trie::is_within_at(node, first, other);
                     }
+                    for (first, node) in nodes {
+                        if !Trie::is_within_at(node, first, other) {
+                            return false;
+                        }
+                    }
+                    true
                 }
-                true
-            }
+            },
         }
     }
 
     #[cycle(withins)]
-    fn is_within_at(node: &Trie<D, A>, first: &D, other: &Place<D, A>) -> bool
+    fn is_within_at(node: &Trie<D, A>, first: &D, other: &Trie<D, A>) -> bool
         requires node { IsTrie D.Ord.cmp node.now }
         requires live { IsLive D.Ord.cmp node.now }
-        requires there { IsTrie D.Ord.cmp (trie_at other.now) }
-        ensures { IsTrue result ↔ IsWithin (starts D.Ord.cmp first.now (walk D.Ord.cmp node.now)) (walk D.Ord.cmp (trie_at other.now)) }
+        requires there { IsTrie D.Ord.cmp other.now }
+        ensures { IsTrue result ↔ IsWithin (starts D.Ord.cmp first.now (walk D.Ord.cmp node.now)) (walk D.Ord.cmp other.now) }
     {
-        match other.step(first) {
-            None => other.is_end(),
-            Some(known) => node.is_within(&known),
+        match other {
+            Trie::Member => true,
+            Trie::Fork(theirs) => match theirs.get(first) {
+                None => false,
+                Some(known) => node.is_within(known),
+            },
         }
     }
 
@@ -406,32 +395,34 @@ impl<D: Key + Dup, A: Allocator + Copy> Trie<D, A> {
         ensures { ReportsWhetherBare D.Ord.cmp result self.now }
     {
         match self {
-            Trie::Rest(_) => false,
+            Trie::Member => false,
             Trie::Fork(next) => next.is_empty(),
         }
     }
 
     /// A trie of the lists that the other has not. What the other has nothing beside is shared.
     #[cycle(leavings)]
-    pub(crate) fn without(&self, other: &Place<D, A>, alloc: &A) -> Result<Trie<D, A>, OutOfMemory>
-        requires { IsTrie D.Ord.cmp self.now }
+    pub(crate) fn without(&self, other: &Trie<D, A>, alloc: &A) -> Result<Trie<D, A>, OutOfMemory>
+        requires here { IsTrie D.Ord.cmp self.now }
+        requires there { IsTrie D.Ord.cmp other.now }
         ensures good { IfOk result (IsTrie D.Ord.cmp) }
-        ensures left { IfOk result (λ t. leads D.Ord.cmp t ≡ but (leads D.Ord.cmp self.now) (leads D.Ord.cmp (trie_at other.now))) }
+        ensures left { IfOk result (λ t. leads D.Ord.cmp t ≡ but (leads D.Ord.cmp self.now) (leads D.Ord.cmp other.now)) }
     {
         match self {
-            Trie::Rest(rest) => {
-                if other.has(rest.as_slice()) {
-                    return Ok(Trie::empty(*alloc));
+            Trie::Member => match other {
+                Trie::Member => Ok(Trie::empty(*alloc)),
+                Trie::Fork(_) => Ok(Trie::Member),
+            },
+            Trie::Fork(nodes) => match other {
+                Trie::Member => self.copied(alloc),
+                Trie::Fork(theirs) => {
+                    let mut all = BTreeMap::new(*alloc);
+                    for (first, node) in nodes {
+                        Trie::leave(&mut all, first, node, theirs, alloc)?;
+                    }
+                    Ok(Trie::Fork(all))
                 }
-                Trie::of_list(alloc, rest.as_slice())
-            }
-            Trie::Fork(nodes) => {
-                let mut all = BTreeMap::new(*alloc);
-                for (first, node) in nodes {
-                    Trie::leave(&mut all, first, node, other, alloc)?;
-                }
-                Ok(Trie::Fork(all))
-            }
+            },
         }
     }
 
@@ -441,16 +432,17 @@ impl<D: Key + Dup, A: Allocator + Copy> Trie<D, A> {
         all: &mut BTreeMap<D, Arc<Trie<D, A>, A>, A>,
         first: &D,
         node: &Arc<Trie<D, A>, A>,
-        theirs: &Place<D, A>,
+        theirs: &BTreeMap<D, Arc<Trie<D, A>, A>, A>,
         alloc: &A,
     ) -> Result<(), OutOfMemory>
         requires node { IsTrie D.Ord.cmp (arc_value node.now) }
         requires live { IsLive D.Ord.cmp (arc_value node.now) }
+        requires theirs { IsTrie D.Ord.cmp (Fork theirs.now) }
         requires into { IsTrie D.Ord.cmp (Fork all.old) }
         requires absent { node_of D.Ord.cmp all.old first.now ≡ None }
         ensures good { OnOk result (IsTrie D.Ord.cmp (Fork all.new)) }
         ensures others { OnOk result (AreAlikeBut D.Ord.cmp first.now all.old all.new) }
-        ensures left { OnOk result (LeavesUnder D.Ord.cmp first.now (arc_value node.now) (trie_at theirs.now) all.old all.new) }
+        ensures left { OnOk result (LeavesUnder D.Ord.cmp first.now (arc_value node.now) theirs.now all.old all.new) }
     {
         match Trie::left(first, node, theirs, alloc)? {
             None => Ok(()),
@@ -463,17 +455,18 @@ impl<D: Key + Dup, A: Allocator + Copy> Trie<D, A> {
     fn left(
         first: &D,
         ours: &Arc<Trie<D, A>, A>,
-        theirs: &Place<D, A>,
+        theirs: &BTreeMap<D, Arc<Trie<D, A>, A>, A>,
         alloc: &A,
     ) -> Result<Option<Arc<Trie<D, A>, A>>, OutOfMemory>
         requires ours { IsTrie D.Ord.cmp (arc_value ours.now) }
         requires live { IsLive D.Ord.cmp (arc_value ours.now) }
-        ensures { IfOk result (IsLeft D.Ord.cmp (left_under D.Ord.cmp first.now (arc_value ours.now) (trie_at theirs.now))) }
+        requires theirs { IsTrie D.Ord.cmp (Fork theirs.now) }
+        ensures { IfOk result (IsLeft D.Ord.cmp (left_under D.Ord.cmp first.now (arc_value ours.now) theirs.now)) }
     {
-        match theirs.step(first) {
+        match theirs.get(first) {
             None => Ok(Some(Arc::try_clone(ours)?)),
             Some(known) => {
-                let left = ours.without(&known, alloc)?;
+                let left = ours.without(known, alloc)?;
                 if left.is_bare() {
                     Ok(None)
                 } else {
@@ -495,12 +488,15 @@ impl<D: Key + Dup, A: Allocator + Copy> Trie<D, A> {
         ensures all { OnOk result (all.new.items ≡ all.old.items ++ map (λ p. path.old.items ++ p) (paths self.now)) }
     {
         match self {
-            Trie::Rest(rest) => {
-                let row = Row::copy_of_both(*alloc, path, rest.as_slice())?;
+            Trie::Member => {
+                let row = Row::copy_of(*alloc, path)?;
                 all.push(row)?;
                 Ok(())
             }
             Trie::Fork(nodes) => {
+                if let Some((first, node)) = alone(nodes) {
+                    return Trie::push_under(node, first, alloc, path, all);
+                }
                 for (first, node) in nodes {
                     Trie::push_under(node, first, alloc, path, all)?;
                 }

@@ -65,7 +65,7 @@ impl<T: Key + Dup, A: Allocator + Clone> UnionSet<T, A> {
     }
 
     /// The items, least first. The walk does not allocate.
-    pub fn iter(&self) -> Iter<'_, T, A>
+    pub fn items(&self) -> Iter<'_, T, A>
         ensures all { result ≡ self.now }
         ensures sorted { IsStrictlySortedBy T.Ord.cmp self.now }
     {

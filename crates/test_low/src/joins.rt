@@ -22,7 +22,7 @@ fn thousand(alloc: Global, is_rising: bool) -> Result<UnionSet<Fact>, OutOfMemor
 /// How many facts a walk over the set gives, up to one that is not in the other.
 fn walked(set: &UnionSet<Fact>, other: &UnionSet<Fact>) -> usize {
     let mut count = 0usize;
-    for fact in set.iter() {
+    for fact in set.items() {
         if !other.contains(fact) {
             return count;
         }

@@ -94,7 +94,7 @@ fn plan_on<A: Allocator + Copy>(alloc: A, plan: &Plan) -> Result<Plan<A>, Unread
 pub fn facts_on<A: Allocator + Copy>(alloc: A, facts: &Facts) -> Result<Facts<A>, Unread> {
     let plan = plan_on(alloc, facts.plan())?;
     let mut copy = Facts::empty(alloc, Arc::new(alloc, plan)?);
-    for fact in facts.set().iter() {
+    for fact in facts.set().items() {
         put(&mut copy, fact)?;
     }
     Ok(copy)

@@ -1,5 +1,4 @@
-use Rattle.std.proofs.Common.{◌≡◌, ◌∙◌}
-use Rattle.aud_lattice.specs.Places.{trie_at}
+use Rattle.std.proofs.Common.{◌≡◌}
 use Rattle.aud_lattice.specs.Walks.{leads, but, IsTrie}
 use Rattle.base_values.proofs.Results.{if_both}
 use Rattle.aud_lattice.proofs.Pathed.{cover-paths}
@@ -16,6 +15,6 @@ returns-clause-members g c =
     let R = g.D.Ord.cmp in
     let x = c.args.root.now in
     let y = c.args.other.now in
-    if_both c.without.result (IsTrie R) (λ t. leads R t ≡ but (leads R x) (leads R (trie_at c.place.result))) _
-    (λ t good is. left_members R g.met.D.Ord.total g.met.D.Key.exact x y t c.requires.root c.requires.other good (is ∙ (λ i. but (leads R x) (leads R (c.place.ensures i)))))
+    if_both c.without.result (IsTrie R) (λ t. leads R t ≡ but (leads R x) (leads R y)) _
+    (λ t good is. left_members R g.met.D.Ord.total g.met.D.Key.exact x y t c.requires.root c.requires.other good is)
     c.without.ensures.good c.without.ensures.left

@@ -3,14 +3,12 @@ use Rattle.std.specs.Option.{option_copied}
 use Rattle.std.specs.Ordering.{is_eq}
 use Rattle.std.specs.List.{AllByRecursion}
 use Rattle.std.specs.Arc.{arc_value}
-use Rattle.aud_lattice.specs.declared.trie.Trie.TheVariants.{Fork, outs-Fork, outs-Rest}
-use Rattle.aud_lattice.specs.Covers.{begins}
-use Rattle.aud_lattice.proofs.Pathed.{rest_within, within_joins}
-use Rattle.aud_lattice.proofs.Rests.{rest_walk}
+use Rattle.std.specs.BTreeMap.{IsOrdered}
+use Rattle.aud_lattice.specs.declared.trie.Trie.TheVariants.{Fork, outs-Fork}
 use Rattle.aud_lattice.specs.declared.trie.Trie.{Trie, out-Trie}
-use Rattle.aud_lattice.specs.Walks.{walk, walk_mark, child, starts, nodes_of, node_of, now_of, IsTrie, IsLive, IsMet}
+use Rattle.aud_lattice.specs.Walks.{IsLayer, walk, child, starts, nodes_of, node_of, now_of, IsTrie, IsLive, IsMet}
 use Rattle.aud_lattice.specs.Sets.{either}
-use Rattle.aud_lattice.proofs.Tries.{either_swap, found_kids, child_size, any_starts, any_starts-walk, shift, good_child, live_child, fork_good_at, fork_ordered, found_node, gone_node, met_there, met_good, met_walk, met_gone, met_found}
+use Rattle.aud_lattice.proofs.Tries.{member_joins, member_keeps, found_kids, child_size, any_starts, any_starts-walk, alone_starts, good_here, shift, good_child, live_child, fork_good_at, fork_ordered, found_node, gone_node, met_there, met_good, met_walk, met_gone, met_found}
 use Rattle.aud_lattice.proofs.trie.Trie.+grafts.Goals as goal
 
 pub grafted-own_nodes-requires : goal.grafted-own_nodes-requires
@@ -51,79 +49,93 @@ pub joined-loop-first-init : goal.joined-loop-first-init
 joined-loop-first-init g t c =
     let e = c.into_iter-first-iterator.ensures.into_iter_gives.0 in
     let s = c.into_iter-first-iterator.ensures.into_iter_gives.5 in
-    let at = ap (out-Trie g.row.D.Denot g.row.A.Denot) c.in-Fork.is ∙ outs-Fork c.in-Fork.theirs in (
+    let at = ap (out-Trie g.row.D.Denot g.row.A.Denot) c.in-Fork-from.is ∙ outs-Fork c.in-Fork-from.theirs in (
       tt,
       tt,
-      subst (IsTrie g.D.Ord.cmp) c.in-Fork-self.is c.requires.into,
-      subst (λ es. AllByRecursion (λ x. child g.D.Ord.cmp c.args.from.now x.0 ≡ Some x.1) (nodes_of es)) (sym e) (found_kids g.D.Ord.cmp g.met.D.Ord.total g.met.D.Key.exact c.args.from.now c.in-Fork.theirs at s),
-      (λ i. either (any_starts g.D.Ord.cmp (nodes_of (e i))) (walk g.D.Ord.cmp (Fork c.in-Fork-self.ours)))
-          ∙ (λ i. either (any_starts-walk g.D.Ord.cmp g.met.D.Ord.total g.met.D.Key.exact c.args.from.now c.in-Fork.theirs at s i) (walk g.D.Ord.cmp (sym c.in-Fork-self.is i))),
+      subst (IsTrie g.D.Ord.cmp) c.in-Fork.is c.requires.into,
+      subst (λ es. AllByRecursion (λ x. child g.D.Ord.cmp c.args.from.now x.0 ≡ Some x.1) (nodes_of es)) (sym e) (found_kids g.D.Ord.cmp g.met.D.Ord.total g.met.D.Key.exact c.args.from.now c.in-Fork-from.theirs at s),
+      (λ i. either (any_starts g.D.Ord.cmp (nodes_of (e i))) (walk g.D.Ord.cmp (Fork c.in-Fork.ours)))
+          ∙ (λ i. either (any_starts-walk g.D.Ord.cmp g.met.D.Ord.total g.met.D.Key.exact c.args.from.now c.in-Fork-from.theirs at s i) (walk g.D.Ord.cmp (sym c.in-Fork.is i))),
     )
 
 pub joined-grafted-requires : goal.joined-grafted-requires
 joined-grafted-requires g t c κs within =
-    let kids = subst (λ es. AllByRecursion (λ x. child g.D.Ord.cmp c.args.from.now x.0 ≡ Some x.1) (nodes_of es)) c.in-Some.ensures.steps c.loop-first.invariant.3 in
+    let at = ap (out-Trie g.row.D.Denot g.row.A.Denot) c.in-Fork-from.is ∙ outs-Fork c.in-Fork-from.theirs in
+    let ordered : IsOrdered g.D.Ord.cmp c.in-Fork-from.theirs = subst (IsLayer g.D.Ord.cmp) at (good_here g.D.Ord.cmp c.args.from.now c.requires.from) in
+    let kids = subst (λ es. AllByRecursion (λ x. child g.D.Ord.cmp c.args.from.now x.0 ≡ Some x.1) (nodes_of es)) c.in-Some.ensures (found_kids g.D.Ord.cmp g.met.D.Ord.total g.met.D.Key.exact c.args.from.now c.in-Fork-from.theirs at ordered) in
     let good : IsTrie g.D.Ord.cmp (arc_value c.in-Some.node.now) = good_child g.D.Ord.cmp c.args.from.now c.in-Some.first.now (arc_value c.in-Some.node.now) kids.0 c.requires.from in
     let live : IsLive g.D.Ord.cmp (arc_value c.in-Some.node.now) = live_child g.D.Ord.cmp c.args.from.now c.in-Some.first.now (arc_value c.in-Some.node.now) kids.0 c.requires.from in
-    let small = child_size g.D.Ord.cmp c.args.from.now c.in-Fork.theirs (ap (out-Trie g.row.D.Denot g.row.A.Denot) c.in-Fork.is ∙ outs-Fork c.in-Fork.theirs) c.in-Some.first.now (arc_value c.in-Some.node.now) kids.0 in
+    let small = child_size g.D.Ord.cmp c.args.from.now c.in-Some.first.now (arc_value c.in-Some.node.now) kids.0 in
+    let into = subst (IsTrie g.D.Ord.cmp) c.in-Fork.is c.requires.into in
+    search (rules, good, live, small, into)
+
+pub joined-returns-in-Some-2-clause-both : goal.joined-returns-in-Some-2-clause-both
+joined-returns-in-Some-2-clause-both g t c =
+    let at = ap (out-Trie g.row.D.Denot g.row.A.Denot) c.in-Fork-from.is ∙ outs-Fork c.in-Fork-from.theirs in
+    let ordered : IsOrdered g.D.Ord.cmp c.in-Fork-from.theirs = subst (IsLayer g.D.Ord.cmp) at (good_here g.D.Ord.cmp c.args.from.now c.requires.from) in
+    let theirs : starts g.D.Ord.cmp c.in-Some.first.now (walk g.D.Ord.cmp (arc_value c.in-Some.node.now)) ≡ walk g.D.Ord.cmp c.args.from.now =
+    sym (alone_starts g.D.Ord.cmp c.in-Some.first.now (arc_value c.in-Some.node.now))
+    ∙ (λ i. any_starts g.D.Ord.cmp (nodes_of (sym c.in-Some.ensures i)))
+    ∙ any_starts-walk g.D.Ord.cmp g.met.D.Ord.total g.met.D.Key.exact c.args.from.now c.in-Fork-from.theirs at ordered in
+    (λ i. walk g.D.Ord.cmp (Fork (now_of c.in-Fork.ours (sym c.in-Some-2.is i))))
+    ∙ c.in_ok-nodes-in-Fork-from.ensures.both
+    ∙ (λ i. either (theirs i) (walk g.D.Ord.cmp (sym c.in-Fork.is i)))
+
+pub joined-returns-in-None-clause-both : goal.joined-returns-in-None-clause-both
+joined-returns-in-None-clause-both g t c =
+    let at = ap (out-Trie g.row.D.Denot g.row.A.Denot) c.in-Fork-from.is ∙ outs-Fork c.in-Fork-from.theirs in
+    let ordered : IsOrdered g.D.Ord.cmp c.in-Fork-from.theirs = subst (IsLayer g.D.Ord.cmp) at (good_here g.D.Ord.cmp c.args.from.now c.requires.from) in
+    let theirs : starts g.D.Ord.cmp c.in-Some.first.now (walk g.D.Ord.cmp (arc_value c.in-Some.node.now)) ≡ walk g.D.Ord.cmp c.args.from.now =
+    sym (alone_starts g.D.Ord.cmp c.in-Some.first.now (arc_value c.in-Some.node.now))
+    ∙ (λ i. any_starts g.D.Ord.cmp (nodes_of (sym c.in-Some.ensures i)))
+    ∙ any_starts-walk g.D.Ord.cmp g.met.D.Ord.total g.met.D.Key.exact c.args.from.now c.in-Fork-from.theirs at ordered in
+    ap (walk g.D.Ord.cmp) c.in-Fork.is
+    ∙ (λ i. walk g.D.Ord.cmp (Fork (now_of c.in-Fork.ours (sym c.in-None.is i))))
+    ∙ c.in_ok-nodes-in-Fork-from.ensures.both
+    ∙ (λ i. either (theirs i) (walk g.D.Ord.cmp (sym c.in-Fork.is i)))
+
+pub joined-grafted-requires-in-loop-first : goal.joined-grafted-requires-in-loop-first
+joined-grafted-requires-in-loop-first g t c κs within =
+    let kids = subst (λ es. AllByRecursion (λ x. child g.D.Ord.cmp c.args.from.now x.0 ≡ Some x.1) (nodes_of es)) c.in-Some-3.ensures.steps c.loop-first.invariant.3 in
+    let good : IsTrie g.D.Ord.cmp (arc_value c.in-Some-3.node.now) = good_child g.D.Ord.cmp c.args.from.now c.in-Some-3.first.now (arc_value c.in-Some-3.node.now) kids.0 c.requires.from in
+    let live : IsLive g.D.Ord.cmp (arc_value c.in-Some-3.node.now) = live_child g.D.Ord.cmp c.args.from.now c.in-Some-3.first.now (arc_value c.in-Some-3.node.now) kids.0 c.requires.from in
+    let small = child_size g.D.Ord.cmp c.args.from.now c.in-Some-3.first.now (arc_value c.in-Some-3.node.now) kids.0 in
     search (rules, good, live, small, c.loop-first.invariant)
 
 pub joined-loop-first-preserved : goal.joined-loop-first-preserved
 joined-loop-first-preserved g t c =
-    let kids = subst (λ es. AllByRecursion (λ x. child g.D.Ord.cmp c.args.from.now x.0 ≡ Some x.1) (nodes_of es)) c.in-Some.ensures.steps c.loop-first.invariant.3 in
-    let old = walk g.D.Ord.cmp (Fork (now_of c.in-Fork-self.ours c.loop-first.all)) in (
+    let kids = subst (λ es. AllByRecursion (λ x. child g.D.Ord.cmp c.args.from.now x.0 ≡ Some x.1) (nodes_of es)) c.in-Some-3.ensures.steps c.loop-first.invariant.3 in
+    let old = walk g.D.Ord.cmp (Fork (now_of c.in-Fork.ours c.loop-first.all)) in (
       tt,
       tt,
-      c.in_ok-all-in-Fork-self.ensures.good,
+      c.in_ok-all-in-Fork-from.ensures.good,
       kids.1,
-      (λ i. either (any_starts g.D.Ord.cmp (nodes_of c.next.new.self)) (c.in_ok-all-in-Fork-self.ensures.both i))
-          ∙ shift (starts g.D.Ord.cmp c.in-Some.first.now (walk g.D.Ord.cmp (arc_value c.in-Some.node.now))) (any_starts g.D.Ord.cmp (nodes_of c.next.new.self)) old
-          ∙ (λ i. either (any_starts g.D.Ord.cmp (nodes_of (sym c.in-Some.ensures.steps i))) old)
+      (λ i. either (any_starts g.D.Ord.cmp (nodes_of c.next.new.self)) (c.in_ok-all-in-Fork-from.ensures.both i))
+          ∙ shift (starts g.D.Ord.cmp c.in-Some-3.first.now (walk g.D.Ord.cmp (arc_value c.in-Some-3.node.now))) (any_starts g.D.Ord.cmp (nodes_of c.next.new.self)) old
+          ∙ (λ i. either (any_starts g.D.Ord.cmp (nodes_of (sym c.in-Some-3.ensures.steps i))) old)
           ∙ c.loop-first.invariant.4,
     )
 
+pub joined-returns-in-Member-clause-both : goal.joined-returns-in-Member-clause-both
+joined-returns-in-Member-clause-both g t c =
+    ap (walk g.D.Ord.cmp) c.in-Member.is ∙ member_keeps g.D.Ord.cmp (walk g.D.Ord.cmp c.args.from.now) ∙ (λ i. either (walk g.D.Ord.cmp c.args.from.now) (walk g.D.Ord.cmp (sym c.in-Member.is i)))
+
+pub joined-returns-in-Member-from-clause-both : goal.joined-returns-in-Member-from-clause-both
+joined-returns-in-Member-from-clause-both g t c =
+    member_joins g.D.Ord.cmp (walk g.D.Ord.cmp c.args.self.now) ∙ (λ i. either (walk g.D.Ord.cmp (sym c.in-Member-from.is i)) (walk g.D.Ord.cmp c.args.self.now))
+
 pub joined-returns-in-Some-all-clause-both : goal.joined-returns-in-Some-all-clause-both
 joined-returns-in-Some-all-clause-both g t c =
-    (λ i. walk g.D.Ord.cmp (Fork (now_of c.in-Fork-self.ours (sym c.in-Some-all.is i))))
-    ∙ (λ i. either (any_starts g.D.Ord.cmp (nodes_of (sym c.in-None.ensures.steps.0 i))) (walk g.D.Ord.cmp (Fork (now_of c.in-Fork-self.ours c.loop-first.all))))
+    (λ i. walk g.D.Ord.cmp (Fork (now_of c.in-Fork.ours (sym c.in-Some-all.is i))))
+    ∙ (λ i. either (any_starts g.D.Ord.cmp (nodes_of (sym c.in-None-2.ensures.steps.0 i))) (walk g.D.Ord.cmp (Fork (now_of c.in-Fork.ours c.loop-first.all))))
     ∙ c.loop-first.invariant.4
 
 pub joined-returns-in-None-all-clause-both : goal.joined-returns-in-None-all-clause-both
 joined-returns-in-None-all-clause-both g t c =
-    ap (walk g.D.Ord.cmp) c.in-Fork-self.is
-    ∙ (λ i. walk g.D.Ord.cmp (Fork (now_of c.in-Fork-self.ours (sym c.in-None-all.is i))))
-    ∙ (λ i. either (any_starts g.D.Ord.cmp (nodes_of (sym c.in-None.ensures.steps.0 i))) (walk g.D.Ord.cmp (Fork (now_of c.in-Fork-self.ours c.loop-first.all))))
+    ap (walk g.D.Ord.cmp) c.in-Fork.is
+    ∙ (λ i. walk g.D.Ord.cmp (Fork (now_of c.in-Fork.ours (sym c.in-None-all.is i))))
+    ∙ (λ i. either (any_starts g.D.Ord.cmp (nodes_of (sym c.in-None-2.ensures.steps.0 i))) (walk g.D.Ord.cmp (Fork (now_of c.in-Fork.ours c.loop-first.all))))
     ∙ c.loop-first.invariant.4
-
-pub joined-is_within-requires-clause-there : goal.joined-is_within-requires-clause-there
-joined-is_within-requires-clause-there g t c = subst (IsTrie g.D.Ord.cmp) (sym c.place.ensures) c.requires.into
-
-pub joined-returns-in-Covered-clause-both : goal.joined-returns-in-Covered-clause-both
-joined-returns-in-Covered-clause-both g t c =
-    let R = g.D.Ord.cmp in
-    let from = c.args.from.now in
-    let self = c.args.self.now in
-    let at = ap (out-Trie g.row.D.Denot g.row.A.Denot) c.in-Rest.is ∙ outs-Rest c.in-Rest.theirs in
-    let e = ap (walk_mark R self) (sym c.as_slice.ensures) ∙ sym c.mark.ensures ∙ c.in-Covered.is in
-    within_joins R g.met.D.Ord.total g.met.D.Key.exact from self ((rest_within R g.met.D.Ord.total g.met.D.Key.exact from self c.in-Rest.theirs at c.requires.into).0 e)
-
-pub joined-returns-in_ok-with-in_default-clause-both : goal.joined-returns-in_ok-with-in_default-clause-both
-joined-returns-in_ok-with-in_default-clause-both g t c =
-    let R = g.D.Ord.cmp in
-    let from = c.args.from.now in
-    let self = c.args.self.now in
-    let at = ap (out-Trie g.row.D.Denot g.row.A.Denot) c.in-Rest.is ∙ outs-Rest c.in-Rest.theirs in
-    let theirs : begins R c.as_slice-in_default.result.now ≡ walk R from = (λ i. begins R (c.as_slice-in_default.ensures i)) ∙ sym (rest_walk R c.in-Rest.theirs from at) in
-    c.in_ok-with-in_default.ensures.both ∙ (λ i. either (theirs i) (walk R self))
-
-pub joined-returns-in_ok-with-in-Rest-self-clause-both : goal.joined-returns-in_ok-with-in-Rest-self-clause-both
-joined-returns-in_ok-with-in-Rest-self-clause-both g t c =
-    let R = g.D.Ord.cmp in
-    let from = c.args.from.now in
-    let self = c.args.self.now in
-    let at = ap (out-Trie g.row.D.Denot g.row.A.Denot) c.in-Rest-self.is ∙ outs-Rest c.in-Rest-self.ours in
-    let ours : begins R c.as_slice-in-Rest-self.result.now ≡ walk R self = (λ i. begins R (c.as_slice-in-Rest-self.ensures i)) ∙ sym (rest_walk R c.in-Rest-self.ours self at) in
-    c.in_ok-with-in-Rest-self.ensures.both ∙ (λ i. either (ours i) (walk R from)) ∙ either_swap (walk R self) (walk R from)
 
 pub met-joined-requires : goal.met-joined-requires
 met-joined-requires g t c κs within =

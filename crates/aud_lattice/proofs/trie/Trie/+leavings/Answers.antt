@@ -1,19 +1,17 @@
 use Rattle.std.proofs.Common.{rules, ap, ◌∙◌, sym, ◌≡◌, Some, None, cond, subst}
 use Rattle.std.specs.Prelude.{MatchBool}
+use Rattle.std.specs.Option.{option_copied}
 use Rattle.std.specs.List.{AllByRecursion}
 use Rattle.std.specs.List.Sorted.{IsStrictlySortedBy}
 use Rattle.std.specs.Map.{keys_of}
 use Rattle.std.specs.Arc.{arc_value}
-use Rattle.aud_lattice.specs.declared.trie.Trie.TheVariants.{Fork, outs-Fork, outs-Rest}
-use Rattle.aud_lattice.specs.Covers.{begins}
-use Rattle.aud_lattice.specs.Places.{trie_at, tries_at}
-use Rattle.aud_lattice.proofs.Rests.{rest_walk, rest_gone, rest_left}
-use Rattle.aud_lattice.specs.declared.trie.Trie.{out-Trie}
-use Rattle.aud_lattice.specs.Walks.{walk, leads, nothing, but, after, child, starts, nodes_of, node_of, IsTrie, IsLive, IsLeft}
+use Rattle.aud_lattice.specs.declared.trie.Trie.TheVariants.{Fork, outs-Fork, outs-Member}
+use Rattle.aud_lattice.specs.declared.trie.Trie.{Trie, out-Trie}
+use Rattle.aud_lattice.specs.Walks.{leads, nothing, but, after, child, starts, nodes_of, node_of, IsTrie, IsLive, IsLeft}
 use Rattle.aud_lattice.specs.Sets.{either}
-use Rattle.aud_lattice.proofs.Tries.{any_by, pointwise, found_kids, child_size, good_child, live_child, fork_ordered, fork_set_good, sorted_nodes, empty_good, empty_walk}
+use Rattle.aud_lattice.proofs.Tries.{any_by, pointwise, found_kids, child_size, good_child, live_child, fork_good_at, fork_ordered, fork_set_good, found_node, gone_node, sorted_nodes, empty_good, empty_walk}
 use Rattle.base_values.proofs.Results.{on_ok, if_both}
-use Rattle.aud_lattice.proofs.Leads.{any_leads, nothing_leads, same_leads, set_leads, gone_left, known_left, still_absent, absent_at_first, starts_but, starts_nothing, either_nothing, passed_on, rising}
+use Rattle.aud_lattice.proofs.Leads.{any_leads, nothing_leads, same_leads, set_leads, gone_left, known_left, member_from_member, member_from_fork, fork_from_member, still_absent, absent_at_first, starts_but, starts_nothing, either_nothing, passed_on, rising}
 use Rattle.aud_lattice.proofs.trie.Trie.+leavings.Goals as goal
 
 pub leave-set-requires : goal.leave-set-requires
@@ -24,7 +22,7 @@ leave-returns-in-None-clause-left g t c =
     let R = g.D.Ord.cmp in
     let x = c.args.first.now in
     let f = leads R (arc_value c.args.node.now) in
-    let there = leads R (trie_at c.args.theirs.now) in
+    let there = leads R (Fork c.args.theirs.now) in
     let is : but f (after x there) ≡ nothing = subst (IsLeft {A = g.row.A.Denot} R (but f (after x there))) c.in-None.is c.in_ok-left.ensures in
     λ i. either ((sym (starts_nothing R x) ∙ ap (starts R x) (sym is) ∙ starts_but R g.met.D.Key.exact x f there) i) (leads R (Fork c.args.all.now))
 
@@ -33,7 +31,7 @@ leave-returns-in-Some-clause-good g t c =
     let R = g.D.Ord.cmp in
     let x = c.args.first.now in
     let f = leads R (arc_value c.args.node.now) in
-    let there = leads R (trie_at c.args.theirs.now) in
+    let there = leads R (Fork c.args.theirs.now) in
     let is : IsLeft R (but f (after x there)) (Some c.in-Some.node) = subst (IsLeft R (but f (after x there))) c.in-Some.is c.in_ok-left.ensures in
     on_ok c.set.result _ _
     (λ kids. fork_set_good R g.met.D.Ord.total g.met.D.Key.exact c.args.all.now c.set.new.next x (arc_value c.in-Some.node) c.set.ensures.ordered kids c.requires.into is.0 is.1)
@@ -49,7 +47,7 @@ leave-returns-in-Some-clause-left g t c =
     let R = g.D.Ord.cmp in
     let x = c.args.first.now in
     let f = leads R (arc_value c.args.node.now) in
-    let there = leads R (trie_at c.args.theirs.now) in
+    let there = leads R (Fork c.args.theirs.now) in
     let is : IsLeft R (but f (after x there)) (Some c.in-Some.node) = subst (IsLeft R (but f (after x there))) c.in-Some.is c.in_ok-left.ensures in
     on_ok c.set.result _ _
     (λ kids.
@@ -57,38 +55,50 @@ leave-returns-in-Some-clause-left g t c =
     ∙ (λ i. either ((ap (starts R x) is.2 ∙ starts_but R g.met.D.Key.exact x f there) i) (leads R (Fork c.args.all.now))))
     c.set.ensures.ok
 
+pub left-without-requires : goal.left-without-requires
+left-without-requires g t c κs within =
+    let h : IsTrie g.D.Ord.cmp (arc_value c.in-Some.known.now) =
+    fork_good_at g.D.Ord.cmp c.args.theirs.now c.args.first.now (arc_value c.in-Some.known.now) (found_node g.D.Ord.cmp c.args.theirs.now c.args.first.now c.in-Some.known.now (sym c.get.ensures.value ∙ ap option_copied c.in-Some.is)) c.requires.theirs in
+    rw (c.deref.ensures, c.deref-in-Some.ensures) (search (rules, h, c.requires))
+
 pub left-returns-in_ok-try_clone-in-None : goal.left-returns-in_ok-try_clone-in-None
 left-returns-in_ok-try_clone-in-None g t c =
     let R = g.D.Ord.cmp in
-    let gone : None ≡ child R (trie_at c.args.theirs.now) c.args.first.now = ap tries_at (sym c.in-None.is) ∙ c.step.ensures in
+    let x = c.args.first.now in
+    let m = c.args.theirs.now in
+    let gone = gone_node R m x (sym c.get.ensures.value ∙ ap option_copied c.in-None.is) in
     let is = c.in_ok-try_clone-in-None.ensures in (
       subst (IsTrie R) (sym is) c.requires.ours,
       subst (IsLive R) (sym is) c.requires.live,
-      ap (leads R) is ∙ gone_left R (leads R (arc_value c.args.ours.now)) (trie_at c.args.theirs.now) c.args.first.now gone,
+      ap (leads R) is ∙ gone_left R (leads R (arc_value c.args.ours.now)) m x gone,
     )
 
 pub left-returns-then-is_bare : goal.left-returns-then-is_bare
 left-returns-then-is_bare g t c =
     let R = g.D.Ord.cmp in
+    let x = c.args.first.now in
+    let m = c.args.theirs.now in
     let left = c.in_ok-left-in-Some.left in
-    let known = trie_at c.in-Some.known in
-    let found : Some known ≡ child R (trie_at c.args.theirs.now) c.args.first.now = ap tries_at (sym c.in-Some.is) ∙ c.step.ensures in
-    let is : leads R left ≡ but (leads R c.deref.result.now) (leads R known) = c.in_ok-left-in-Some.ensures.left in
+    let known : Trie g.row.D.Denot g.row.A.Denot = arc_value c.in-Some.known.now in
+    let found : node_of R m x ≡ Some known = found_node R m x c.in-Some.known.now (sym c.get.ensures.value ∙ ap option_copied c.in-Some.is) in
+    let is : leads R left ≡ but (leads R c.deref.result.now) (leads R c.deref-in-Some.result.now) = c.in_ok-left-in-Some.ensures.left in
     let bare : leads R left ≡ nothing = subst (λ b. MatchBool b (leads R left ≡ nothing) (IsLive R left)) c.if-is_bare.true c.is_bare.ensures in
-    sym (is ∙ (λ i. but (leads R (c.deref.ensures i)) (leads R known)) ∙ known_left R (leads R (arc_value c.args.ours.now)) (trie_at c.args.theirs.now) c.args.first.now known found) ∙ bare
+    sym (is ∙ (λ i. but (leads R (c.deref.ensures i)) (leads R (c.deref-in-Some.ensures i))) ∙ known_left R (leads R (arc_value c.args.ours.now)) m x known found) ∙ bare
 
 pub left-returns-in_ok-new-in-Some : goal.left-returns-in_ok-new-in-Some
 left-returns-in_ok-new-in-Some g t c =
     let R = g.D.Ord.cmp in
+    let x = c.args.first.now in
+    let m = c.args.theirs.now in
     let left = c.in_ok-left-in-Some.left in
-    let known = trie_at c.in-Some.known in
-    let found : Some known ≡ child R (trie_at c.args.theirs.now) c.args.first.now = ap tries_at (sym c.in-Some.is) ∙ c.step.ensures in
-    let is : leads R left ≡ but (leads R c.deref.result.now) (leads R known) = c.in_ok-left-in-Some.ensures.left in
+    let known : Trie g.row.D.Denot g.row.A.Denot = arc_value c.in-Some.known.now in
+    let found : node_of R m x ≡ Some known = found_node R m x c.in-Some.known.now (sym c.get.ensures.value ∙ ap option_copied c.in-Some.is) in
+    let is : leads R left ≡ but (leads R c.deref.result.now) (leads R c.deref-in-Some.result.now) = c.in_ok-left-in-Some.ensures.left in
     let live : IsLive R left = subst (λ b. MatchBool b (leads R left ≡ nothing) (IsLive R left)) c.if-is_bare.false c.is_bare.ensures in
     let new : arc_value c.in_ok-new-in-Some.field-0 ≡ left = c.in_ok-new-in-Some.ensures.ok in (
       subst (IsTrie R) (sym new) c.in_ok-left-in-Some.ensures.good,
       subst (IsLive R) (sym new) live,
-      ap (leads R) new ∙ is ∙ (λ i. but (leads R (c.deref.ensures i)) (leads R known)) ∙ known_left R (leads R (arc_value c.args.ours.now)) (trie_at c.args.theirs.now) c.args.first.now known found,
+      ap (leads R) new ∙ is ∙ (λ i. but (leads R (c.deref.ensures i)) (leads R (c.deref-in-Some.ensures i))) ∙ known_left R (leads R (arc_value c.args.ours.now)) m x known found,
     )
 
 pub without-loop-first-init : goal.without-loop-first-init
@@ -104,7 +114,7 @@ without-loop-first-init g t c =
     let all = c.new-all.result in
     let good : IsTrie R (Fork all) = empty_good R (Fork all) all (outs-Fork all) c.new-all.ensures.empty c.new-all.ensures.ordered in
     let none = nothing_leads R o ex (Fork all) good (pointwise (empty_walk R (Fork all) all (outs-Fork all) c.new-all.ensures.empty)) in
-    let there = leads R (trie_at c.args.other.now) in (
+    let there = leads R c.args.other.now in (
       tt,
       tt,
       good,
@@ -122,11 +132,12 @@ without-leave-requires g t c κs within =
     let steps = c.in-Some.ensures.steps in
     let kids = subst (λ es. AllByRecursion (λ x. child R c.args.self.now x.0 ≡ Some x.1) (nodes_of es)) steps c.loop-first.invariant.3 in
     let absent = subst (λ es. AllByRecursion (λ x. node_of R c.loop-first.all x.0 ≡ None) (nodes_of es)) steps c.loop-first.invariant.5 in
-    let good : IsTrie R (arc_value c.in-Some.node.now) = good_child R c.args.self.now c.in-Some.first.now (arc_value c.in-Some.node.now) kids.0 c.requires in
-    let live : IsLive R (arc_value c.in-Some.node.now) = live_child R c.args.self.now c.in-Some.first.now (arc_value c.in-Some.node.now) kids.0 c.requires in
+    let good : IsTrie R (arc_value c.in-Some.node.now) = good_child R c.args.self.now c.in-Some.first.now (arc_value c.in-Some.node.now) kids.0 c.requires.here in
+    let live : IsLive R (arc_value c.in-Some.node.now) = live_child R c.args.self.now c.in-Some.first.now (arc_value c.in-Some.node.now) kids.0 c.requires.here in
+    let theirs : IsTrie R (Fork c.in-Fork-other-2.theirs) = subst (IsTrie R) c.in-Fork-other-2.is c.requires.there in
     let none : node_of R c.loop-first.all c.in-Some.first.now ≡ None = absent.0 in
-    let small = child_size R c.args.self.now c.in-Fork.nodes (ap (out-Trie g.row.D.Denot g.row.A.Denot) c.in-Fork.is ∙ outs-Fork c.in-Fork.nodes) c.in-Some.first.now (arc_value c.in-Some.node.now) kids.0 in
-    search (rules, good, live, none, small, c.loop-first.invariant)
+    let small = child_size R c.args.self.now c.in-Some.first.now (arc_value c.in-Some.node.now) kids.0 in
+    search (rules, good, live, theirs, none, small, c.loop-first.invariant)
 
 pub without-loop-first-preserved : goal.without-loop-first-preserved
 without-loop-first-preserved g t c =
@@ -135,8 +146,8 @@ without-loop-first-preserved g t c =
     let x = c.in-Some.first.now in
     let rest = nodes_of c.next.new.self in
     let old = c.loop-first.all in
-    let made = c.in_ok-leave-in-Fork.ensures in
-    let there = leads R (trie_at c.args.other.now) in
+    let made = c.in_ok-leave-in-Fork-other-2.ensures in
+    let there = leads R c.args.other.now in
     let here = starts R x (leads R (arc_value c.in-Some.node.now)) in
     let kids = subst (λ es. AllByRecursion (λ e. child R c.args.self.now e.0 ≡ Some e.1) (nodes_of es)) steps c.loop-first.invariant.3 in
     let sorted = rising R x (keys_of rest) (subst (λ es. IsStrictlySortedBy R (keys_of (nodes_of es))) steps c.loop-first.invariant.4) in
@@ -147,35 +158,35 @@ without-loop-first-preserved g t c =
       kids.1,
       sorted.1,
       still_absent R x old c.leave.new.all rest sorted.0 made.others absent.1,
-      (λ i. either (but (any_by R (leads R) rest) there) (made.left i))
+      (λ i. either (but (any_by R (leads R) rest) there) ((made.left ∙ (λ j. either (but here (leads R (sym c.in-Fork-other-2.is j))) (leads R (Fork old)))) i))
           ∙ passed_on here (any_by R (leads R) rest) there (leads R (Fork old))
           ∙ (λ i. either (but (any_by R (leads R) (nodes_of (sym steps i))) there) (leads R (Fork old)))
           ∙ c.loop-first.invariant.6,
     )
 
+pub without-returns-in-Member-other-clause-left : goal.without-returns-in-Member-other-clause-left
+without-returns-in-Member-other-clause-left g t c =
+    nothing_leads g.D.Ord.cmp g.met.D.Ord.total g.met.D.Key.exact c.empty.result c.empty.ensures.good c.empty.ensures.nothing
+    ∙ member_from_member g.D.Ord.cmp c.args.self.now c.args.other.now (ap (out-Trie g.row.D.Denot g.row.A.Denot) c.in-Member.is ∙ outs-Member) (ap (out-Trie g.row.D.Denot g.row.A.Denot) c.in-Member-other.is ∙ outs-Member)
+
+pub without-returns-in-Fork-other-clause-left : goal.without-returns-in-Fork-other-clause-left
+without-returns-in-Fork-other-clause-left g t c =
+    ap (leads g.D.Ord.cmp) (sym c.in-Member.is)
+    ∙ member_from_fork g.D.Ord.cmp c.args.self.now c.args.other.now c.in-Fork-other.field-0 (ap (out-Trie g.row.D.Denot g.row.A.Denot) c.in-Member.is ∙ outs-Member) (ap (out-Trie g.row.D.Denot g.row.A.Denot) c.in-Fork-other.is ∙ outs-Fork c.in-Fork-other.field-0)
+
+pub without-returns-in-Member-other-2-clause-left : goal.without-returns-in-Member-other-2-clause-left
+without-returns-in-Member-other-2-clause-left g t c =
+    let R = g.D.Ord.cmp in
+    let old = c.args.self.now in
+    let other = c.args.other.now in
+    let at = ap (out-Trie g.row.D.Denot g.row.A.Denot) c.in-Fork.is ∙ outs-Fork c.in-Fork.nodes in
+    let is = ap (out-Trie g.row.D.Denot g.row.A.Denot) c.in-Member-other-2.is ∙ outs-Member in
+    if_both c.copied.result (IsTrie R) _ (λ t. leads R t ≡ but (leads R old) (leads R other))
+    (λ t good same. same_leads R g.met.D.Ord.total g.met.D.Key.exact old t c.requires.here good same ∙ fork_from_member R old other c.in-Fork.nodes at is)
+    c.copied.ensures.good c.copied.ensures.same
+
 pub without-returns-in-None-clause-left : goal.without-returns-in-None-clause-left
 without-returns-in-None-clause-left g t c =
     let R = g.D.Ord.cmp in
-    (λ i. either (but (any_by R (leads R) (nodes_of (sym c.in-None.ensures.steps.0 i))) (leads R (trie_at c.args.other.now))) (leads R (Fork c.loop-first.all)))
+    (λ i. either (but (any_by R (leads R) (nodes_of (sym c.in-None.ensures.steps.0 i))) (leads R c.args.other.now)) (leads R (Fork c.loop-first.all)))
     ∙ c.loop-first.invariant.6
-
-pub without-returns-then-has-clause-left : goal.without-returns-then-has-clause-left
-without-returns-then-has-clause-left g t c =
-    let R = g.D.Ord.cmp in
-    let self = c.args.self.now in
-    let other = trie_at c.args.other.now in
-    let at = ap (out-Trie g.row.D.Denot g.row.A.Denot) c.in-Rest.is ∙ outs-Rest c.in-Rest.rest in
-    nothing_leads R g.met.D.Ord.total g.met.D.Key.exact c.empty.result c.empty.ensures.good c.empty.ensures.nothing
-    ∙ rest_gone R g.met.D.Key.exact self other c.in-Rest.rest at (ap (leads R other) (sym c.as_slice.ensures) ∙ sym c.has.ensures ∙ c.if-has.true)
-
-pub without-returns-else-has-clause-left : goal.without-returns-else-has-clause-left
-without-returns-else-has-clause-left g t c =
-    let R = g.D.Ord.cmp in
-    let self = c.args.self.now in
-    let other = trie_at c.args.other.now in
-    let rest = c.in-Rest.rest in
-    let at = ap (out-Trie g.row.D.Denot g.row.A.Denot) c.in-Rest.is ∙ outs-Rest rest in
-    let left = rest_left R g.met.D.Key.exact self other rest at (ap (leads R other) (sym c.as_slice.ensures) ∙ sym c.has.ensures ∙ c.if-has.false) in
-    if_both c.of_list.result (IsTrie R) (λ t. walk R t ≡ begins R c.as_slice-in-Rest.result.now) (λ t. leads R t ≡ but (leads R self) (leads R other))
-    (λ t good is. same_leads R g.met.D.Ord.total g.met.D.Key.exact self t c.requires good (is ∙ (λ i. begins R (c.as_slice-in-Rest.ensures i)) ∙ sym (rest_walk R rest self at)) ∙ left)
-    c.of_list.ensures.good c.of_list.ensures.one

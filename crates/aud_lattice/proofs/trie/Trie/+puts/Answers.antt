@@ -1,14 +1,12 @@
 use Rattle.std.proofs.Common.{rules, ap, subst, length, ◌+◌, arith, ◌∙◌, sym, ◌≡◌}
 use Rattle.std.specs.Option.{option_copied}
 use Rattle.std.specs.Arc.{arc_value}
-use Rattle.aud_lattice.specs.declared.trie.Trie.TheVariants.{Fork, outs-Rest}
-use Rattle.aud_lattice.specs.declared.trie.Trie.{out-Trie}
-use Rattle.aud_lattice.proofs.Rests.{rest_walk}
-use Rattle.aud_lattice.specs.Walks.{walk, HasBoth, IsAdded, IsTrie}
+use Rattle.aud_lattice.specs.declared.trie.Trie.TheVariants.{Fork}
+use Rattle.aud_lattice.specs.Walks.{walk, IsTrie}
 use Rattle.aud_lattice.specs.Sets.{either}
 use Rattle.aud_lattice.specs.Covers.{begins}
-use Rattle.aud_lattice.proofs.Tries.{nil_covers, fork_good_at, fork_ordered, found_node, gone_node, wrote, added, alike_good, alike_walk, begins_live, begins-starts}
-use Rattle.base_values.proofs.Results.{if_both, both_ways_out, on_ok, on_err}
+use Rattle.aud_lattice.proofs.Tries.{member_is_good, member_keeps, nil_covers, fork_good_at, fork_ordered, found_node, gone_node, wrote, added, alike_good, alike_walk, begins_live, begins-starts}
+use Rattle.base_values.proofs.Results.{both_ways_out, on_ok, on_err}
 use Rattle.aud_lattice.proofs.trie.Trie.+puts.Goals as goal
 
 pub put_under-with-requires : goal.put_under-with-requires
@@ -69,20 +67,17 @@ with-put_under-requires g t c κs within =
     let longer : length c.args.list.now ≡ length c.in-Some.rest.now + 1 = ap length c.in-Some.ensures.cases.0 ∙ omega arith in
     search (rules, h, longer)
 
+pub with-returns-in-Member-clause-both : goal.with-returns-in-Member-clause-both
+with-returns-in-Member-clause-both g t c = member_keeps g.D.Ord.cmp (begins g.D.Ord.cmp c.args.list.now) ∙ (λ i. either (begins g.D.Ord.cmp c.args.list.now) (walk g.D.Ord.cmp (sym c.in-Member.is i)))
+
+pub with-returns-in-None-clause-good : goal.with-returns-in-None-clause-good
+with-returns-in-None-clause-good g t c = member_is_good g.D.Ord.cmp
+
+pub with-returns-in-None-clause-both : goal.with-returns-in-None-clause-both
+with-returns-in-None-clause-both g t c = nil_covers g.D.Ord.cmp c.args.list.now (walk g.D.Ord.cmp c.args.self.now) c.in-None.ensures.cases
+
 pub with-returns-in_ok-put_under-in-Some-clause-both : goal.with-returns-in_ok-put_under-in-Some-clause-both
 with-returns-in_ok-put_under-in-Some-clause-both g t c =
     let all = c.in_ok-all-in-Some.all in
     let ours = alike_walk g.D.Ord.cmp c.in-Fork.next all c.in_ok-all-in-Some.ensures.same ∙ ap (walk g.D.Ord.cmp) (sym c.in-Fork.is) in
     c.in_ok-put_under-in-Some.ensures.ok ∙ (λ i. either (begins g.D.Ord.cmp (sym c.in-Some.ensures.cases.0 i)) (ours i))
-
-pub with-returns-in-None-clause-both : goal.with-returns-in-None-clause-both
-with-returns-in-None-clause-both g t c = nil_covers g.D.Ord.cmp c.end.result c.args.list.now (walk g.D.Ord.cmp c.args.self.now) c.end.ensures.nothing_left c.in-None.ensures.cases
-
-pub with-returns-in-Rest-clause-both : goal.with-returns-in-Rest-clause-both
-with-returns-in-Rest-clause-both g t c =
-    let R = g.D.Ord.cmp in
-    let list = c.args.list.now in
-    let known = (λ i. begins R (c.as_slice.ensures i)) ∙ sym (rest_walk R c.in-Rest.known c.args.self.now (ap (out-Trie g.row.D.Denot g.row.A.Denot) c.in-Rest.is ∙ outs-Rest c.in-Rest.known)) in
-    if_both c.of_both.result (IsTrie R) (HasBoth R c.as_slice.result.now list) (IsAdded R list c.args.self.now)
-    (λ t good is. is ∙ (λ i. either (begins R list) (known i)))
-    c.of_both.ensures.good c.of_both.ensures.both

@@ -1,15 +1,14 @@
-use Rattle.std.proofs.Common.{ap, ◌∙◌, sym, subst}
+use Rattle.std.proofs.Common.{[], ap, ◌∙◌, sym, subst}
 use mathlib.Core.Bool.{true≢false}
 use Rattle.aud_lattice.specs.declared.trie.Trie.{out-Trie}
-use Rattle.aud_lattice.specs.declared.trie.Trie.TheVariants.{outs-Fork, outs-Rest}
-use Rattle.aud_lattice.specs.Walks.{IsLayer}
+use Rattle.aud_lattice.specs.declared.trie.Trie.TheVariants.{outs-Fork, outs-Member}
+use Rattle.aud_lattice.specs.Walks.{ends, IsLayer}
 use Rattle.aud_lattice.proofs.Tries.{good_here}
-use Rattle.aud_lattice.proofs.Rests.{rest_live}
 use Rattle.aud_lattice.proofs.Leads.{reported, full_live, empty_leads}
 use Rattle.aud_lattice.proofs.trie.Trie.is_bare.Goals as goal
 
-pub returns-in-Rest : goal.returns-in-Rest
-returns-in-Rest g c = rest_live g.D.Ord.cmp g.met.D.Ord.total c.in-Rest.field-0 c.args.self.now (ap (out-Trie g.row.D.Denot g.row.A.Denot) c.in-Rest.is ∙ outs-Rest c.in-Rest.field-0)
+pub returns-in-Member : goal.returns-in-Member
+returns-in-Member g c = λ none. true≢false (sym (ap ends (ap (out-Trie g.row.D.Denot g.row.A.Denot) c.in-Member.is ∙ outs-Member)) ∙ none [])
 
 pub returns-in-Fork : goal.returns-in-Fork
 returns-in-Fork g c =

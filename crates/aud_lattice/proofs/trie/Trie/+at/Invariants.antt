@@ -1,5 +1,5 @@
 use Rattle.std.proofs.Common.{length}
-use Rattle.aud_lattice.proofs.place.Place.+at.Given as goal
+use Rattle.aud_lattice.proofs.trie.Trie.+at.Given as goal
 
 abbrev pub decreases-at : goal.decreases-at
 decreases-at g l = length l.list.now
