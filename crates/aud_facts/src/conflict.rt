@@ -34,7 +34,7 @@ fn stamp_twice<A: Allocator + Copy>(set: &UnionSet<Fact, A>, marks: &[u8]) -> Op
     requires stamps { AreStamps set.now marks.now }
     ensures { result ≡ first_place (is_twice set.now) set.now }
 {
-    for fact in set.iter() {
+    for fact in set.items() {
         if let Fact::Rec(seen) = fact {
             if marks[seen.stamp as usize] > 1 {
                 return Some((seen.log, seen.at));
@@ -114,7 +114,7 @@ fn past_count<A: Allocator + Copy>(
     requires bounds { AreBounds set.now bounds.now }
     ensures { result ≡ first_place (is_past set.now) set.now }
 {
-    for fact in set.iter() {
+    for fact in set.items() {
         if let Fact::Rec(seen) = fact {
             if is_past_bound(set, bounds, seen.log, seen.at as usize) {
                 return Some((seen.log, seen.at));

@@ -3,7 +3,7 @@
 ghost use Rattle.std.specs.Prelude.{◌≡◌, IfOk, OnOk, OnErr, IsTrue, ◌↔◌, ◌<◌, [], None, MatchOption, All, false};
 ghost use Rattle.aud_event.specs.Facts.{first_fact_fault};
 ghost use Rattle.aud_event.specs.contracts.fact.FactOrd.TheImpl as fact_ord;
-ghost use Rattle.aud_lattice.specs.Sets.{has, with_item, inserted};
+ghost use Rattle.aud_lattice.specs.Sets.{has, with_item, inserted, union};
 ghost use Rattle.aud_facts.specs.Growth.{AreInConflict};
 ghost use Rattle.aud_facts.specs.Joins.{joined};
 ghost use Rattle.aud_facts.specs.Order.{AreOrdered};
@@ -65,7 +65,7 @@ fn status_of_set<A: Allocator + Copy>(
     ensures status { result.0 ≡ fact_status plan.now.logs set.now }
     ensures records { result.1 ≡ count is_record set.now }
 {
-    let _ordered = set.iter();
+    let _ordered = set.items();
     status_in(set, plan.logs())
 }
 
@@ -81,10 +81,21 @@ fn history_of_set<A: Allocator + Copy>(
     requires records { records ≡ count is_record set.now }
     ensures { IfOk result (λ h. h ≡ record { plan = plan.value; events = hist set.now }) }
 {
-    let _ordered = set.iter();
+    let _ordered = set.items();
     let _sound = plan.logs();
     let events = history_of(alloc, set, records)?;
     Ok(History::new(plan, events))
+}
+
+/// Takes in what the other set has. A refused join leaves the set as it was.
+fn join_sets<A: Allocator + Copy>(
+    ours: &mut UnionSet<Fact, A>,
+    theirs: &UnionSet<Fact, A>,
+) -> Result<(), OutOfMemory>
+    ensures ok { OnOk result (ours.new ≡ union fact_ord.ghosts.cmp ours.old theirs.now) }
+    ensures err { OnErr result (ours.new ≡ ours.old) }
+{
+    ours.join(theirs)
 }
 
 impl<A: Allocator + Copy> Facts<A> {
@@ -125,7 +136,7 @@ impl<A: Allocator + Copy> Facts<A> {
         ensures sound { AreSound self.now.plan self.now.facts }
         ensures ordered { AreOrdered self.now.facts }
     {
-        let _ordered = self.set.iter();
+        let _ordered = self.set.items();
         &self.set
     }
 
@@ -138,7 +149,7 @@ impl<A: Allocator + Copy> Facts<A> {
         ensures grows { AreSealed self.old → has fact_ord.ghosts.cmp self.old.facts fact.now ≡ false →
             OnOk result (AreInConflict self.new) }
     {
-        let _ordered = self.set.iter();
+        let _ordered = self.set.items();
         self.set.insert(*fact)?;
         Ok(())
     }
@@ -150,7 +161,7 @@ impl<A: Allocator + Copy> Facts<A> {
         ensures err { OnErr result (self.new ≡ self.old) }
     {
         let theirs = other.set();
-        self.set.join(theirs)?;
+        join_sets(&mut self.set, theirs)?;
         Ok(())
     }
 
@@ -162,7 +173,7 @@ impl<A: Allocator + Copy> Facts<A> {
     {
         let plan = Arc::try_clone(&self.plan)?;
         let set = self.set.without(&other.set)?;
-        let _ordered = set.iter();
+        let _ordered = set.items();
         Ok(Facts {
             alloc: self.alloc,
             plan,
@@ -179,7 +190,7 @@ impl<A: Allocator + Copy> Facts<A> {
         if shares == 1 && number == 0 {
             return self.dup();
         }
-        let _ordered = self.set.iter();
+        let _ordered = self.set.items();
         let share = listed_share(self.alloc, &self.set, shares, number)?;
         let plan = Arc::try_clone(&self.plan)?;
         Facts::from_vec(self.alloc, plan, share)

@@ -30,7 +30,7 @@ pub(crate) fn listed_share<A: Allocator + Copy>(
     ensures { IfOk result (λ share. share.items ≡ share_of shares number set.now) }
 {
     let mut share = Vec::new(alloc);
-    for fact in set.iter() {
+    for fact in set.items() {
         if is_of_share(fact, shares, number) {
             share.push(*fact)?;
         }

@@ -46,7 +46,7 @@ pub fn survey_of<A: Allocator + Copy>(set: &UnionSet<Fact, A>, marks: &mut [u8])
     let mut records = 0usize;
     let mut crowded = false;
     marks.fill(0);
-    for fact in set.iter() {
+    for fact in set.items() {
         match fact {
             Fact::Rec(seen) => {
                 places.see_place(seen);

@@ -9,4 +9,4 @@ pub new-requires : goal.new-requires
 new-requires g c =
     let sound = subst (λ (p : PlanOf). first_plan_fault p ≡ None) c.deref.ensures c.logs-sound.ensures.sound in
     rw c.in_ok-events.ensures
-    (within_limits c.args.plan.value c.args.set.now c.iter-ordered.ensures.sorted c.requires.sound (sound_within c.args.plan.value c.args.set.now sound c.requires.sound) c.requires.sealed)
+    (within_limits c.args.plan.value c.args.set.now c.items-ordered.ensures.sorted c.requires.sound (sound_within c.args.plan.value c.args.set.now sound c.requires.sound) c.requires.sealed)

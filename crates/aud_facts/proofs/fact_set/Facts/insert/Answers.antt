@@ -13,5 +13,5 @@ invariant_of-self-2 g c =
 
 pub returns-clause-grows : goal.returns-clause-grows
 returns-clause-grows g c = λ sealed new. rw c.in_ok-insert.ensures.ok
-    (sealed_is_full c.self.inside.plan.value c.self.inside.set c.args.fact.now c.iter-ordered.ensures.sorted c.self.invariant
+    (sealed_is_full c.self.inside.plan.value c.self.inside.set c.args.fact.now c.items-ordered.ensures.sorted c.self.invariant
     (rw (← c.self.view_is) at sealed) (rw (← c.self.view_is) at c.requires) (rw (← c.self.view_is) at new))

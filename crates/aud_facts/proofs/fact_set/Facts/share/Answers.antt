@@ -19,7 +19,7 @@ from_vec-requires g c =
 pub returns : goal.returns
 returns g c =
     let all : List Fact = share_of c.args.shares c.args.number c.self.inside.set in
-    let is : inserted fact_ord.ghosts.cmp all [] ≡ all = sym (share_inserted c.args.shares c.args.number c.self.inside.set c.iter-ordered.ensures.sorted) in
+    let is : inserted fact_ord.ghosts.cmp all [] ≡ all = sym (share_inserted c.args.shares c.args.number c.self.inside.set c.items-ordered.ensures.sorted) in
     let made : IfOk c.from_vec.result (λ share. share ≡ record { plan = c.self.inside.plan.value; facts = inserted fact_ord.ghosts.cmp all [] }) =
     rw (← c.in_ok-share.ensures, ← c.in_ok-plan.ensures) c.from_vec.ensures in
     rw (← c.self.view_is) (subst (λ (fs : List Fact). IfOk c.from_vec.result (λ share. share ≡ record { plan = c.self.inside.plan.value; facts = fs })) is made)
