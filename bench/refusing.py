@@ -6,7 +6,7 @@ import shutil
 
 HERE = os.path.dirname(os.path.abspath(__file__))
 NAME = "bench_refusing"
-NEEDS = "base_values node_pool aud_event aud_object aud_history aud_witness aud_lattice aud_facts aud_text test_worked aud_order search_engine aud_search aud_know aud_split aud_report aud_cert"
+NEEDS = "base_values node_pool aud_event aud_object aud_history aud_witness aud_lattice aud_facts aud_text test_worked aud_order search_engine aud_search aud_cover aud_know aud_split aud_report aud_cert"
 
 
 def put(room):

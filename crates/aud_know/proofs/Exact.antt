@@ -28,7 +28,7 @@ use Rattle.aud_know.specs.Laws.{NormIsExact}
 use Rattle.aud_know.proofs.Keeping.{fact_total}
 use Rattle.aud_know.proofs.Norming.{fact_there, there_fact, refuted_there, there_refuted, shown_there, there_shown, has-norm, reaches-norm, is_normal}
 use Rattle.base_values.proofs.Bools.{same_bools}
-use Rattle.aud_know.proofs.Beginnings.{begins-rest, begins-longer}
+use Rattle.aud_cover.proofs.Beginnings.{begins-rest, begins-longer}
 
 prefix_total : IsTotalOrder (slice_cmp decision_cmp)
 prefix_total = lists_total decisions_total

@@ -21,8 +21,8 @@ use Rattle.aud_facts.specs.Status.{fact_status, hist}
 use Rattle.aud_witness.specs.declared.decision.Decision.{Decision}
 use Rattle.aud_witness.specs.Orders.{Refuted, Shows}
 use Rattle.aud_order.specs.Shapes.{ShapeOf, objects_of, history_of}
-use Rattle.aud_know.specs.Closings.{IsClosed}
-use Rattle.aud_know.specs.Laws.{ClosedIsRefuted}
+use Rattle.aud_cover.specs.Closings.{IsClosed}
+use Rattle.aud_cover.specs.Laws.{ClosedIsRefuted}
 use Rattle.aud_know.specs.Known.{Held, KnowledgeOf}
 use Rattle.aud_know.specs.Truth.{AreWhole, IsKnowledge}
 use Rattle.aud_know.specs.Verdicts.{OfWellFormed, StatusReports, FactsReport, FactsReportAtOnce, status_reported, IsVerdict}

@@ -1,10 +1,3 @@
-pub mod Beginnings
-pub mod Refuting
-pub mod Steps
-pub mod Distinct
-pub mod Opened
-pub mod Emptied
-pub mod Leads
 pub mod Norming
 pub mod Truths
 pub mod Taking

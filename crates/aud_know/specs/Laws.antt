@@ -1,11 +1,10 @@
--- Laws of covers, of normal forms and of verdicts, each the contract of a function of src/laws.rt.
+-- Laws of normal forms and of verdicts, each the contract of a function of src/laws.rt.
 use Rattle.std.specs.Prelude.{◌≡◌, ◌↔◌, List, [], ◌++◌}
 use Rattle.std.specs.List.{Contains}
 use Rattle.aud_event.specs.Meanings.{Declared}
 use Rattle.aud_history.specs.Histories.{History}
 use Rattle.aud_witness.specs.declared.decision.Decision.{Decision}
 use Rattle.aud_witness.specs.Orders.{Refuted}
-use Rattle.aud_know.specs.Closings.{IsClosed}
 use Rattle.aud_know.specs.Norms.{atoms_of}
 use Rattle.aud_know.specs.Known.{KnownAtom, Held, norm_of, KnowledgeOf, knowing}
 use Rattle.aud_know.specs.Members.{IsNormOf}
@@ -13,12 +12,6 @@ use Rattle.aud_know.specs.Truth.{IsKnowledge, AreShownBy, AreRefutedAt}
 use Rattle.aud_know.specs.Verdicts.{IsVerdict}
 use Rattle.aud_know.specs.declared.verdict.Verdict.{Verdict}
 use Rattle.aud_know.specs.declared.verdict.Verdict.TheVariants as verdict
-
--- what is closed over refuted lists is refuted
-abbrev pub ClosedIsRefuted : Type 0
-ClosedIsRefuted =
-    (objects : List Declared) (h : History) (cover : List (List Decision)) (p : List Decision) →
-    ((q : List Decision) → Contains cover q → Refuted objects h q) → IsClosed objects h cover p → Refuted objects h p
 
 -- the normal form of atoms is what has exactly their facts, their first refuted lists and their least witness
 abbrev pub NormIsExact : Type 0

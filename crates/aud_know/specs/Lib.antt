@@ -1,6 +1,3 @@
-pub mod Closings
-pub mod Openings
-pub mod Leading
 pub mod Norms
 pub mod Known
 pub mod Members

@@ -8,7 +8,7 @@ use Rattle.aud_facts.specs.declared.status.FactStatus.{FactStatus}
 use Rattle.aud_facts.specs.declared.status.FactStatus.TheVariants as status
 use Rattle.aud_facts.specs.Status.{fact_status, hist}
 use Rattle.aud_witness.specs.declared.decision.Decision.{Decision}
-use Rattle.aud_know.specs.Closings.{IsClosed}
+use Rattle.aud_cover.specs.Closings.{IsClosed}
 use Rattle.aud_know.specs.Known.{KnowledgeOf}
 use Rattle.aud_know.specs.declared.verdict.Verdict.{Verdict}
 use Rattle.aud_know.specs.declared.verdict.Verdict.TheVariants as verdict

@@ -5,11 +5,11 @@ ghost use Rattle.aud_history.specs.WellFormed.{IsWellFormed};
 ghost use Rattle.aud_know.specs.Truth.{AreShownBy, AreRefutedAt};
 ghost use Rattle.aud_know.specs.Verdicts.{IsVerdict};
 
-use crate::closing::closed;
 use crate::knowledge::Knowledge;
-use crate::laws::closed_is_refuted;
 use crate::reading::well_formed_history;
 use crate::verdict::Verdict;
+use aud_cover::closed;
+use aud_cover::laws::closed_is_refuted;
 use aud_event::{Dup, OutOfMemory};
 use aud_facts::Sealed;
 use aud_facts::laws::quiet_is_no_conflict;

@@ -4,7 +4,7 @@ ghost use Rattle.std.specs.Prelude.{◌≡◌, ◌≢◌, ◌↔◌, [], ◌∷�
 ghost use Rattle.std.specs.Option.{option_copied};
 ghost use Rattle.std.specs.Result.{IsErrOf};
 ghost use Rattle.aud_event.specs.Facts.{first_fact_fault};
-ghost use Rattle.aud_know.specs.Closings.{IsCovered};
+ghost use Rattle.aud_cover.specs.Closings.{IsCovered};
 ghost use Rattle.aud_know.specs.Norms.{fact, refuted, shown, atoms_of};
 ghost use Rattle.aud_know.specs.Beyond.{IsBeyond, JoinAlike};
 ghost use Rattle.aud_know.specs.Known.{knowing, knowing_facts, Takes};

@@ -1,14 +1,10 @@
 //! Laws of the definitions. Each function does nothing: its contract is the law.
 
-ghost use Rattle.aud_know.specs.Laws.{ClosedIsRefuted, NormIsExact, NormIsOfSet, KnowledgeIsNorm, NormAbsorbs, VerdictIsOne, OpaqueIsShown, NotOpaqueIsRefuted};
+ghost use Rattle.aud_know.specs.Laws.{NormIsExact, NormIsOfSet, KnowledgeIsNorm, NormAbsorbs, VerdictIsOne, OpaqueIsShown, NotOpaqueIsRefuted};
 
+use aud_cover::laws::closed_is_refuted;
 use aud_facts::laws::quiet_is_no_conflict;
 use std::alloc::Allocator;
-
-/// What is closed over refuted lists is refuted.
-pub fn closed_is_refuted()
-    ensures { ClosedIsRefuted }
-{}
 
 /// The normal form of atoms is what has exactly their facts, those of their refuted lists of which no proper beginning is
 /// refuted by them, and the least of their witnesses.

@@ -5,7 +5,7 @@ use Rattle.std.specs.declared.sync.Arc.{Arc}
 use Rattle.std.specs.declared.alloc.Global.{Global}
 use Rattle.aud_event.specs.Meanings.{PlanOf}
 use Rattle.aud_witness.specs.declared.decision.Decision.{Decision}
-use Rattle.aud_know.specs.Closings.{IsCovered}
+use Rattle.aud_cover.specs.Closings.{IsCovered}
 use Rattle.aud_know.specs.declared.item.Item.{Item}
 use Rattle.aud_know.specs.Items.{item_atoms}
 use Rattle.aud_know.specs.Known.{KnownAtom, KnowledgeOf, knowing, Takes}

@@ -12,7 +12,7 @@ use Rattle.aud_witness.specs.Orders.{IsGood, IsGoodNext}
 use Rattle.aud_witness.specs.OrderFaults.{is_good_next, kids}
 use Rattle.aud_witness.proofs.Good.{IsGood-empty, IsGood-push, IsGood-last}
 use Rattle.aud_order.proofs.KidLemmas.{kids-each, next-from_good, good-from_next}
-use Rattle.aud_know.specs.Closings.{IsCovered, IsClosed, covered, bad, by_kids}
+use Rattle.aud_cover.specs.Closings.{IsCovered, IsClosed, covered, bad, by_kids}
 use Rattle.aud_split.specs.Tasks.{HasNoKids, IsTask}
 use Rattle.aud_split.specs.Laws.{TasksClose}
 use Rattle.aud_split.proofs.Tasks.{full-no_kids, task-itself, task-of_kid}

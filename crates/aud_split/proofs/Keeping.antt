@@ -6,7 +6,7 @@ use Rattle.aud_lattice.specs.Covers.{begins}
 use Rattle.aud_lattice.proofs.Strict.{some_passes, one_passes}
 use Rattle.aud_witness.specs.declared.decision.Decision.{Decision}
 use Rattle.aud_witness.specs.DecisionOrder.{decision_cmp, decisions_total, decision_exact}
-use Rattle.aud_know.specs.Closings.{IsCovered}
+use Rattle.aud_cover.specs.Closings.{IsCovered}
 use Rattle.aud_know.specs.Norms.{refuted_of}
 use Rattle.aud_know.specs.Known.{KnownAtom, norm_of}
 use Rattle.aud_know.specs.Members.{IsLeastShown}
@@ -15,7 +15,7 @@ use Rattle.aud_know.proofs.Norming.{there_refuted, covers-norm}
 use Rattle.aud_know.proofs.Exact.{norm_exact}
 use Rattle.aud_split.specs.Searched.{IsRefutedBy, HasShown}
 use Rattle.aud_split.specs.Laws.{KnownIsKept}
-use Rattle.aud_know.proofs.Beginnings.{begins-rest, begins-longer}
+use Rattle.aud_cover.proofs.Beginnings.{begins-rest, begins-longer}
 
 -- a beginning that an atom refutes has a beginning in the cover
 kept_refuted : (atoms : List KnownAtom) (t : List Decision) → IsRefutedBy atoms t → IsCovered (norm_of atoms).cover t

@@ -14,8 +14,8 @@ use Rattle.aud_witness.specs.declared.decision.Decision.{Decision}
 use Rattle.aud_witness.specs.Orders.{Refuted}
 use Rattle.aud_witness.proofs.Beginnings.{Refuted-append}
 use Rattle.search_prefix.specs.Searches.{SpentBy}
-use Rattle.aud_know.specs.Closings.{IsCovered, IsClosed}
-use Rattle.aud_know.proofs.Refuting.{closed-refuted}
+use Rattle.aud_cover.specs.Closings.{IsCovered, IsClosed}
+use Rattle.aud_cover.proofs.Refuting.{closed-refuted}
 use Rattle.aud_know.specs.Known.{KnownAtom, Held, KnowledgeOf, norm_of}
 use Rattle.aud_know.specs.Truth.{IsKnowledge}
 use Rattle.aud_know.specs.Verdicts.{OfWellFormed, IsVerdict}

@@ -14,9 +14,9 @@ use Rattle.aud_witness.specs.DecisionOrder.{decision_cmp}
 use Rattle.aud_witness.specs.Orders.{IsFull, IsGood}
 use Rattle.aud_witness.proofs.Good.{IsGood-push, IsGood-last, IsGood-beginning}
 use Rattle.aud_order.specs.Kids.{AreKids}
-use Rattle.aud_know.proofs.Steps.{no_decision}
-use Rattle.aud_know.proofs.Distinct.{kids-rise}
-use Rattle.aud_know.proofs.Opened.{begins-less, sorted-append, sorted-none, sorted-one, none_there, only_there}
+use Rattle.aud_cover.proofs.Steps.{no_decision}
+use Rattle.aud_cover.proofs.Distinct.{kids-rise}
+use Rattle.aud_cover.proofs.Opened.{begins-less, sorted-append, sorted-none, sorted-one, none_there, only_there}
 use Rattle.aud_split.specs.Tasks.{HasNoKids, IsTask, AreTasks, AreAdded}
 
 abbrev Lists : Type 0

@@ -6,7 +6,7 @@ use Rattle.aud_event.specs.Meanings.{Declared}
 use Rattle.aud_history.specs.Histories.{History}
 use Rattle.aud_facts.specs.Sets.{SealedOf}
 use Rattle.aud_witness.specs.declared.decision.Decision.{Decision}
-use Rattle.aud_know.specs.Closings.{IsCovered, IsClosed}
+use Rattle.aud_cover.specs.Closings.{IsCovered, IsClosed}
 use Rattle.aud_know.specs.Known.{KnownAtom, norm_of, KnowledgeOf}
 use Rattle.aud_know.specs.Verdicts.{IsVerdict}
 use Rattle.aud_know.specs.declared.verdict.Verdict.{Verdict}

@@ -3,7 +3,7 @@ use Rattle.std.proofs.Common.{◌≡◌, ◌++◌, ℕ, List, Contains, ap, subs
 use Rattle.std.proofs.lemmas.List.Elements.{Contains-append_left, Contains-append_right}
 use Rattle.aud_witness.specs.declared.decision.Decision.{Decision}
 use Rattle.aud_order.specs.Shapes.{ShapeOf, objects_of, history_of}
-use Rattle.aud_know.specs.Closings.{IsCovered}
+use Rattle.aud_cover.specs.Closings.{IsCovered}
 use Rattle.aud_know.specs.Norms.{atoms_of, refuted, shown}
 use Rattle.aud_know.specs.Known.{Held, KnownAtom, KnowledgeOf, Takes, norm_of}
 use Rattle.aud_know.specs.Laws.{KnowledgeIsNorm}

@@ -8,7 +8,7 @@ use Rattle.aud_facts.specs.Sets.{FactsOf, SealedOf, IsSealedWith}
 use Rattle.aud_facts.specs.Status.{fact_status, hist}
 use Rattle.aud_history.specs.Histories.{History}
 use Rattle.aud_witness.specs.declared.decision.Decision.{Decision}
-use Rattle.aud_know.specs.Closings.{IsClosed}
+use Rattle.aud_cover.specs.Closings.{IsClosed}
 use Rattle.aud_know.specs.Known.{KnowledgeOf}
 use Rattle.aud_know.specs.Laws.{KnowledgeIsNorm}
 use Rattle.aud_know.specs.Norms.{atoms_of}

@@ -6,7 +6,7 @@ use Rattle.aud_facts.specs.Sets.{FactsOf, IsSealedWith}
 use Rattle.aud_history.specs.WellFormed.{IsWellFormed}
 use Rattle.aud_witness.specs.declared.decision.Decision.{Decision}
 use Rattle.aud_order.specs.Shapes.{ShapeOf, objects_of, history_of}
-use Rattle.aud_know.specs.Closings.{IsCovered}
+use Rattle.aud_cover.specs.Closings.{IsCovered}
 use Rattle.search_prefix.specs.Searches.{SpentBy}
 use Rattle.aud_know.specs.Known.{KnowledgeOf}
 use Rattle.aud_know.specs.Verdicts.{FactsReportAtOnce}

@@ -4,7 +4,7 @@ use Rattle.aud_witness.specs.declared.decision.Decision.{Decision}
 use Rattle.aud_order.specs.Shapes.{objects_of, history_of}
 use Rattle.aud_order.specs.Cursors.{CursorOf}
 use Rattle.aud_order.specs.Kids.{AreKids}
-use Rattle.aud_know.proofs.Steps.{no_decision, kid-good, cursor-back, cursor_with}
+use Rattle.aud_cover.proofs.Steps.{no_decision, kid-good, cursor-back, cursor_with}
 use Rattle.aud_split.specs.Tasks.{AreAdded}
 use Rattle.aud_split.proofs.Tasks.{IsLast, none_by_length, some_by_length, added-last, no_kids, gathered-none, gathered-more, added-kids}
 use Rattle.aud_split.proofs.splitting.+split_here.Goals as goal

@@ -1,6 +1,6 @@
 use Rattle.std.proofs.Common.{refl, inl, inr}
 use Rattle.aud_lattice.specs.declared.mark.Mark.TheVariants.{Covered}
-use Rattle.aud_know.proofs.Beginnings.{marked-covered, marked-inner, marked-outside}
+use Rattle.aud_cover.proofs.Beginnings.{marked-covered, marked-inner, marked-outside}
 use Rattle.aud_know.proofs.knowledge.Knowledge.knows.Goals as goal
 
 pub returns-in-Covered : goal.returns-in-Covered

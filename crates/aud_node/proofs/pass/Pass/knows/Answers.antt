@@ -1,6 +1,6 @@
 use Rattle.std.proofs.Common.{◌∙◌, ap, subst, ◌↔◌, IsTrue}
 use Rattle.aud_event.specs.Meanings.{PlanOf}
-use Rattle.aud_know.specs.Closings.{IsCovered}
+use Rattle.aud_cover.specs.Closings.{IsCovered}
 use Rattle.aud_know.specs.Known.{KnowledgeOf}
 use Rattle.aud_node.specs.Logs.{state_of}
 use Rattle.aud_node.proofs.pass.Pass.knows.Goals as goal

@@ -1,0 +1,4 @@
+pub mod Closings
+pub mod Openings
+pub mod Leading
+pub mod Laws

@@ -1,5 +1,0 @@
-use Rattle.aud_know.proofs.Refuting.{closed-refuted}
-use Rattle.aud_know.proofs.laws.closed_is_refuted.Goals as goal
-
-pub returns : goal.returns
-returns c = closed-refuted
