@@ -3,6 +3,7 @@ use Rattle.std.specs.Prelude.{◌≡◌, ◌≤◌, ℕ, List, [], Option, Some,
 use Rattle.std.specs.Str.Parse.{IsNumeral, digits_value, without_leading_plus}
 use Rattle.clap.specs.Words.{Row, Text, first_of, subcommand_of, fault_of}
 use Rattle.cli_words.specs.CommandLine.{opaq_app}
+use Rattle.cli_words.specs.Orders.{order_joined}
 use Rattle.cli_lines.specs.declared.job.Job.{Job}
 use Rattle.cli_lines.specs.declared.job.Job.TheVariants.{Check, Decide, Verify, Refute, Confirm}
 use Rattle.cli_lines.specs.declared.job.AuditJob.{AuditJob}
@@ -50,12 +51,16 @@ Commands name rows (Lines job) = AsksFor name rows job
 Commands name rows (Audit job) = AsksForAudit name rows job
 
 -- `clap` takes the words, and the subcommand that it reads in them, with its options, asks for the command
-pub record Asked (words : List Text) (command : Command) : Type 0 where
+pub record AskedIn (words : List Text) (command : Command) : Type 0 where
   pub name : Text
   pub rows : List Row
   pub taken : fault_of opaq_app words ≡ []
   pub read : subcommand_of opaq_app words ≡ Some (name, rows)
   pub asks : Commands name rows command
+
+-- the same where a text of an order may begin with a hyphen
+abbrev pub Asked : List Text → Command → Type 0
+Asked words command = AskedIn (order_joined words) command
 
 -- what the user reads
 abbrev pub usage_text : Usage → List ℕ

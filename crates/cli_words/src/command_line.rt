@@ -17,14 +17,17 @@ const ABOUT: &str =
 
 const AFTER: &str =
     r#"Standard input is the plan of the run, then its records and an end mark for each log, a JSON value a line,
-and for verify a certificate after them. One line of output says what was found (decide --cert adds a certificate), and so does the exit
-status:
+and for verify a certificate after them, for confirm a refutation. One line of output says what was found (decide --cert adds a
+certificate, refute a refutation), and so does the exit status:
   0  opaque
   1  not opaque
   2  unfinished
-  3  the input, the history, the order or the certificate is refused; the line says why
+  3  the input, the history, the order, the certificate or the refutation is refused; the line says why
   4  out of memory, or input or output failed, or a node had no place for a reader; standard error says which
   64 these words are not understood, or a text as this one was asked for
+
+Documents, with the sources: docs/RECORDING.md (how to record a run), docs/OUTPUT.md (each line), docs/FAULTS.md (what is
+refused, and what to do), docs/STORY.md (why a run is not opaque).
 
 Example: transaction 1 writes 1 to x and commits, and after it transaction 2 reads x. The file run.jsonl:
 

@@ -2,11 +2,12 @@
 
 ghost use Rattle.std.specs.Prelude.{◌≡◌, ◌⊎◌, ℕ, Option, Some, IfOk, MatchOption, MatchResult, codes, map, option_map, string_bytes};
 ghost use Rattle.clap.specs.Words.{first_of, found_of, rows_of, kind_of, subcommand_rows_of};
-ghost use Rattle.cli_words.specs.Words.{Commands, Asked, IsBudget, IsCount, IsNumberUpTo, is_true};
+ghost use Rattle.cli_words.specs.Words.{Commands, Asked, AskedIn, IsBudget, IsCount, IsNumberUpTo, is_true};
 ghost use Rattle.cli_lines.specs.Jobs.{IsInRange};
 ghost use Rattle.cli_lines.specs.declared.job.Command.{Command as CommandOf};
 
 use crate::command_line::opaq_command;
+use crate::order_text::order_joined;
 use crate::usage::Usage;
 use clap::error::ErrorKind;
 use clap::{ArgMatches, Error};
@@ -181,12 +182,10 @@ fn wrong_number(name: &str, matches: &ArgMatches<'_>) -> &'static str {
     }
 }
 
-/// What the words, the program's name first, ask for.
-///
-/// Where they ask for nothing that the program does, or for its help, the answer is the text for the user.
-pub fn job_of(alloc: Global, words: &[String]) -> Result<Command, Usage>
-    ensures asked { MatchResult result (Asked (map string_bytes words.now))
-        (λ usage. (usage ≡ Usage.OutOfMemory) ⊎ ((command : CommandOf) → Asked (map string_bytes words.now) command → ⊥)) }
+/// What the words, the program's name first, ask for. A text of an order in them that begins with a hyphen is in one word with its option.
+fn job_in(alloc: Global, words: &[String]) -> Result<Command, Usage>
+    ensures asked { MatchResult result (AskedIn (map string_bytes words.now))
+        (λ usage. (usage ≡ Usage.OutOfMemory) ⊎ ((command : CommandOf) → AskedIn (map string_bytes words.now) command → ⊥)) }
     ensures range { IfOk result IsInRange }
 {
     let Ok(command_line) = opaq_command(alloc) else {
@@ -202,6 +201,20 @@ pub fn job_of(alloc: Global, words: &[String]) -> Result<Command, Usage>
     match command_of(alloc, name, inner) {
         Ok(Some(command)) => Ok(command),
         Ok(None) => Err(printed(alloc, wrong_number(name, inner))),
+        Err(_) => Err(Usage::OutOfMemory),
+    }
+}
+
+/// What the words, the program's name first, ask for.
+///
+/// Where they ask for nothing that the program does, or for its help, the answer is the text for the user.
+pub fn job_of(alloc: Global, words: &[String]) -> Result<Command, Usage>
+    ensures asked { MatchResult result (Asked (map string_bytes words.now))
+        (λ usage. (usage ≡ Usage.OutOfMemory) ⊎ ((command : CommandOf) → Asked (map string_bytes words.now) command → ⊥)) }
+    ensures range { IfOk result IsInRange }
+{
+    match order_joined(alloc, words) {
+        Ok(words) => job_in(alloc, &words),
         Err(_) => Err(Usage::OutOfMemory),
     }
 }

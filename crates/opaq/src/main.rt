@@ -1,9 +1,7 @@
 // Does what the words ask for with standard input, and prints one line.
 #![tactic(auto)]
 
-use cli_audit::run_command;
-use cli_lines::{Cause, Ended, read_whole};
-use cli_words::{Usage, exit_status, job_of};
+use aud_cli::{Cause, Ended, Usage, exit_status, job_of, read_whole, run_command};
 use std::alloc::Global;
 use std::io::{self, ErrorKind, Write};
 use std::process::ExitCode;
