@@ -556,6 +556,37 @@ class History:
         refuted.add(where)
         return None
 
+    def tasks(self, depth):
+        """Where the good prefixes of so many decisions lead, and those of fewer that no decision may follow."""
+        found = [(frozenset(), self.opening)]
+        for _ in range(depth):
+            found = [place for where in found for place in [kid for _, kid in self.kids(where)] or [where]]
+        return found
+
+    def is_full(self, where):
+        return len(where[0]) == len(self.table)
+
+    def is_near(self, where):
+        """Whether one more decision makes it full."""
+        return any(self.is_full(kid) for _, kid in self.kids(where))
+
+    def can_spend(self, where, budget):
+        """Whether a search from there on may expand exactly so many prefixes, of which none has a full kid, and has one more left."""
+        if self.is_full(where) or budget == 0 or self.is_near(where):
+            return not self.is_full(where) and budget == 0
+        waiting, expanded, has_near = [where], 0, False
+        while waiting and expanded <= budget:
+            kids = [kid for _, kid in self.kids(waiting.pop())]
+            waiting += [kid for kid in kids if not self.is_near(kid)]
+            has_near = has_near or any(self.is_near(kid) for kid in kids)
+            expanded += 1
+        return expanded > budget or expanded == budget and has_near
+
+    def is_left_open(self, budget):
+        """Whether each task of an audit is refuted or can spend its budget, and one can."""
+        tasks = [(self.search(where, set()) is None, self.can_spend(where, budget)) for where in self.tasks(2)]
+        return all(is_refuted or is_spent for is_refuted, is_spent in tasks) and any(is_spent for _, is_spent in tasks)
+
 
 # ---- orders and certificates
 

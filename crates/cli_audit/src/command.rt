@@ -17,7 +17,7 @@ use std::thread::Threads;
 /// Runs the command over the input, and hands out what is to be printed, and how the run ends.
 ///
 /// What is handed out is one line that the command may say of the input, and after it the certificate, if that is asked for; where the
-/// run fails it is nothing, and memory was refused, or in an audit a place for a reader. It takes memory as `run_lines` and `run_audit`
+/// run fails it is nothing, and the cause that is told is memory, or in an audit a thread. It takes memory as `run_lines` and `run_audit`
 /// do, and the input is not copied.
 pub fn run_command<R: Threads + Wait + Sync>(
     rt: &R,

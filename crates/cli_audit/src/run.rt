@@ -29,7 +29,10 @@ use std::marker::Brand;
 use std::sync::{Arc, Wait};
 use std::thread::Threads;
 
-/// The budgets of the tasks that are left open where the words give none, when they are searched again and for the last time.
+/// The budget of few tasks where the words give none, when they are searched first.
+const SOON: u64 = 256;
+
+/// The budgets of the tasks that are left open then, when they are searched again and for the last time.
 const AGAIN: u64 = 1 << 20;
 
 const LAST: u64 = 1 << 24;
@@ -53,6 +56,14 @@ fn search_for(
 /// How many workers all nodes have.
 fn workers_of(job: &AuditJob) -> usize {
     (job.nodes as usize).saturating_mul(job.workers as usize)
+}
+
+/// How many tasks a worker has at most where they are searched before all orders are searched as one.
+const FEW: usize = 64;
+
+/// Whether there are many tasks for so many workers.
+fn has_many(search: &Search, workers: usize) -> bool {
+    search.tasks.len() > workers.saturating_mul(FEW)
 }
 
 /// Has all orders searched as one task, with the budget of one, and says whether the first node knows an order that shows the facts
@@ -151,6 +162,82 @@ fn search_again<
     mesh.search(rt, alloc, search, shared, gate)
 }
 
+/// Has each task searched a little, where they are few for so many workers, and says whether the first node knows an order that shows
+/// the facts then.
+fn search_few<
+    H: Scene + Send + Sync,
+    J: Fleet + Send + Sync,
+    S: Wait + Drop + Send,
+    G: Gate<Prefix> + Sync,
+    R: Threads + Wait + Sync,
+>(
+    rt: &R,
+    alloc: Global,
+    mesh: &mut Mesh<J, S>,
+    facts: &Facts,
+    search: &mut Search,
+    shared: Option<&Shared<H>>,
+    job: &AuditJob,
+    gate: &G,
+) -> Result<bool, OutOfMemory>
+    requires named { search.old.shape.value ≡ H.shape }
+    requires mesh { IsMesh facts.now.plan mesh.old.nodes.items mesh.old.collectors.items mesh.old.crews.items }
+    requires few { length mesh.old.nodes.items ≤ 8 }
+    requires some { 0 < length mesh.old.nodes.items }
+    requires search { IsSearchOf facts.now search.old.shape.value search.old.tasks.items }
+    ensures search { (search.new.shape ≡ search.old.shape) × (search.new.tasks ≡ search.old.tasks) }
+    ensures nodes { mesh.new.nodes ≡ mesh.old.nodes }
+    ensures mesh { OnOk result (IsMesh facts.now.plan mesh.new.nodes.items mesh.new.collectors.items mesh.new.crews.items) }
+{
+    if has_many(search, workers_of(job)) {
+        return Ok(false);
+    }
+    search_again(rt, alloc, mesh, facts, search, SOON, shared, gate)?;
+    mesh.first_shows(facts)
+}
+
+/// Has the tasks searched by rounds, until an order that shows the facts is known. Where they are few for so many workers, each is searched
+/// a little before all orders are searched as one task.
+fn search_by_rounds<
+    H: Scene + Send + Sync,
+    J: Fleet + Send + Sync,
+    S: Wait + Drop + Send,
+    G: Gate<Prefix> + Sync,
+    R: Threads + Wait + Sync,
+>(
+    rt: &R,
+    alloc: Global,
+    mesh: &mut Mesh<J, S>,
+    facts: &Facts,
+    search: &mut Search,
+    shared: Option<&Shared<H>>,
+    job: &AuditJob,
+    gate: &G,
+) -> Result<(), OutOfMemory>
+    requires named { search.old.shape.value ≡ H.shape }
+    requires mesh { IsMesh facts.now.plan mesh.old.nodes.items mesh.old.collectors.items mesh.old.crews.items }
+    requires few { length mesh.old.nodes.items ≤ 8 }
+    requires some { 0 < length mesh.old.nodes.items }
+    requires search { IsSearchOf facts.now search.old.shape.value search.old.tasks.items }
+    ensures nodes { mesh.new.nodes ≡ mesh.old.nodes }
+    ensures mesh { OnOk result (IsMesh facts.now.plan mesh.new.nodes.items mesh.new.collectors.items mesh.new.crews.items) }
+{
+    let budget = search.budget;
+    if search_few(rt, alloc, mesh, facts, search, shared, job, gate)? {
+        return Ok(());
+    }
+    search.budget = budget;
+    if search_whole(rt, alloc, mesh, facts, search, shared, gate)? {
+        return Ok(());
+    }
+    if search_first(rt, alloc, mesh, facts, search, shared, job, gate)? {
+        return Ok(());
+    }
+    search_again(rt, alloc, mesh, facts, search, budget, shared, gate)?;
+    search_again(rt, alloc, mesh, facts, search, AGAIN, shared, gate)?;
+    search_again(rt, alloc, mesh, facts, search, LAST, shared, gate)
+}
+
 /// Has all tasks of the history that the scene names searched, as `search_tasks` says it, over what all workers share.
 fn search_all<
     H: Scene + Send + Sync,
@@ -180,19 +267,15 @@ fn search_all<
     let mut search = search;
     let shared = Shared::<H>::among(alloc, workers_of(job));
     let shared = shared.as_ref();
-    if job.budget.is_none() && search_whole(rt, alloc, mesh, facts, &search, shared, gate)? {
+    if job.budget.is_none() {
+        search_by_rounds(rt, alloc, mesh, facts, &mut search, shared, job, gate)?;
         return Ok(None);
     }
     if search_first(rt, alloc, mesh, facts, &search, shared, job, gate)? {
         return Ok(None);
     }
     mesh.search(rt, alloc, &search, shared, gate)?;
-    if job.budget.is_some() {
-        return Ok(Some(search));
-    }
-    search_again(rt, alloc, mesh, facts, &mut search, AGAIN, shared, gate)?;
-    search_again(rt, alloc, mesh, facts, &mut search, LAST, shared, gate)?;
-    Ok(None)
+    Ok(Some(search))
 }
 
 /// Has all tasks searched, if there are any, unless the first ones lead to an order that shows the facts. What is answered is the

@@ -29,17 +29,18 @@ fn audit_by(nodes: u32, workers: u32, has_budget: bool) -> Option<AuditJob>
     })
 }
 
-/// How an audit by so many nodes of so many workers ends, how many tasks went through the gate, and how many of them met no other. With a
-/// budget none is the whole run, of which one worker would be at the gate alone.
+/// How many nodes an audit has, how many workers each has, and whether there is a budget for each task.
+type Crews = (u32, u32, bool);
+
+/// How an audit by these ends, how many tasks went through the gate, and how many of them met no other.
 fn met<R: Threads + Wait + Sync>(
     rt: &R,
     alloc: Global,
-    nodes: u32,
-    workers: u32,
+    (nodes, workers, has_budget): Crews,
     input: Input,
 ) -> Option<(Ended, u64, u64)> {
     let gate = Watch::new(2);
-    let job = audit_by(nodes, workers, true)?;
+    let job = audit_by(nodes, workers, has_budget)?;
     let mut source = MemorySource::new(Vec::from_slice(alloc, text_of(input).as_bytes()).ok()?);
     let mut sink = MemorySink::new(alloc);
     let ended = run_audit(rt, alloc, &job, &gate, &mut source, &mut sink);
@@ -47,21 +48,48 @@ fn met<R: Threads + Wait + Sync>(
     Some((ended, here, alone))
 }
 
-/// Whether that comes of each of so many audits.
+/// Whether that comes of each of so many audits, where at least so many tasks went through the gate, and each met another.
 fn meet<R: Threads + Wait + Sync>(
     rt: &R,
-    (nodes, workers): (u32, u32),
+    crews: Crews,
     input: Input,
     times: u32,
-    wanted: (Ended, u64, u64),
+    (wanted, least): (Ended, u64),
     alloc: Global,
 ) -> bool {
     for _ in 0..times {
-        if met(rt, alloc, nodes, workers, input) != Some(wanted) {
-            return false;
+        match met(rt, alloc, crews, input) {
+            Some((ended, here, 0)) if ended == wanted && here >= least => {}
+            _ => return false,
         }
     }
     true
+}
+
+#[test]
+fn pools_without_a_budget_are_at_their_tasks_at_once(rt: HostRuntime) {
+    // T1 in log 0 writes 1 and asks to commit, T2 in log 1 reads 0 and commits: two tasks for each of two nodes, and a worker to each.
+    let alloc = rt.alloc();
+    assert!(rt;
+        meet(
+            &rt,
+            (2, 1, false),
+            Input::Unseen,
+            100,
+            (Ended::Opaque, 4),
+            alloc
+        )
+    );
+    assert!(rt;
+        meet(
+            &rt,
+            (2, 1, false),
+            Input::Five,
+            3,
+            (Ended::NotOpaque, 6),
+            alloc
+        )
+    );
 }
 
 #[test]
@@ -71,20 +99,77 @@ fn workers_of_an_audit_are_at_their_tasks_at_once(rt: HostRuntime) {
     assert!(rt;
         meet(
             &rt,
-            (2, 1),
+            (2, 1, true),
             Input::Unseen,
             100,
-            (Ended::Opaque, 2, 0),
+            (Ended::Opaque, 2),
             alloc
         )
     );
-    assert!(rt; meet(&rt, (1, 2), Input::Unseen, 10, (Ended::Opaque, 2, 0), alloc));
-    assert!(rt; meet(&rt, (2, 1), Input::Five, 3, (Ended::NotOpaque, 8, 0), alloc));
+    assert!(rt;
+        meet(
+            &rt,
+            (1, 2, true),
+            Input::Unseen,
+            10,
+            (Ended::Opaque, 2),
+            alloc
+        )
+    );
+    assert!(rt;
+        meet(
+            &rt,
+            (2, 1, true),
+            Input::Five,
+            3,
+            (Ended::NotOpaque, 8),
+            alloc
+        )
+    );
 }
 
-/// The job to check an order that shows the history of two transactions.
-fn job(alloc: Global) -> Option<Job> {
-    Some(Job::Check(String::from_str(alloc, "1c 2c").ok()?))
+/// What is asked: to check an order that shows the history of two transactions, to decide it, or to audit it; or to verify a certificate for
+/// a torn read.
+#[derive(Clone, Copy)]
+enum Asked {
+    Check,
+    Decide,
+    Verify,
+    Audit,
+}
+
+const ALL_ASKED: [Asked; 4] = [Asked::Check, Asked::Decide, Asked::Verify, Asked::Audit];
+
+/// A certificate for the torn read.
+const CERTIFICATE: &str = r#"{"cert":2}
+{"by":"kids","p":"1c"}
+{"by":"kids","p":"none"}
+"#;
+
+/// The job that asks it, where it is no audit.
+fn job(alloc: Global, asked: Asked) -> Option<Job> {
+    match asked {
+        Asked::Check => Some(Job::Check(String::from_str(alloc, "1c 2c").ok()?)),
+        Asked::Decide => Some(Job::Decide(None, true)),
+        Asked::Verify => Some(Job::Verify),
+        Asked::Audit => None,
+    }
+}
+
+/// The input of what is asked, the certificate after it, the line that is said of them, and how the run ends then.
+fn row(asked: Asked) -> (Input, &'static str, &'static str, Ended) {
+    match asked {
+        Asked::Verify => (Input::OneLog, CERTIFICATE, "not opaque\n", Ended::NotOpaque),
+        _ => (Input::Reader, "", "opaque 1c 2c\n", Ended::Opaque),
+    }
+}
+
+/// The bytes of that input, and of the certificate after it.
+fn input_of(alloc: Global, asked: Asked) -> Option<Vec<u8>> {
+    let (input, certificate, _line, _ended) = row(asked);
+    let mut bytes = Vec::from_slice(alloc, text_of(input).as_bytes()).ok()?;
+    bytes.extend_from_slice(certificate.as_bytes()).ok()?;
+    Some(bytes)
 }
 
 /// How a run, or an audit of two nodes with two workers each, ends on a source that gives a byte a read and fails after so many and on a
@@ -93,12 +178,12 @@ fn job(alloc: Global) -> Option<Job> {
 fn ended<R: Threads + Wait + Sync>(
     rt: &R,
     alloc: Global,
-    is_audit: bool,
+    asked: Asked,
     reads: u64,
     (writes, takes_nothing): (u64, bool),
 ) -> Option<(Ended, u64, u64, usize)> {
     let mut source = DrippingSource {
-        bytes: Vec::from_slice(alloc, text_of(Input::Reader).as_bytes()).ok()?,
+        bytes: input_of(alloc, asked)?,
         at: 0,
         reads,
         failures: 0,
@@ -109,14 +194,16 @@ fn ended<R: Threads + Wait + Sync>(
         takes_nothing,
         failures: 0,
     };
-    let ended = if is_audit {
-        let job = audit_by(2, 2, false)?;
-        run_audit(rt, alloc, &job, &NoGate, &mut source, &mut sink)
-    } else {
-        run_lines(alloc, &job(alloc)?, &mut source, &mut sink)
+    let ended = match job(alloc, asked) {
+        Some(job) => run_lines(alloc, &job, &mut source, &mut sink),
+        None => {
+            let job = audit_by(2, 2, false)?;
+            run_audit(rt, alloc, &job, &NoGate, &mut source, &mut sink)
+        }
     };
     let taken = sink.bytes.as_slice();
-    if !b"opaque 1c 2c\n".starts_with(taken) {
+    let (_input, _certificate, line, _ended) = row(asked);
+    if !line.as_bytes().starts_with(taken) {
         return None;
     }
     Some((ended, source.failures, sink.failures, taken.len()))
@@ -125,34 +212,52 @@ fn ended<R: Threads + Wait + Sync>(
 /// More than a run reads or writes.
 const ALL: u64 = 1_000_000;
 
+/// Whether what is asked fails for its input, with nothing written, where the source fails at its first read, at its last, which finds no
+/// byte left, and at each between.
+fn fails_at_each_read<R: Threads + Wait + Sync>(rt: &R, alloc: Global, asked: Asked) -> bool {
+    let failed = Some((Ended::Failed(Cause::Input), 1, 0, 0));
+    let Some(input) = input_of(alloc, asked) else {
+        return false;
+    };
+    for reads in 0..=input.len() as u64 {
+        if ended(rt, alloc, asked, reads, (ALL, false)) != failed {
+            return false;
+        }
+    }
+    true
+}
+
 #[test]
 fn sources_drip_and_fail(rt: HostRuntime) {
-    let failed = Some((Ended::Failed(Cause::Input), 1, 0, 0));
-    for reads in 0..=text_of(Input::Reader).len() as u64 {
-        assert!(rt;
-            ended(&rt, rt.alloc(), false, reads, (ALL, false)) == failed,
-            "after {reads}"
-        );
+    for asked in ALL_ASKED {
+        assert!(rt; fails_at_each_read(&rt, rt.alloc(), asked));
     }
-    for reads in [0, 1, 100] {
-        assert!(rt;
-            ended(&rt, rt.alloc(), true, reads, (ALL, false)) == failed,
-            "after {reads}"
-        );
+}
+
+/// Whether what is asked fails for its output at each write of its line, so that the bytes before stand, and says the line where none fails.
+fn fails_at_each_write<R: Threads + Wait + Sync>(
+    rt: &R,
+    alloc: Global,
+    asked: Asked,
+    takes_nothing: bool,
+) -> bool {
+    let (_input, _certificate, line, wanted) = row(asked);
+    let length = line.len();
+    for writes in 0..length as u64 {
+        let failed = Some((Ended::Failed(Cause::Output), 0, 1, writes as usize));
+        if ended(rt, alloc, asked, ALL, (writes, takes_nothing)) != failed {
+            return false;
+        }
     }
+    let whole = (length as u64, takes_nothing);
+    ended(rt, alloc, asked, ALL, whole) == Some((wanted, 0, 0, length))
 }
 
 #[test]
 fn sinks_choke(rt: HostRuntime) {
-    for is_audit in [false, true] {
+    for asked in ALL_ASKED {
         for takes_nothing in [false, true] {
-            for writes in 0..13u64 {
-                let failed = Some((Ended::Failed(Cause::Output), 0, 1, writes as usize));
-                let ended = ended(&rt, rt.alloc(), is_audit, ALL, (writes, takes_nothing));
-                assert!(rt; ended == failed, "at {writes}");
-            }
-            let ended = ended(&rt, rt.alloc(), is_audit, ALL, (13, takes_nothing));
-            assert!(rt; ended == Some((Ended::Opaque, 0, 0, 13)));
+            assert!(rt; fails_at_each_write(&rt, rt.alloc(), asked, takes_nothing));
         }
     }
 }
@@ -209,7 +314,7 @@ fn reading_ends(rt: HostRuntime) {
 #[test]
 fn command_hands_out_its_line(rt: HostRuntime) -> Result<(), Fail> {
     let alloc = rt.alloc();
-    let command = Command::Lines(job(alloc).ok_or("a job")?);
+    let command = Command::Lines(job(alloc, Asked::Check).ok_or("a job")?);
     let input = Vec::from_slice(alloc, text_of(Input::Reader).as_bytes())?;
     let (line, ended) = run_command(&rt, alloc, &command, input);
     assert!(rt; line.as_slice() == b"opaque 1c 2c\n".as_slice() && ended == Ended::Opaque);

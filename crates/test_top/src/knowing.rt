@@ -1,13 +1,14 @@
 //! What is known of runs in two logs by their facts, by findings and by what others know.
 
 use crate::fixtures::{Input, OTHER, end, found, is_line, list, run_of, shape_of};
+use aud_cover::open_list;
 use aud_event::{Dup, Fact, OutOfMemory, Plan};
 use aud_facts::Facts;
 use aud_know::laws::{
     knowledge_is_norm, norm_absorbs, norm_is_exact, norm_is_of_set, not_opaque_is_refuted,
     opaque_is_shown, verdict_is_one,
 };
-use aud_know::{Claim, Item, KnowFault, Knowledge, open_list};
+use aud_know::{Claim, Item, KnowFault, Knowledge};
 use aud_node::{CloseFault, OfferFault, ReadFault, StartFault};
 use aud_world::MoveFault;
 use aud_world::laws::{atoms_are_taken, headline_holds};
@@ -45,7 +46,7 @@ pub fn take_facts(known: &mut Knowledge, facts: &[Fact]) -> Result<(), OutOfMemo
 
 /// Takes so many of the run's first facts.
 fn take_first(known: &mut Knowledge, run: &Facts, count: usize) -> Result<(), OutOfMemory> {
-    for fact in run.set().iter().take(count) {
+    for fact in run.set().items().take(count) {
         take(known, &Item::Fact(*fact))?;
     }
     Ok(())

@@ -22,7 +22,7 @@ use test_worked::Unread;
 /// The facts of the run, the least first.
 pub fn listed(alloc: Global, run: &Facts) -> Result<Vec<Fact>, Unread> {
     let mut facts = Vec::new(alloc);
-    for fact in run.set().iter() {
+    for fact in run.set().items() {
         facts.push(*fact)?;
     }
     Ok(facts)
@@ -132,6 +132,11 @@ const TWO_TAKEN: Received = Received {
     foreign: 1,
 };
 
+const THREE_TAKEN: Received = Received {
+    taken: 3,
+    foreign: 1,
+};
+
 impl<J: Fleet, S: Wait + Drop> Site<J, S> {
     /// Whether the first pass says that.
     fn says(&mut self, alloc: Global, list: &Prefix, knows: bool, line: &str) -> bool {
@@ -158,10 +163,16 @@ impl<J: Fleet, S: Wait + Drop> Site<J, S> {
         self.node.offer(rt, alloc, &mut self.second, item).is_ok()
     }
 
-    /// Whether the node receives the two packets, and the one of another plan is counted.
-    fn receives<R: Wait>(&mut self, rt: &R, alloc: Global, inbox: &Receiver<Packet>) -> bool {
+    /// Whether the node receives so many packets, and the one of another plan is counted.
+    fn receives<R: Wait>(
+        &mut self,
+        rt: &R,
+        alloc: Global,
+        inbox: &Receiver<Packet>,
+        wanted: Received,
+    ) -> bool {
         match receive_all(rt, alloc, inbox, &self.node, &mut self.first) {
-            Ok(received) => received == TWO_TAKEN,
+            Ok(received) => received == wanted,
             Err(_) => false,
         }
     }
@@ -223,12 +234,35 @@ impl<J: Fleet, S: Wait + Drop> Pair<J, S> {
         offered == [true; 2] && !self.know_the_same() && self.say(alloc, list, false, lines)
     }
 
+    /// An inbox with what the one node knows, twice, a packet of another plan, and what the other node knows.
+    fn post_late<R: Wait>(&mut self, rt: &R, alloc: Global) -> Option<Receiver<Packet>> {
+        let known = self.one.node.snapshot(&mut self.one.first).ok()?.known;
+        let again = Packet {
+            known: Arc::try_clone(&known).ok()?,
+        };
+        let last = self.other.node.snapshot(&mut self.other.first).ok()?;
+        let foreign = foreign_packet(alloc).ok()?;
+        posted(rt, alloc, &[Packet { known }, again, foreign, last])
+    }
+
+    /// Whether the one node receives these, late, and both still know that the run is not opaque.
+    fn receive_late<R: Wait>(
+        &mut self,
+        rt: &R,
+        alloc: Global,
+        list: &Prefix,
+        inbox: &Receiver<Packet>,
+    ) -> bool {
+        let is_received = self.one.receives(rt, alloc, inbox, THREE_TAKEN);
+        is_received && self.know_the_same() && self.say(alloc, list, true, ["not opaque\n"; 2])
+    }
+
     /// Packets in both directions; whether all are received, and both know the same then, which is too little.
     fn exchange<R: Wait>(&mut self, rt: &R, alloc: Global, list: &Prefix) -> Option<bool> {
         let to_other = self.one.post(rt, alloc)?;
         let to_one = self.other.post(rt, alloc)?;
-        let is_received = self.one.receives(rt, alloc, &to_one)
-            && self.other.receives(rt, alloc, &to_other);
+        let is_received = self.one.receives(rt, alloc, &to_one, TWO_TAKEN)
+            && self.other.receives(rt, alloc, &to_other, TWO_TAKEN);
         Some(
             is_received
                 && self.know_the_same()
@@ -244,7 +278,7 @@ impl<J: Fleet, S: Wait + Drop> Pair<J, S> {
         list: &Prefix,
         inbox: &Receiver<Packet>,
     ) -> bool {
-        let is_received = self.other.receives(rt, alloc, inbox);
+        let is_received = self.other.receives(rt, alloc, inbox, TWO_TAKEN);
         is_received && self.know_the_same() && self.say(alloc, list, true, ["not opaque\n"; 2])
     }
 
@@ -297,21 +331,25 @@ impl<J: Fleet, S: Wait + Drop> Pair<J, S> {
     }
 }
 
-/// Whether all this goes in turn.
+/// Whether all this goes in turn, and what each node posted of its own log comes last.
 fn come_to_one_verdict<J: Fleet, S: Wait + Drop, R: Wait>(
     rt: &R,
     alloc: Global,
     pair: &mut Pair<J, S>,
     run: &Facts,
-) -> Result<[bool; 3], Unread> {
+) -> Result<[bool; 4], Unread> {
     let finding = found(alloc, run, "1c")?;
     let list = list(alloc, "1c")?;
     let facts = listed(alloc, run)?;
-    Ok([
-        pair.wait(rt, alloc, &facts, &list),
-        pair.exchange(rt, alloc, &list) == Some(true),
-        pair.spread(rt, alloc, &list, finding) == Some(true),
-    ])
+    let has_waited = pair.wait(rt, alloc, &facts, &list);
+    let late = pair.post_late(rt, alloc);
+    let is_exchanged = pair.exchange(rt, alloc, &list) == Some(true);
+    let is_spread = pair.spread(rt, alloc, &list, finding) == Some(true);
+    let is_late = match late {
+        Some(inbox) => pair.receive_late(rt, alloc, &list, &inbox),
+        None => false,
+    };
+    Ok([has_waited, is_exchanged, is_spread, is_late])
 }
 
 /// How many items were offered, and how many of them were findings.
@@ -392,9 +430,9 @@ fn go<J: Fleet, R: Wait>(
     let refuses = pair.refuse(rt, alloc) && pair.leave_in_inbox(rt, alloc) == Some(true);
     let Pair { mut one, other: _ } = pair;
     let is_late = one.offers_late(rt, alloc);
-    // seven facts of its log, two packets and a finding, and the late offer
-    let is_closed = is_closed_late(rt, alloc, one, (11, 1));
-    Some(told == Ok([true; 3]) && refuses && is_late && is_closed)
+    // seven facts of its log, two packets and a finding, the three late packets, and the late offer
+    let is_closed = is_closed_late(rt, alloc, one, (14, 1));
+    Some(told == Ok([true; 4]) && refuses && is_late && is_closed)
 }
 
 #[test]

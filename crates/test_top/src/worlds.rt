@@ -14,7 +14,7 @@ use test_worked::Unread;
 /// The node is fed the log of its number.
 fn feeds(alloc: Global, run: &Facts, node: u32) -> Result<Vec<Move>, OutOfMemory> {
     let mut moves = Vec::new(alloc);
-    for fact in run.set().iter() {
+    for fact in run.set().items() {
         if log_of(fact) == node {
             moves.push(Move::Feed(node, *fact))?;
         }
