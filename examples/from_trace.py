@@ -1,5 +1,5 @@
 #!/usr/bin/env python3
-"""Turns a trace into the texts that opaq reads: from_trace.py < TRACE > RUN.
+"""Turns a trace into the texts that opaq reads: from_trace.py [TRACE] > RUN. TRACE is a file, or - for standard input, as where it is left out.
 
 A trace is a text with one event a line, in the order in which the events were stamped; what stands after a # is a comment.
 
@@ -20,6 +20,12 @@ THREAD is any word, and each thread gets a log. The stamp of `begin` is that of 
 stand before its effect can start; see docs/RECORDING.md. Transactions are numbered from 0 in the order of their first
 events; one that began and did nothing leaves no record. The run is in the first format where that has all that it needs, else in the
 second, which has maps, `plus`, and transactions up to number 4,095.
+
+A log has at most 4,096 records and a run 4,096 transactions. Where a line would go beyond, the run ends before that line, as opaq.h cuts a run: at
+one stamp for all threads. What was cut is told on standard error.
+
+The exit status is 0 where a run was written, also one that was cut, 3 where a line is none of a trace, 4 where the trace cannot be read, and 64
+where these words are not understood.
 """
 
 import sys
@@ -34,12 +40,16 @@ KINDS = {
 ARGUMENTS = {"write": 1, "add": 1, "remove": 1, "contains": 1, "enq": 1, "plus": 1, "put": 2, "look": 1, "del": 1}
 IS_DONE = {"write", "inc", "dec", "enq", "plus", "put"}
 SECOND = {"plus", "put", "look", "del", "map"}
-RECORDS_OF_A_LOG = 4096
+RECORDS_OF_A_LOG, LOGS, OBJECTS = 4096, 64, 256
 TRANSACTIONS = {1: 1024, 2: 4096}
 
 
 class Refused(Exception):
     """A line that is none of a trace."""
+
+
+class Full(Exception):
+    """A line for which a log, or the run, has no room."""
 
 
 class Thread:
@@ -68,13 +78,25 @@ class Trace:
         self.transactions = 0
         self.form = 1
 
+    def mark(self):
+        """What was read so far, for a line that is taken back whole."""
+        return len(self.records), self.stamp, self.transactions
+
+    def back_to(self, before):
+        """Takes back the records of the last line."""
+        count, self.stamp, self.transactions = before
+        for it in self.records[count:]:
+            thread = next(thread for thread in self.threads.values() if thread.log == it["log"])
+            thread.records -= 1
+        del self.records[count:]
+
     def draw(self):
         self.stamp += 1
         return self.stamp - 1
 
     def record(self, thread, event, stamp=None, **fields):
         if thread.records == RECORDS_OF_A_LOG:
-            raise Refused(f"a log has at most {RECORDS_OF_A_LOG} records: cut the trace before this line")
+            raise Full(f"log {thread.log} is full: {RECORDS_OF_A_LOG:,} records")
         stamp = self.draw() if stamp is None else stamp
         self.records.append({"at": thread.records, "ev": event, "log": thread.log, "stamp": stamp, "tx": thread.transaction, **fields})
         thread.records += 1
@@ -82,6 +104,8 @@ class Trace:
     def declare(self, kind, name, opening="0"):
         if kind not in KINDS.values() or name in self.objects:
             raise Refused(f"no such kind, or an object declared or used before: {kind} {name}")
+        if len(self.objects) == OBJECTS:
+            raise Refused(f"a run has at most {OBJECTS} objects")
         self.objects[name] = {"kind": kind, "name": name}
         self.form = 2 if kind in SECOND else self.form
         if kind in ("register", "counter"):
@@ -89,7 +113,7 @@ class Trace:
 
     def start(self, thread):
         if self.transactions == TRANSACTIONS[2]:
-            raise Refused(f"a run has at most {TRANSACTIONS[2]} transactions: cut the trace before this line")
+            raise Full(f"the run is full: {TRANSACTIONS[2]:,} transactions")
         if self.transactions == TRANSACTIONS[1]:
             self.form = 2
         thread.transaction = self.transactions
@@ -161,6 +185,8 @@ class Trace:
         if len(words) == 1:
             raise Refused("a line has a thread and an event")
         name, event, *rest = words
+        if name not in self.threads and len(self.threads) == LOGS:
+            raise Refused(f"a run has at most {LOGS} threads")
         thread = self.threads.setdefault(name, Thread(len(self.threads)))
         events = {"begin": self.begin, "call": self.call, "back": self.back, "try": self.ask, "commit": self.commit, "abort": self.abort}
         if event in events:
@@ -192,21 +218,46 @@ def answered(word):
 
 
 def read(lines):
-    """The run of a trace's lines."""
-    trace = Trace()
+    """The run of a trace's lines, and what is said of a cut, or nothing."""
+    trace, cut = Trace(), None
     for place, text in enumerate(lines, 1):
         words = text.split("#")[0].split()
         try:
             if words:
+                before = trace.mark()
                 trace.take(words)
+        except Full as why:
+            trace.back_to(before)
+            cut = f"{trace.transactions} of {attempts(lines)} attempts are in the run (line {place}: {why})"
+            break
         except Refused as why:
-            sys.exit(f"line {place}: {why}")
+            raise Refused(f"line {place}: {why}") from None
         except TypeError:
-            sys.exit(f"line {place}: words too many, or too few")
-    return trace.run()
+            raise Refused(f"line {place}: words too many, or too few") from None
+    return trace.run(), cut
+
+
+def attempts(lines):
+    """How many transactions begin in a trace."""
+    return sum(words[1:2] == ["begin"] and words[0] != "object" for words in (text.split("#")[0].split() for text in lines))
+
+
+def main(words):
+    script = recorded.Words("from_trace.py", __doc__, "[TRACE]")
+    script.add_argument("trace", nargs="?", default="-")
+    given = script.taken(words)
+    try:
+        run, cut = read(script.bytes_of(given.trace).decode().split("\n"))
+    except UnicodeDecodeError as error:
+        script.fail(recorded.REFUSED, f"the trace is no text in UTF-8: byte {error.start}")
+    except Refused as why:
+        print(why, file=sys.stderr)
+        return recorded.REFUSED
+    recorded.say(run.text().rstrip("\n"))
+    if cut:
+        print(f"from_trace.py: cut: {cut}", file=sys.stderr)
+    return 0
 
 
 if __name__ == "__main__":
-    if len(sys.argv) > 1:
-        sys.exit(__doc__)
-    sys.stdout.write(read(sys.stdin).text())
+    sys.exit(main(sys.argv[1:]))

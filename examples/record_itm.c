@@ -70,6 +70,5 @@ int main(int count, char **words) {
     for (unsigned long l = 0; l < threads; l++)
         if (pthread_create(&running[l], NULL, thread, (void *)l)) { fputs("record_itm: no thread\n", stderr); return 1; }
     for (unsigned l = 0; l < threads; l++) pthread_join(running[l], NULL);
-    opaq_write(stdout);
-    return 0;
+    return !opaq_write(stdout);
 }

@@ -3,12 +3,20 @@
 Nothing is checked here: what a text has to be is opaq's to say.
 """
 
+import argparse
 import json
 import os
 import subprocess
 import sys
 
 ENDS = {"commit": "committed", "abort": "aborted"}
+EVENTS = ("inv", "ret", "tryc", "trya", "commit", "abort")
+OPERATIONS = {
+    "register": ("read", "write"), "counter": ("inc", "dec", "get", "plus"), "set": ("add", "remove", "contains"), "queue": ("enq", "deq"),
+    "map": ("put", "look", "del"),
+}
+WITH_ARGUMENT = ("write", "plus", "add", "remove", "contains", "enq", "put", "look", "del")
+REFUSED, FAILED, USAGE = 3, 4, 64
 
 
 def line(**fields):
@@ -91,6 +99,81 @@ def read(text):
     records = {(it["log"], it["at"]): it for it in facts if "end" not in it}
     ends = {it["log"]: it["end"] for it in facts if "end" in it}
     return Run(header["logs"], objects, records.values(), ends, header["format"])
+
+
+def is_sound(run):
+    """Whether each record has what its event wants, so that it can be put into words."""
+    kinds = {it["name"]: it["kind"] for it in run.objects}
+    opens = all(whole(it["open"]) for it in run.objects if it["kind"] in ("register", "counter"))
+    return opens and all(kind in OPERATIONS for kind in kinds.values()) and all(is_record(it, kinds) for it in run.records)
+
+
+def is_record(it, kinds):
+    if it["ev"] not in EVENTS or not all(whole(it[key]) for key in ("at", "log", "stamp", "tx")):
+        return False
+    if it["ev"] not in ("inv", "ret"):
+        return True
+    if it["op"] not in OPERATIONS[kinds[it["ob"]]]:
+        return False
+    if it["ev"] == "ret":
+        return whole(it["ans"]) or isinstance(it["ans"], bool) or it["ans"] in ("done", "empty")
+    return (it["op"] not in WITH_ARGUMENT or whole(it["arg"])) and (it["op"] != "put" or whole(it["val"]))
+
+
+def whole(value):
+    return type(value) is int
+
+
+class Words(argparse.ArgumentParser):
+    """The words of a script's command line. Help is the script's own text, on standard output, with status 0; what is not understood is told in
+    one line, with status 64."""
+
+    def __init__(self, name, text, usage):
+        super().__init__(prog=name, add_help=False, allow_abbrev=False)
+        self.text = text
+        self.words = usage
+        self.add_argument("-h", "--help", action="store_true")
+
+    def error(self, message):
+        self.fail(USAGE, f"{message}; the words are {self.words}")
+
+    def fail(self, status, words):
+        print(f"{self.prog}: {words}", file=sys.stderr)
+        sys.exit(status)
+
+    def taken(self, words):
+        """The words, read."""
+        if "--help" in words or "-h" in words:
+            say(self.text.strip())
+            sys.exit(0)
+        return self.parse_args(words)
+
+    def bytes_of(self, name):
+        """What a file holds, or standard input where it is called -."""
+        try:
+            if name == "-":
+                return sys.stdin.buffer.read()
+            with open(name, "rb") as file:
+                return file.read()
+        except OSError as error:
+            return self.fail(FAILED, f"{name}: {error.strerror}")
+
+    def run_of(self, text):
+        """The run of a text in bytes. One that is none is refused."""
+        try:
+            run = read(text.decode())
+            if is_sound(run):
+                return run
+        except (ValueError, KeyError, TypeError, AttributeError, IndexError, RecursionError):
+            pass
+        return self.fail(REFUSED, "this is no run; `opaq decide` says what is wrong with it")
+
+
+def number_of(word):
+    """A number without a sign, for the words of a script."""
+    if not (word.isascii() and word.isdigit()):
+        raise argparse.ArgumentTypeError(f"'{word}' is no number")
+    return int(word)
 
 
 def said(record):

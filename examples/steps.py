@@ -1,12 +1,17 @@
 #!/usr/bin/env python3
-"""Puts the steps of a refutation into words: opaq refute < RUN | steps.py. Lines that are no step are left out.
+"""Puts the steps of a refutation into words: opaq refute < RUN | steps.py [REFUTATION]. REFUTATION is a file, or - for standard input, as where it is
+left out. Lines that are no step are left out.
 
 A step says that one of some things holds in every order that shows the run, and why; docs/REFUTATIONS.md has the laws. The last one says that
 nothing is left.
+
+The exit status is 0, 3 where a line begins like a step and is none, 4 where the text cannot be read, and 64 where these words are not understood.
 """
 
 import json
 import sys
+
+import recorded
 
 
 def cell_text(cell):
@@ -68,13 +73,21 @@ def step_text(step):
     return f"{says}, since {REASONS[word](*fields)}"
 
 
-def main():
-    number = 0
-    for line in sys.stdin:
-        if line.startswith('{"by":'):
-            print(f"{number}. {step_text(json.loads(line))}")
-            number += 1
+def main(words):
+    script = recorded.Words("steps.py", __doc__, "[REFUTATION]")
+    script.add_argument("refutation", nargs="?", default="-")
+    text = script.bytes_of(script.taken(words).refutation).decode(errors="replace")
+    found = [(place, line) for place, line in enumerate(text.split("\n"), 1) if line.startswith('{"by":')]
+    lines = []
+    for number, (place, line) in enumerate(found):
+        try:
+            lines.append(f"{number}. {step_text(json.loads(line))}")
+        except (ValueError, KeyError, TypeError, IndexError, AttributeError, RecursionError):
+            script.fail(recorded.REFUSED, f"line {place} is no step")
+    if lines:
+        recorded.say("\n".join(lines))
+    return 0
 
 
 if __name__ == "__main__":
-    main()
+    sys.exit(main(sys.argv[1:]))

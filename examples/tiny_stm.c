@@ -120,6 +120,5 @@ int main(int count, char **words) {
     opaq_object(OPAQ_REGISTER, "x1", 0);
     if (pthread_create(&threads[0], NULL, writer, NULL) || pthread_create(&threads[1], NULL, reader, NULL)) return 1;
     for (int thread = 0; thread < 2; thread++) pthread_join(threads[thread], NULL);
-    opaq_write(stdout);
-    return 0;
+    return !opaq_write(stdout);
 }
