@@ -4,7 +4,7 @@ crates/opaq/out/opaq; with WORD only the inputs run whose names have it.
 
 The inputs of bench/check.py, in which each log has objects of its own, with the last answer of a `read`, `get`, `contains` or `deq` spoiled, one
 after the other; and those of bench/search.py, in which 2 to 16 transactions at a time share all objects. Printed are the seconds, the first
-line of what core.py prints, and the last line of the core's story."""
+line of what core.py prints, and the last line of the core's story, with the program to ask for a refutation."""
 
 import json
 import os
@@ -55,7 +55,7 @@ def main():
             said = ran([f"{EXAMPLES}/core.py", program, f"{room}/run", f"{room}/core"])
             took = time.perf_counter() - began
             with open(f"{room}/core", encoding="utf-8") as core:
-                story = ran([f"{EXAMPLES}/story.py"], stdin=core)
+                story = ran([f"{EXAMPLES}/story.py", "--opaq", program], stdin=core)
         lines = said.splitlines()
         more = f"; {lines[-1]}" if lines[-1].startswith("perhaps") else ""
         print(f"{name}: {took:.0f} s, {lines[0]}{more}; {story.splitlines()[-1] if story.startswith('1.') else 'no circle'}", flush=True)
