@@ -15,7 +15,7 @@ abbrev pub IsInside : List (List Decision) → List Decision → Type 0
 IsInside cover p = (d : Decision) × ((rest : List Decision) × Contains cover (p ++ d ∷ rest))
 
 -- the cover has a beginning of p; or p is not good; or it is not full, is a proper beginning of a member, and all its kids,
--- the good lists with one decision more, are closed
+-- the good prefixes with one decision more, are closed
 pub data IsClosed (objects : List Declared) (h : History) (cover : List (List Decision)) : List Decision → Type 0 where
   covered : {p : List Decision} → IsCovered cover p → IsClosed objects h cover p
   bad : {p : List Decision} → (IsGood objects h p → ⊥) → IsClosed objects h cover p

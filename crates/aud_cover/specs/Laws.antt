@@ -7,7 +7,7 @@ use Rattle.aud_witness.specs.declared.decision.Decision.{Decision}
 use Rattle.aud_witness.specs.Orders.{Refuted}
 use Rattle.aud_cover.specs.Closings.{IsClosed}
 
--- what is closed over refuted lists is refuted
+-- what is closed over refuted prefixes is refuted
 abbrev pub ClosedIsRefuted : Type 0
 ClosedIsRefuted =
     (objects : List Declared) (h : History) (cover : List (List Decision)) (p : List Decision) →

@@ -1,4 +1,4 @@
--- The trie below a list in a cover's trie, and what is to be reported of it whatever the cover is.
+-- The trie below a prefix in a cover's trie, and what is to be reported of it whatever the cover is.
 use Rattle.std.specs.Prelude.{◌≡◌, ◌↔◌, Bool, IsTrue, List, ◌++◌}
 use Rattle.aud_lattice.specs.declared.trie.Trie.{Trie}
 use Rattle.aud_lattice.specs.Marks.{mark_of}
@@ -14,11 +14,11 @@ use Rattle.aud_cover.specs.Openings.{IsReached, AreAdded}
 abbrev pub LeadsTo : {A : Type 0} → List (List Decision) → List Decision → Trie Decision A → Type 0
 LeadsTo cover p below = (q : List Decision) → mark_of decision_cmp cover (p ++ q) ≡ walk_mark decision_cmp below q
 
--- whether the cursor's list is closed by each cover in which it leads to the trie
+-- whether the cursor's prefix is closed by each cover in which it leads to the trie
 abbrev pub ReportsClosed : {A : Type 0} → CursorOf → Trie Decision A → Bool → Type 0
 ReportsClosed c below closed = (cover : List (List Decision)) → LeadsTo cover c.path below → IsTrue closed ↔ IsClosed (objects_of c.shape) (history_of c.shape) cover c.path
 
--- what is open from the cursor's list on is added, for each cover in which it is reached and leads to the trie
+-- what is open from the cursor's prefix on is added, for each cover in which it is reached and leads to the trie
 abbrev pub AddsOpen : {A : Type 0} → CursorOf → Trie Decision A → List (List Decision) → List (List Decision) → Type 0
 AddsOpen c below old new =
     (cover : List (List Decision)) → LeadsTo cover c.path below → IsReached (objects_of c.shape) (history_of c.shape) cover c.path →

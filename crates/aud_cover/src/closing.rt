@@ -1,4 +1,4 @@
-//! Whether a cover closes a list of decisions.
+//! Whether a cover closes a prefix.
 
 ghost use Rattle.std.specs.Prelude.{◌≡◌, ◌↔◌, IfOk, OnOk, IsTrue};
 ghost use Rattle.aud_order.specs.Shapes.{objects_of, history_of};
@@ -11,7 +11,7 @@ use aud_order::{Cursor, Shape};
 use aud_witness::{Decision, Prefix};
 use std::alloc::Allocator;
 
-/// Whether the cursor's list is closed, where it leads to the node. The cursor comes back to it.
+/// Whether the cursor's prefix is closed, where it leads to the node. The cursor comes back to it.
 fn closed_here<A: Allocator + Copy>(
     alloc: A,
     node: &Trie<Decision, A>,
@@ -44,8 +44,8 @@ fn closed_here<A: Allocator + Copy>(
     Ok(true)
 }
 
-/// Whether the cover closes the list: it has a beginning of it; or the list is not good; or it is not full, is a proper
-/// beginning of a member, and all its good extensions by one decision are closed. It looks at no list that is not a
+/// Whether the cover closes the prefix: it has a beginning of it; or the prefix is not good; or it is not full, is a proper
+/// beginning of a member, and all its good extensions by one decision are closed. It looks at no prefix that is not a
 /// beginning of a member, or a kid of one.
 pub fn closed<A: Allocator + Copy>(
     alloc: A,

@@ -2,7 +2,7 @@
 
 ghost use Rattle.aud_cover.specs.Laws.{ClosedIsRefuted};
 
-/// What is closed over refuted lists is refuted.
+/// What is closed over refuted prefixes is refuted.
 pub fn closed_is_refuted()
     ensures { ClosedIsRefuted }
 {}

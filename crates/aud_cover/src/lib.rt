@@ -1,5 +1,5 @@
 #![tactic(auto)]
-//! What a cover of refuted lists of decisions closes, and what it leaves open.
+//! What a cover of refuted prefixes closes, and what it leaves open.
 
 mod closing;
 pub mod laws;

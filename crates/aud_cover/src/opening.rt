@@ -11,7 +11,7 @@ use aud_order::{Cursor, Shape};
 use aud_witness::{Decision, Prefix, add_copy};
 use std::alloc::Allocator;
 
-/// Adds the open lists that begin with the cursor's, the least first, where it leads to the node. The cursor comes back to it.
+/// Adds the open prefixes that begin with the cursor's, the least first, where it leads to the node. The cursor comes back to it.
 fn open_here<A: Allocator + Copy>(
     alloc: A,
     node: &Trie<Decision, A>,
@@ -42,10 +42,10 @@ fn open_here<A: Allocator + Copy>(
     Ok(())
 }
 
-/// The good lists of decisions at which the cover stops, the least first: it has no beginning of them, they begin no
+/// The good prefixes at which the cover stops, the least first: it has no beginning of them, they begin no
 /// member, and they are empty or their parents are good proper beginnings of members without a beginning in the cover.
-/// Where no member has more decisions than the history has transactions, there is none exactly where the empty list is
-/// closed. It looks at no list that is not a beginning of a member, or a kid of one.
+/// Where no member has more decisions than the history has transactions, there is none exactly where the empty prefix is
+/// closed. It looks at no prefix that is not a beginning of a member, or a kid of one.
 pub fn open_list<A: Allocator + Copy>(
     alloc: A,
     cover: &Cover<Decision, A>,

@@ -1,8 +1,8 @@
 -- What the parts of a state keep beside their meaning, so that a change can be taken back with no memory.
 use Rattle.std.specs.Prelude.{◌≡◌, ℕ, ℤ, if◌then◌else◌, List, [], ◌∷◌, drop, take, length, nat_lt, ◌-◌, Option, Some, None, MatchOption, ◌<◌}
 use Rattle.std.specs.Map.{keys_of}
-use Rattle.aud_object.specs.declared.kept.KeptChange.{KeptChange}
-use Rattle.aud_object.specs.declared.kept.KeptChange.TheVariants as kept
+use Rattle.aud_object.specs.declared.tombstone_map.TombstoneChange.{TombstoneChange}
+use Rattle.aud_object.specs.declared.tombstone_map.TombstoneChange.TheVariants as kept
 use Rattle.aud_object.specs.declared.items.ItemsChange.{ItemsChange}
 use Rattle.aud_object.specs.declared.items.ItemsChange.TheVariants as item
 use Rattle.aud_object.specs.Entries.{with_value, without_entry}
@@ -31,7 +31,7 @@ abbrev pub members : {V : Type 0} → List (ℤ × Option V) → List ℤ
 members es = keys_of (entries_in es)
 
 -- how values under keys take a change back
-abbrev pub back_kept : {V : Type 0} → List (ℤ × Option V) → KeptChange V → List (ℤ × Option V)
+abbrev pub back_kept : {V : Type 0} → List (ℤ × Option V) → TombstoneChange V → List (ℤ × Option V)
 back_kept es (kept.Had k v) = with_value es k (Some v)
 back_kept es (kept.Lacked k) = with_value es k None
 back_kept es (kept.Came k) = without_entry es k

@@ -6,8 +6,8 @@ ghost use Rattle.aud_object.specs.Objects.{map_of, found};
 ghost use Rattle.aud_object.specs.Keeps.{entries_in, back_kept};
 ghost use Rattle.aud_object.specs.Kinds.{map_answers, map_stays};
 
-use crate::kept::{Kept, KeptChange};
 use crate::spec::ObjectSpec;
+use crate::tombstone_map::{TombstoneChange, TombstoneMap};
 use aud_event::{Answer, Dup, Op, OutOfMemory};
 use std::alloc::{Allocator, Global};
 use std::cmp::Ordering;
@@ -31,9 +31,9 @@ fn answer_found(value: Option<i64>) -> Answer
 
 #[tactic(auto, using(crate::proofs::Sets::members))]
 impl<A: Allocator + Drop> ObjectSpec for MapOf<A> {
-    type State = Kept<i64, A>;
+    type State = TombstoneMap<i64, A>;
 
-    type Change = KeptChange<i64>;
+    type Change = TombstoneChange<i64>;
 
     type Alloc = A;
 
@@ -47,14 +47,14 @@ impl<A: Allocator + Drop> ObjectSpec for MapOf<A> {
 
     ghost stays_put = { map_stays };
 
-    fn opening(alloc: A, _value: i64) -> Kept<i64, A> {
-        Kept::new(alloc)
+    fn opening(alloc: A, _value: i64) -> TombstoneMap<i64, A> {
+        TombstoneMap::new(alloc)
     }
 
     fn apply_with_undo(
-        state: &mut Kept<i64, A>,
+        state: &mut TombstoneMap<i64, A>,
         op: &Op,
-    ) -> Result<(Answer, Option<KeptChange<i64>>), OutOfMemory>
+    ) -> Result<(Answer, Option<TombstoneChange<i64>>), OutOfMemory>
     where
         A: Clone,
     {
@@ -73,7 +73,7 @@ impl<A: Allocator + Drop> ObjectSpec for MapOf<A> {
         }
     }
 
-    fn back(state: &mut Kept<i64, A>, change: KeptChange<i64>) {
+    fn back(state: &mut TombstoneMap<i64, A>, change: TombstoneChange<i64>) {
         state.back(change);
     }
 
@@ -84,7 +84,7 @@ impl<A: Allocator + Drop> ObjectSpec for MapOf<A> {
         }
     }
 
-    fn answer(state: &Kept<i64, A>, op: &Op) -> Answer {
+    fn answer(state: &TombstoneMap<i64, A>, op: &Op) -> Answer {
         match *op {
             Op::Look(key) => answer_found(state.get(key)),
             Op::Del(key) => Answer::Flag(state.get(key).is_some()),
@@ -93,23 +93,23 @@ impl<A: Allocator + Drop> ObjectSpec for MapOf<A> {
         }
     }
 
-    fn same(state: &Kept<i64, A>, other: &Kept<i64, A>) -> bool {
+    fn same(state: &TombstoneMap<i64, A>, other: &TombstoneMap<i64, A>) -> bool {
         state.same(other)
     }
 
-    fn order(state: &Kept<i64, A>, other: &Kept<i64, A>) -> Ordering {
+    fn order(state: &TombstoneMap<i64, A>, other: &TombstoneMap<i64, A>) -> Ordering {
         state.order(other)
     }
 
-    fn digest(state: &Kept<i64, A>) -> u64 {
+    fn digest(state: &TombstoneMap<i64, A>) -> u64 {
         state.digest(5)
     }
 
-    fn size(state: &Kept<i64, A>) -> usize {
+    fn size(state: &TombstoneMap<i64, A>) -> usize {
         state.size()
     }
 
-    fn copy(state: &Kept<i64, A>) -> Result<Kept<i64, A>, OutOfMemory>
+    fn copy(state: &TombstoneMap<i64, A>) -> Result<TombstoneMap<i64, A>, OutOfMemory>
     where
         A: Clone,
     {

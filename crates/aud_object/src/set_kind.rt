@@ -6,8 +6,8 @@ ghost use Rattle.aud_object.specs.Objects.{set_of};
 ghost use Rattle.aud_object.specs.Keeps.{members, back_kept};
 ghost use Rattle.aud_object.specs.Kinds.{set_answers, set_stays};
 
-use crate::kept::{Kept, KeptChange};
 use crate::spec::ObjectSpec;
+use crate::tombstone_map::{TombstoneChange, TombstoneMap};
 use aud_event::{Answer, Dup, Op, OutOfMemory};
 use std::alloc::{Allocator, Global};
 use std::cmp::Ordering;
@@ -20,9 +20,9 @@ pub struct SetOf<A = Global> {
 
 #[tactic(auto, using(crate::proofs::Sets::members))]
 impl<A: Allocator + Drop> ObjectSpec for SetOf<A> {
-    type State = Kept<(), A>;
+    type State = TombstoneMap<(), A>;
 
-    type Change = KeptChange<()>;
+    type Change = TombstoneChange<()>;
 
     type Alloc = A;
 
@@ -36,14 +36,14 @@ impl<A: Allocator + Drop> ObjectSpec for SetOf<A> {
 
     ghost stays_put = { set_stays };
 
-    fn opening(alloc: A, _value: i64) -> Kept<(), A> {
-        Kept::new(alloc)
+    fn opening(alloc: A, _value: i64) -> TombstoneMap<(), A> {
+        TombstoneMap::new(alloc)
     }
 
     fn apply_with_undo(
-        state: &mut Kept<(), A>,
+        state: &mut TombstoneMap<(), A>,
         op: &Op,
-    ) -> Result<(Answer, Option<KeptChange<()>>), OutOfMemory>
+    ) -> Result<(Answer, Option<TombstoneChange<()>>), OutOfMemory>
     where
         A: Clone,
     {
@@ -65,7 +65,7 @@ impl<A: Allocator + Drop> ObjectSpec for SetOf<A> {
         }
     }
 
-    fn back(state: &mut Kept<(), A>, change: KeptChange<()>) {
+    fn back(state: &mut TombstoneMap<(), A>, change: TombstoneChange<()>) {
         state.back(change);
     }
 
@@ -76,7 +76,7 @@ impl<A: Allocator + Drop> ObjectSpec for SetOf<A> {
         }
     }
 
-    fn answer(state: &Kept<(), A>, op: &Op) -> Answer {
+    fn answer(state: &TombstoneMap<(), A>, op: &Op) -> Answer {
         match *op {
             Op::Add(v) => Answer::Flag(state.get(v).is_none()),
             Op::Remove(v) => Answer::Flag(state.get(v).is_some()),
@@ -86,23 +86,23 @@ impl<A: Allocator + Drop> ObjectSpec for SetOf<A> {
         }
     }
 
-    fn same(state: &Kept<(), A>, other: &Kept<(), A>) -> bool {
+    fn same(state: &TombstoneMap<(), A>, other: &TombstoneMap<(), A>) -> bool {
         state.same(other)
     }
 
-    fn order(state: &Kept<(), A>, other: &Kept<(), A>) -> Ordering {
+    fn order(state: &TombstoneMap<(), A>, other: &TombstoneMap<(), A>) -> Ordering {
         state.order(other)
     }
 
-    fn digest(state: &Kept<(), A>) -> u64 {
+    fn digest(state: &TombstoneMap<(), A>) -> u64 {
         state.digest(3)
     }
 
-    fn size(state: &Kept<(), A>) -> usize {
+    fn size(state: &TombstoneMap<(), A>) -> usize {
         state.size()
     }
 
-    fn copy(state: &Kept<(), A>) -> Result<Kept<(), A>, OutOfMemory>
+    fn copy(state: &TombstoneMap<(), A>) -> Result<TombstoneMap<(), A>, OutOfMemory>
     where
         A: Clone,
     {

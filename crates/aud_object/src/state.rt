@@ -7,13 +7,13 @@ ghost use Rattle.aud_object.specs.Orders.{place_of, state_cmp};
 
 use crate::counter_kind::Counter;
 use crate::items::{Items, ItemsChange};
-use crate::kept::{Kept, KeptChange};
 use crate::map_kind::MapOf;
 use crate::number::Number;
 use crate::queue_kind::Queue;
 use crate::register_kind::Register;
 use crate::set_kind::SetOf;
 use crate::spec::ObjectSpec;
+use crate::tombstone_map::{TombstoneChange, TombstoneMap};
 use aud_event::{Answer, Dup, ObjDecl, ObjKind, Op, OutOfMemory};
 use std::alloc::{Allocator, Global};
 use std::cmp::Ordering;
@@ -23,9 +23,9 @@ use std::cmp::Ordering;
 pub(crate) enum State<A: Allocator = Global> {
     Register(i64),
     Counter(i64),
-    SetOf(Kept<(), A>),
+    SetOf(TombstoneMap<(), A>),
     Queue(Items<A>),
-    MapOf(Kept<i64, A>),
+    MapOf(TombstoneMap<i64, A>),
 }
 
 /// What has to be known to take a change back, by the kind of the object.
@@ -33,9 +33,9 @@ pub(crate) enum State<A: Allocator = Global> {
 pub(crate) enum Change {
     Register(i64),
     Counter(i64),
-    SetOf(KeptChange<()>),
+    SetOf(TombstoneChange<()>),
     Queue(ItemsChange),
-    MapOf(KeptChange<i64>),
+    MapOf(TombstoneChange<i64>),
 }
 
 // the log of a search has one for each operation that changes something

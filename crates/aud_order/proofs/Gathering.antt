@@ -49,7 +49,7 @@ gathered-none shape p count at =
 
 -- nor has another one that is placed
 pub gathered-placed : (shape : ShapeOf) (p : PlacingOf) (count i t : ℕ) (ks : List Decision) → IsAt shape p count → i < length (table_of (history_of shape)) → t ≡ slice_index_or (transactions (history_of shape)) i 0 →
-    true ≡ slice_index_or p.spot.placed i false → ks ≡ ks ++ goods (objects_of shape) (history_of shape) p.path (t ∷ [])
+    true ≡ slice_index_or p.configuration.placed i false → ks ≡ ks ++ goods (objects_of shape) (history_of shape) p.path (t ∷ [])
 gathered-placed shape p count i t ks at inside is placed =
     let h = history_of shape in
     let named : is_named p.path t ≡ true = subst (λ n. is_named p.path n ≡ true) (sym is) (sym (placed-there shape p count i at inside) ∙ sym placed) in

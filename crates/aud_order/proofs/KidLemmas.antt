@@ -21,7 +21,7 @@ use Rattle.aud_witness.specs.DecisionOrder.{decision_cmp}
 use Rattle.aud_witness.specs.Orders.{is_allowed, is_named, kept, block, IsGoodNext}
 use Rattle.aud_witness.specs.Enumeration.{is_legal_from}
 use Rattle.aud_witness.specs.OrderFaults.{is_enabled, place_fault, is_good_next, kids}
-use Rattle.aud_witness.specs.Spots.{is_ended, are_earlier_placed}
+use Rattle.aud_witness.specs.Configurations.{is_ended, are_earlier_placed}
 use Rattle.aud_witness.proofs.Faults.{IsGoodNext-from_no_fault, no_fault-from_IsGoodNext}
 use Rattle.aud_witness.proofs.Bridge.{enabled-by_rows}
 use Rattle.aud_order.specs.Kids.{both_fates, goods, AreKids}

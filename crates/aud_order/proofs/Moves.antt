@@ -14,24 +14,24 @@ use Rattle.aud_history.specs.Table.{RowOf, transactions, row_of, table_of}
 use Rattle.aud_witness.specs.declared.decision.Fate.TheVariants.{C, A}
 use Rattle.aud_witness.specs.declared.decision.Decision.{Decision}
 use Rattle.aud_witness.specs.Orders.{is_named, kept, Shows, IsGood, IsGoodNext, Refuted}
-use Rattle.aud_witness.specs.Spots.{Spot, status_allows, first_spot, states_with, stepped}
+use Rattle.aud_witness.specs.Configurations.{Configuration, status_allows, first_configuration, states_with, stepped}
 use Rattle.aud_witness.specs.Walks.{walked}
 use Rattle.aud_witness.proofs.Beginnings.{IsGood-from_Shows}
 use Rattle.aud_witness.proofs.Good.{IsGood-empty, IsGood-beginning, IsGood-push}
 use Rattle.aud_witness.proofs.BridgeSteps.{Stands, Stands-root}
 use Rattle.aud_witness.proofs.WalkLemmas.{walks-say, walked-good, fits-from_limits, some-from}
 use Rattle.aud_order.specs.Silent.{silent_fate, silent_row}
-use Rattle.aud_order.specs.Moves.{without, SilentMovesForward, SpotsDecide}
+use Rattle.aud_order.specs.Moves.{without, SilentMovesForward, ConfigurationsDecide}
 use Rattle.aud_order.proofs.SilentRows.{row-found, silent-row}
 use Rattle.aud_order.proofs.Stepping.{steps-from, walked-join, walked-one, silent-leaves, marked, moved}
 
 -- where a good list leads
 pub led-to : (plan : PlanOf) (h : History) (p : List Decision) → IsWellFormed h → IsWithinLimits plan h → IsGood plan.objects h p →
-    (s : Spot) × ((walked (table_of h) (first_spot (table_of h) plan.objects) p ≡ Some s) × Stands plan.objects h p s)
+    (s : Configuration) × ((walked (table_of h) (first_configuration (table_of h) plan.objects) p ≡ Some s) × Stands plan.objects h p s)
 led-to plan h p fine within good =
     let says = walks-say plan h fine within in
-    let (s, led) = some-from (walked (table_of h) (first_spot (table_of h) plan.objects) p) ((says.good p).1 good) in
-    (s, (led, (walked-good plan.objects h [] p (first_spot (table_of h) plan.objects) s fine (fits-from_limits plan h within) (Stands-root plan.objects h) (IsGood-empty plan.objects h) led).1))
+    let (s, led) = some-from (walked (table_of h) (first_configuration (table_of h) plan.objects) p) ((says.good p).1 good) in
+    (s, (led, (walked-good plan.objects h [] p (first_configuration (table_of h) plan.objects) s fine (fits-from_limits plan h within) (Stands-root plan.objects h) (IsGood-empty plan.objects h) led).1))
 
 -- # A silent transaction placed at once
 
@@ -54,21 +54,21 @@ silent-moves-forward plan h p q d fine within silent next shown =
     let inside = (position-Some (nat_eq d.tx) (map (λ (r : RowOf). r.tx) rows) st.place 0 st.found).0 in
     let rest : walked rows (marked st.place s) (without d.tx q) ≡ Some u = moved rows d.tx st.place (row_of h d.tx) d.fate st.found at quiet q s u (omega (arith, sized, inside)) st.fresh on all in
     let whole : walked rows root ((p ++ d ∷ []) ++ without d.tx q) ≡ Some u =
-    walked-join rows root v (p ++ d ∷ []) (without d.tx q) led_v ∙ ap (λ (x : Spot). walked rows x (without d.tx q)) same ∙ rest in
+    walked-join rows root v (p ++ d ∷ []) (without d.tx q) led_v ∙ ap (λ (x : Configuration). walked rows x (without d.tx q)) same ∙ rest in
     (says.shows ((p ++ d ∷ []) ++ without d.tx q)).1 (u, (whole, all))
   where
     rows : List RowOf
     rows = table_of h
 
-    root : Spot
-    root = first_spot (table_of h) plan.objects
+    root : Configuration
+    root = first_configuration (table_of h) plan.objects
 
 -- a list is refuted where it is once a silent transaction is placed after it
 pub refuted-by_silent : (plan : PlanOf) (h : History) (p : List Decision) (d : Decision) → IsWellFormed h → IsWithinLimits plan h →
     silent_fate h d.tx ≡ Some d.fate → IsGoodNext plan.objects h p d → Refuted plan.objects h (p ++ d ∷ []) → Refuted plan.objects h p
 refuted-by_silent plan h p d fine within silent next refuted q shown = refuted (without d.tx q) (silent-moves-forward plan h p q d fine within silent next shown)
 
--- # Lists that lead to one spot
+-- # Lists that lead to one configuration
 
 pub map-named : (f g : ℕ → Bool) (ts : List ℕ) → ((t : ℕ) → f t ≡ g t) → map f ts ≡ map g ts
 map-named f g [] same = refl
@@ -87,17 +87,17 @@ shown-same plan h p q rest fine within good other placed states shown =
     let holds : s.states ≡ t.states = at_p.states ∙ states ∙ sym at_q.states in
     let same : s ≡ t = (λ i. record { placed = bits i; states = holds i }) in
     let on : walked rows s rest ≡ Some u = sym (walked-join rows root s p rest led_p) ∙ led in
-    let whole : walked rows root (q ++ rest) ≡ Some u = walked-join rows root t q rest led_q ∙ ap (λ (x : Spot). walked rows x rest) (sym same) ∙ on in
+    let whole : walked rows root (q ++ rest) ≡ Some u = walked-join rows root t q rest led_q ∙ ap (λ (x : Configuration). walked rows x rest) (sym same) ∙ on in
     (says.shows (q ++ rest)).1 (u, (whole, all))
   where
     rows : List RowOf
     rows = table_of h
 
-    root : Spot
-    root = first_spot (table_of h) plan.objects
+    root : Configuration
+    root = first_configuration (table_of h) plan.objects
 
-pub spots-decide : SpotsDecide
-spots-decide plan h p q rest fine within good other named states shown =
+pub configurations-decide : ConfigurationsDecide
+configurations-decide plan h p q rest fine within good other named states shown =
     shown-same plan h p q rest fine within good other (map-named (is_named p) (is_named q) (transactions h) named) states shown
 
 -- # What one decision does to the states
@@ -113,7 +113,7 @@ step-states plan h p d fine within good =
     let st = steps-from rows s v d step in
     let (at, there) = row-found h d.tx st.place st.found in
     let own : st.row ≡ row_of h d.tx = (let a = st.at in cc) in
-    let leads : v.states ≡ states_with d.fate s.states st.after = ap (λ (x : Spot). x.states) st.leads in
+    let leads : v.states ≡ states_with d.fate s.states st.after = ap (λ (x : Configuration). x.states) st.leads in
     let ran : replayed s.states (row_of h d.tx).block ≡ Some st.after = ap (λ (r : RowOf). replayed s.states r.block) (sym own) ∙ st.ran in (
       (λ commits.
           let now : v.states ≡ st.after = leads ∙ ap (λ f. states_with f s.states st.after) commits in
@@ -124,8 +124,8 @@ step-states plan h p d fine within good =
     rows : List RowOf
     rows = table_of h
 
-    root : Spot
-    root = first_spot (table_of h) plan.objects
+    root : Configuration
+    root = first_configuration (table_of h) plan.objects
 
     left : (before after : List ObjState) → status_allows (row_of h d.tx).status d.fate ≡ true → is_in h d.tx ≡ true → replayed before (row_of h d.tx).block ≡ Some after →
         (d.fate ≡ A) ⊎ (silent_fate h d.tx ≡ Some d.fate) → states_with d.fate before after ≡ before

@@ -17,7 +17,7 @@ use Rattle.aud_witness.specs.declared.fault.OrderFault.{OrderFault}
 use Rattle.aud_witness.specs.declared.fault.OrderFault.TheVariants.{UnknownTx, Twice, FateNotAllowed, RealTime, Illegal, Missing}
 use Rattle.aud_witness.specs.Orders.{is_named, IsGood, IsGoodNext}
 use Rattle.aud_witness.specs.OrderFaults.{is_enabled, place_fault}
-use Rattle.aud_witness.specs.Spots.{Spot, first_spot, stepped, are_earlier_placed}
+use Rattle.aud_witness.specs.Configurations.{Configuration, first_configuration, stepped, are_earlier_placed}
 use Rattle.aud_witness.specs.Placings.{PlacingOf, Advances}
 use Rattle.aud_witness.proofs.Good.{IsGood-empty, IsGood-push, place_of}
 use Rattle.aud_witness.proofs.Faults.{IsGoodNext-from_no_fault, no_fault-from_IsGoodNext}
@@ -30,15 +30,15 @@ use Rattle.aud_order.specs.Cursors.{Leads, IsAt, pushed_by_fault}
 use Rattle.aud_order.proofs.KidLemmas.{in-transactions}
 
 -- what is reported of one more decision
-pub reported-next : (plan : PlanOf) (h : History) (p : List Decision) (s : Spot) (d : Decision) → IsWellFormed h → IsWithinLimits plan h → Stands plan.objects h p s →
+pub reported-next : (plan : PlanOf) (h : History) (p : List Decision) (s : Configuration) (d : Decision) → IsWellFormed h → IsWithinLimits plan h → Stands plan.objects h p s →
     Reported plan.objects h p d (stepped (table_of h) s d)
 reported-next plan h p s d fine fits stands = stepped-reported plan.objects h p s d fine (fit-from_plan plan d.tx h fits.1) stands
 
 -- the decisions that lead somewhere are good, and they lead where the definition says
-pub standing : (plan : PlanOf) (h : History) (path : List Decision) (s : Spot) (past : List Spot) → IsWellFormed h → IsWithinLimits plan h →
-    Leads (table_of h) (first_spot (table_of h) plan.objects) path s past → IsGood plan.objects h path × Stands plan.objects h path s
+pub standing : (plan : PlanOf) (h : History) (path : List Decision) (s : Configuration) (past : List Configuration) → IsWellFormed h → IsWithinLimits plan h →
+    Leads (table_of h) (first_configuration (table_of h) plan.objects) path s past → IsGood plan.objects h path × Stands plan.objects h path s
 standing plan h path s [] fine fits leads =
-    let at_root : Stands plan.objects h [] s = subst (λ (x : Spot). Stands plan.objects h [] x) (sym leads.1) (Stands-root plan.objects h) in (
+    let at_root : Stands plan.objects h [] s = subst (λ (x : Configuration). Stands plan.objects h [] x) (sym leads.1) (Stands-root plan.objects h) in (
       subst (λ l. IsGood plan.objects h l) (sym leads.0) (IsGood-empty plan.objects h),
       subst (λ l. Stands plan.objects h l s) (sym leads.0) at_root,
     )
@@ -50,28 +50,28 @@ standing plan h path s (t ∷ past) fine fits (p, (d, (is, step, leads))) =
     )
 
 pub good-at : (shape : ShapeOf) (p : PlacingOf) (k : ℕ) → IsAt shape p k → IsGood (objects_of shape) (history_of shape) p.path
-good-at shape p k at = (standing (plan_of shape) (history_of shape) p.path p.spot p.past at.fine at.fits at.leads).0
+good-at shape p k at = (standing (plan_of shape) (history_of shape) p.path p.configuration p.past at.fine at.fits at.leads).0
 
-pub stands-at : (shape : ShapeOf) (p : PlacingOf) (k : ℕ) → IsAt shape p k → Stands (objects_of shape) (history_of shape) p.path p.spot
-stands-at shape p k at = (standing (plan_of shape) (history_of shape) p.path p.spot p.past at.fine at.fits at.leads).1
+pub stands-at : (shape : ShapeOf) (p : PlacingOf) (k : ℕ) → IsAt shape p k → Stands (objects_of shape) (history_of shape) p.path p.configuration
+stands-at shape p k at = (standing (plan_of shape) (history_of shape) p.path p.configuration p.past at.fine at.fits at.leads).1
 
 pub reported-at : (shape : ShapeOf) (p : PlacingOf) (k : ℕ) (d : Decision) → IsAt shape p k →
-    Reported (objects_of shape) (history_of shape) p.path d (stepped (table_of (history_of shape)) p.spot d)
-reported-at shape p k d at = reported-next (plan_of shape) (history_of shape) p.path p.spot d at.fine at.fits (stands-at shape p k at)
+    Reported (objects_of shape) (history_of shape) p.path d (stepped (table_of (history_of shape)) p.configuration d)
+reported-at shape p k d at = reported-next (plan_of shape) (history_of shape) p.path p.configuration d at.fine at.fits (stands-at shape p k at)
 
 -- # One decision
 
-pub fault-ok : (shape : ShapeOf) (p new : PlacingOf) (k : ℕ) (d : Decision) → IsAt shape p k → Advances p d new (stepped p.agenda.rows p.spot d) →
+pub fault-ok : (shape : ShapeOf) (p new : PlacingOf) (k : ℕ) (d : Decision) → IsAt shape p k → Advances p d new (stepped p.agenda.rows p.configuration d) →
     place_fault (objects_of shape) (history_of shape) p.path d ≡ None
 fault-ok shape p new k d at advances =
-    let led : stepped (table_of (history_of shape)) p.spot d ≡ Ok new.spot = subst (λ rows. stepped rows p.spot d ≡ Ok new.spot) at.rows advances.spot in
-    let reported : Reported (objects_of shape) (history_of shape) p.path d (Ok new.spot) = subst (λ r. Reported (objects_of shape) (history_of shape) p.path d r) led (reported-at shape p k d at) in
+    let led : stepped (table_of (history_of shape)) p.configuration d ≡ Ok new.configuration = subst (λ rows. stepped rows p.configuration d ≡ Ok new.configuration) at.rows advances.configuration in
+    let reported : Reported (objects_of shape) (history_of shape) p.path d (Ok new.configuration) = subst (λ r. Reported (objects_of shape) (history_of shape) p.path d r) led (reported-at shape p k d at) in
     reported.0
 
-pub fault-err : (shape : ShapeOf) (p : PlacingOf) (k : ℕ) (d : Decision) (fault : OrderFault) → IsAt shape p k → stepped p.agenda.rows p.spot d ≡ Err fault →
+pub fault-err : (shape : ShapeOf) (p : PlacingOf) (k : ℕ) (d : Decision) (fault : OrderFault) → IsAt shape p k → stepped p.agenda.rows p.configuration d ≡ Err fault →
     place_fault (objects_of shape) (history_of shape) p.path d ≡ Some fault
 fault-err shape p k d fault at is =
-    let led : stepped (table_of (history_of shape)) p.spot d ≡ Err fault = subst (λ rows. stepped rows p.spot d ≡ Err fault) at.rows is in
+    let led : stepped (table_of (history_of shape)) p.configuration d ≡ Err fault = subst (λ rows. stepped rows p.configuration d ≡ Err fault) at.rows is in
     subst (λ r. Reported (objects_of shape) (history_of shape) p.path d r) led (reported-at shape p k d at)
 
 -- # What is placed
@@ -80,7 +80,7 @@ keys : (h : History) → map (λ (r : RowOf). r.tx) (table_of h) ≡ transaction
 keys h = tx-rows h (transactions h)
 
 pub has-row : (shape : ShapeOf) (p : PlacingOf) (k i t : ℕ) → IsAt shape p k → position (nat_eq t) (map (λ (r : RowOf). r.tx) (table_of (history_of shape))) ≡ Some i →
-    slice_index_or p.spot.placed i false ≡ is_named p.path t
+    slice_index_or p.configuration.placed i false ≡ is_named p.path t
 has-row shape p k i t at found =
     let h = history_of shape in
     let place = position-Some (nat_eq t) (transactions h) i 0 (ap (position (nat_eq t)) (sym (keys h)) ∙ found) in
@@ -101,17 +101,17 @@ pub row-there : (h : History) (k : ℕ) → k < length (table_of h) → slice_ge
 row-there h k inside = row-at h (transactions h) k 0 (subst (λ n. k < n) (length-map (transactions h) (row_of h)) inside)
 
 pub placed-there : (shape : ShapeOf) (p : PlacingOf) (k i : ℕ) → IsAt shape p k → i < length (table_of (history_of shape)) →
-    slice_index_or p.spot.placed i false ≡ is_named p.path (get_or (transactions (history_of shape)) i 0)
+    slice_index_or p.configuration.placed i false ≡ is_named p.path (get_or (transactions (history_of shape)) i 0)
 placed-there shape p k i at inside =
     let h = history_of shape in
     ap (λ l. get_or l i false) (stands-at shape p k at).placed ∙ named-at (is_named p.path) (transactions h) i 0 (subst (λ n. i < n) (length-map (transactions h) (row_of h)) inside)
 
 pub enabled-there : (shape : ShapeOf) (p : PlacingOf) (k i : ℕ) → IsAt shape p k → i < length (table_of (history_of shape)) →
-    are_earlier_placed p.agenda.rows p.spot.placed (first_stamp (history_of shape) (get_or (transactions (history_of shape)) i 0)) ≡ is_enabled (history_of shape) p.path (get_or (transactions (history_of shape)) i 0)
+    are_earlier_placed p.agenda.rows p.configuration.placed (first_stamp (history_of shape) (get_or (transactions (history_of shape)) i 0)) ≡ is_enabled (history_of shape) p.path (get_or (transactions (history_of shape)) i 0)
 enabled-there shape p k i at inside =
     let h = history_of shape in
     let t = get_or (transactions h) i 0 in
-    ap (λ rows. are_earlier_placed rows p.spot.placed (first_stamp h t)) at.rows
+    ap (λ rows. are_earlier_placed rows p.configuration.placed (first_stamp h t)) at.rows
     ∙ ap (λ l. are_earlier_placed (table_of h) l (first_stamp h t)) (stands-at shape p k at).placed
     ∙ enabled-by_rows h p.path t (in-transactions h i 0 (subst (λ n. i < n) (length-map (transactions h) (row_of h)) inside))
 
@@ -121,11 +121,11 @@ got (y ∷ rows) zero d x at = cc
 got (y ∷ rows) (suc i) d x at = got rows i d x at
 
 pub enabled-by : (shape : ShapeOf) (p : PlacingOf) (k i first : ℕ) (b : Bool) (r : RowOf) → IsAt shape p k → i < length (table_of (history_of shape)) →
-    r ≡ slice_index_or (table_of (history_of shape)) i r → first ≡ r.first → b ≡ are_earlier_placed p.agenda.rows p.spot.placed first → b ≡ is_enabled (history_of shape) p.path (get_or (transactions (history_of shape)) i 0)
+    r ≡ slice_index_or (table_of (history_of shape)) i r → first ≡ r.first → b ≡ are_earlier_placed p.agenda.rows p.configuration.placed first → b ≡ is_enabled (history_of shape) p.path (get_or (transactions (history_of shape)) i 0)
 enabled-by shape p k i first b r at inside is begins test =
     let h = history_of shape in
     let row : r ≡ row_of h (get_or (transactions h) i 0) = is ∙ got (table_of h) i r (row_of h (get_or (transactions h) i 0)) (row-there h i inside) in
-    test ∙ ap (are_earlier_placed p.agenda.rows p.spot.placed) (begins ∙ ap (λ (x : RowOf). x.first) row) ∙ enabled-there shape p k i at inside
+    test ∙ ap (are_earlier_placed p.agenda.rows p.configuration.placed) (begins ∙ ap (λ (x : RowOf). x.first) row) ∙ enabled-there shape p k i at inside
 
 -- # What is reported
 

@@ -1,4 +1,4 @@
--- One step from spot to spot, taken apart and put together, and what steps leave alone.
+-- One step from configuration to configuration, taken apart and put together, and what steps leave alone.
 use Rattle.std.specs.Prelude.{◌≡◌, ◌≢◌, ℕ, zero, suc, ◌<◌, Bool, true, false, not, ◌&&◌, ◌||◌, nat_eq, nat_lt, List, [], ◌∷◌, ◌++◌, map, length, Option, Some, None, Result, Ok, Err, slice_get, slice_set, slice_index_or, refl}
 use Rattle.std.specs.List.{list_all, position}
 use Rattle.std.proofs.Common.{sym, ◌∙◌, ap, subst, cond, arith, get_or, set}
@@ -18,18 +18,18 @@ use Rattle.aud_witness.specs.declared.decision.Fate.TheVariants.{C, A}
 use Rattle.aud_witness.specs.declared.decision.Decision.{Decision}
 use Rattle.aud_witness.specs.declared.fault.OrderFault.{OrderFault}
 use Rattle.aud_witness.specs.declared.fault.OrderFault.TheVariants.{UnknownTx, Twice, FateNotAllowed, RealTime, Illegal}
-use Rattle.aud_witness.specs.Spots.{Spot, is_ended, status_allows, are_earlier_placed, states_with, early_fault, block_stepped, row_stepped, stepped}
+use Rattle.aud_witness.specs.Configurations.{Configuration, is_ended, status_allows, are_earlier_placed, states_with, early_fault, block_stepped, row_stepped, stepped}
 use Rattle.aud_witness.specs.Walks.{walked, are_all_placed}
 use Rattle.aud_order.specs.Silent.{silent_by, silent_row}
 use Rattle.aud_order.specs.Moves.{without}
 
 -- # One step
 
--- the spot after a decision on the row at the place
-abbrev pub spot_after : Spot → Fate → ℕ → List ObjState → Spot
-spot_after s f k after = record { placed = slice_set s.placed k true; states = states_with f s.states after }
+-- the configuration after a decision on the row at the place
+abbrev pub configuration_after : Configuration → Fate → ℕ → List ObjState → Configuration
+configuration_after s f k after = record { placed = slice_set s.placed k true; states = states_with f s.states after }
 
-pub record Steps (rows : List RowOf) (s : Spot) (d : Decision) (u : Spot) : Type 0 where
+pub record Steps (rows : List RowOf) (s : Configuration) (d : Decision) (u : Configuration) : Type 0 where
   pub place : ℕ
   pub found : position (nat_eq d.tx) (map (λ (r : RowOf). r.tx) rows) ≡ Some place
   pub row : RowOf
@@ -39,7 +39,7 @@ pub record Steps (rows : List RowOf) (s : Spot) (d : Decision) (u : Spot) : Type
   pub ready : are_earlier_placed rows s.placed row.first ≡ true
   pub after : List ObjState
   pub ran : replayed s.states row.block ≡ Some after
-  pub leads : u ≡ spot_after s d.fate place after
+  pub leads : u ≡ configuration_after s d.fate place after
 
 early-none : (named allowed ready : Bool) (t : ℕ) →
     cond named (Some (Twice t)) (cond (not allowed) (Some (FateNotAllowed t)) (cond (not ready) (Some (RealTime t)) None)) ≡ None → (named ≡ false) × (allowed ≡ true) × (ready ≡ true)
@@ -48,71 +48,71 @@ early-none false false ready t e = cc
 early-none false true false t e = cc
 early-none false true true t e = (refl, refl, refl)
 
-pub steps-from : (rows : List RowOf) (s u : Spot) (d : Decision) → stepped rows s d ≡ Ok u → Steps rows s d u
+pub steps-from : (rows : List RowOf) (s u : Configuration) (d : Decision) → stepped rows s d ≡ Ok u → Steps rows s d u
 steps-from rows s u d = go (position (nat_eq d.tx) (map (λ (r : RowOf). r.tx) rows)) refl
   where
     ran : (k : ℕ) (r : RowOf) → position (nat_eq d.tx) (map (λ (x : RowOf). x.tx) rows) ≡ Some k → slice_get rows k ≡ Some r → early_fault rows s d k r ≡ None →
         (o : Option (List ObjState)) → replayed s.states r.block ≡ o →
-        elim o as (λ (_ : Option (List ObjState)). Result Spot OrderFault) [ None ↦ Err (Illegal d.tx) | Some after ↦ Ok (record { placed = slice_set s.placed k true; states = states_with d.fate s.states after }) ] ≡ Ok u → Steps rows s d u
+        elim o as (λ (_ : Option (List ObjState)). Result Configuration OrderFault) [ None ↦ Err (Illegal d.tx) | Some after ↦ Ok (record { placed = slice_set s.placed k true; states = states_with d.fate s.states after }) ] ≡ Ok u → Steps rows s d u
     ran k r found at early None is e = absurd (cc)
     ran k r found at early (Some after) is e =
         let tests = early-none (slice_index_or s.placed k false) (status_allows r.status d.fate) (are_earlier_placed rows s.placed r.first) d.tx early in
-        let leads : u ≡ spot_after s d.fate k after = cc in
+        let leads : u ≡ configuration_after s d.fate k after = cc in
         record { place = k; found = found; row = r; at = at; fresh = tests.0; allowed = tests.1; ready = tests.2; after = after; ran = is; leads = leads }
 
     tested : (k : ℕ) (r : RowOf) → position (nat_eq d.tx) (map (λ (x : RowOf). x.tx) rows) ≡ Some k → slice_get rows k ≡ Some r → (o : Option OrderFault) → early_fault rows s d k r ≡ o →
-        elim o as (λ (_ : Option OrderFault). Result Spot OrderFault) [ Some fault ↦ Err fault | None ↦ block_stepped s d k r ] ≡ Ok u → Steps rows s d u
+        elim o as (λ (_ : Option OrderFault). Result Configuration OrderFault) [ Some fault ↦ Err fault | None ↦ block_stepped s d k r ] ≡ Ok u → Steps rows s d u
     tested k r found at None is e = ran k r found at is (replayed s.states r.block) refl e
     tested k r found at (Some fault) is e = absurd (cc)
 
     rowed : (k : ℕ) → position (nat_eq d.tx) (map (λ (x : RowOf). x.tx) rows) ≡ Some k → (o : Option RowOf) → slice_get rows k ≡ o →
-        elim o as (λ (_ : Option RowOf). Result Spot OrderFault) [ None ↦ Err (UnknownTx d.tx) | Some r ↦ row_stepped rows s d k r ] ≡ Ok u → Steps rows s d u
+        elim o as (λ (_ : Option RowOf). Result Configuration OrderFault) [ None ↦ Err (UnknownTx d.tx) | Some r ↦ row_stepped rows s d k r ] ≡ Ok u → Steps rows s d u
     rowed k found None is e = absurd (cc)
     rowed k found (Some r) is e = tested k r found is (early_fault rows s d k r) refl e
 
     go : (o : Option ℕ) → position (nat_eq d.tx) (map (λ (r : RowOf). r.tx) rows) ≡ o →
-        elim o as (λ (_ : Option ℕ). Result Spot OrderFault) [ None ↦ Err (UnknownTx d.tx) | Some k ↦ elim (slice_get rows k) as (λ (_ : Option RowOf). Result Spot OrderFault) [ None ↦ Err (UnknownTx d.tx) | Some r ↦ row_stepped rows s d k r ] ] ≡ Ok u →
+        elim o as (λ (_ : Option ℕ). Result Configuration OrderFault) [ None ↦ Err (UnknownTx d.tx) | Some k ↦ elim (slice_get rows k) as (λ (_ : Option RowOf). Result Configuration OrderFault) [ None ↦ Err (UnknownTx d.tx) | Some r ↦ row_stepped rows s d k r ] ] ≡ Ok u →
         Steps rows s d u
     go None is e = absurd (cc)
     go (Some k) is e = rowed k is (slice_get rows k) refl e
 
-pub step-to : (rows : List RowOf) (s u : Spot) (d : Decision) → Steps rows s d u → stepped rows s d ≡ Ok u
+pub step-to : (rows : List RowOf) (s u : Configuration) (d : Decision) → Steps rows s d u → stepped rows s d ≡ Ok u
 step-to rows s u d st =
-    ap (λ (o : Option ℕ). elim o as (λ (_ : Option ℕ). Result Spot OrderFault) [ None ↦ Err (UnknownTx d.tx) | Some k ↦ elim (slice_get rows k) as (λ (_ : Option RowOf). Result Spot OrderFault) [ None ↦ Err (UnknownTx d.tx) | Some r ↦ row_stepped rows s d k r ] ]) st.found
-    ∙ ap (λ (o : Option RowOf). elim o as (λ (_ : Option RowOf). Result Spot OrderFault) [ None ↦ Err (UnknownTx d.tx) | Some r ↦ row_stepped rows s d st.place r ]) st.at
-    ∙ ap (λ (o : Option OrderFault). elim o as (λ (_ : Option OrderFault). Result Spot OrderFault) [ Some fault ↦ Err fault | None ↦ block_stepped s d st.place st.row ]) early
-    ∙ ap (λ (o : Option (List ObjState)). elim o as (λ (_ : Option (List ObjState)). Result Spot OrderFault) [ None ↦ Err (Illegal d.tx) | Some after ↦ Ok (record { placed = slice_set s.placed st.place true; states = states_with d.fate s.states after }) ]) st.ran
-    ∙ ap (λ (x : Spot). Ok x) (sym st.leads)
+    ap (λ (o : Option ℕ). elim o as (λ (_ : Option ℕ). Result Configuration OrderFault) [ None ↦ Err (UnknownTx d.tx) | Some k ↦ elim (slice_get rows k) as (λ (_ : Option RowOf). Result Configuration OrderFault) [ None ↦ Err (UnknownTx d.tx) | Some r ↦ row_stepped rows s d k r ] ]) st.found
+    ∙ ap (λ (o : Option RowOf). elim o as (λ (_ : Option RowOf). Result Configuration OrderFault) [ None ↦ Err (UnknownTx d.tx) | Some r ↦ row_stepped rows s d st.place r ]) st.at
+    ∙ ap (λ (o : Option OrderFault). elim o as (λ (_ : Option OrderFault). Result Configuration OrderFault) [ Some fault ↦ Err fault | None ↦ block_stepped s d st.place st.row ]) early
+    ∙ ap (λ (o : Option (List ObjState)). elim o as (λ (_ : Option (List ObjState)). Result Configuration OrderFault) [ None ↦ Err (Illegal d.tx) | Some after ↦ Ok (record { placed = slice_set s.placed st.place true; states = states_with d.fate s.states after }) ]) st.ran
+    ∙ ap (λ (x : Configuration). Ok x) (sym st.leads)
   where
     early : early_fault rows s d st.place st.row ≡ None
     early = λ i. cond (st.fresh i) (Some (Twice d.tx)) (cond (not (st.allowed i)) (Some (FateNotAllowed d.tx)) (cond (not (st.ready i)) (Some (RealTime d.tx)) None))
 
 -- # Walks
 
-pub walked-split : (rows : List RowOf) (s u : Spot) (p q : List Decision) → walked rows s (p ++ q) ≡ Some u → (t : Spot) × ((walked rows s p ≡ Some t) × (walked rows t q ≡ Some u))
+pub walked-split : (rows : List RowOf) (s u : Configuration) (p q : List Decision) → walked rows s (p ++ q) ≡ Some u → (t : Configuration) × ((walked rows s p ≡ Some t) × (walked rows t q ≡ Some u))
 walked-split rows s u [] q led = (s, (refl, led))
 walked-split rows s u (d ∷ p) q led = go (λ v on. walked-split rows v u p q on) (stepped rows s d) led
   where
-    go : ((v : Spot) → walked rows v (p ++ q) ≡ Some u → (t : Spot) × ((walked rows v p ≡ Some t) × (walked rows t q ≡ Some u))) → (r : Result Spot OrderFault) → elim r as (λ (_ : Result Spot OrderFault). Option Spot) [ Err _ ↦ None | Ok v ↦ walked rows v (p ++ q) ] ≡ Some u →
-        (t : Spot) × ((elim r as (λ (_ : Result Spot OrderFault). Option Spot) [ Err _ ↦ None | Ok v ↦ walked rows v p ] ≡ Some t) × (walked rows t q ≡ Some u))
+    go : ((v : Configuration) → walked rows v (p ++ q) ≡ Some u → (t : Configuration) × ((walked rows v p ≡ Some t) × (walked rows t q ≡ Some u))) → (r : Result Configuration OrderFault) → elim r as (λ (_ : Result Configuration OrderFault). Option Configuration) [ Err _ ↦ None | Ok v ↦ walked rows v (p ++ q) ] ≡ Some u →
+        (t : Configuration) × ((elim r as (λ (_ : Result Configuration OrderFault). Option Configuration) [ Err _ ↦ None | Ok v ↦ walked rows v p ] ≡ Some t) × (walked rows t q ≡ Some u))
     go rest (Err fault) none = absurd (cc)
     go rest (Ok v) on = rest v on
 
-pub walked-join : (rows : List RowOf) (s t : Spot) (p q : List Decision) → walked rows s p ≡ Some t → walked rows s (p ++ q) ≡ walked rows t q
-walked-join rows s t [] q led = let same : s ≡ t = cc in ap (λ (x : Spot). walked rows x q) same
+pub walked-join : (rows : List RowOf) (s t : Configuration) (p q : List Decision) → walked rows s p ≡ Some t → walked rows s (p ++ q) ≡ walked rows t q
+walked-join rows s t [] q led = let same : s ≡ t = cc in ap (λ (x : Configuration). walked rows x q) same
 walked-join rows s t (d ∷ p) q led = go (λ v on. walked-join rows v t p q on) (stepped rows s d) led
   where
-    go : ((v : Spot) → walked rows v p ≡ Some t → walked rows v (p ++ q) ≡ walked rows t q) → (r : Result Spot OrderFault) → elim r as (λ (_ : Result Spot OrderFault). Option Spot) [ Err _ ↦ None | Ok v ↦ walked rows v p ] ≡ Some t →
-        elim r as (λ (_ : Result Spot OrderFault). Option Spot) [ Err _ ↦ None | Ok v ↦ walked rows v (p ++ q) ] ≡ walked rows t q
+    go : ((v : Configuration) → walked rows v p ≡ Some t → walked rows v (p ++ q) ≡ walked rows t q) → (r : Result Configuration OrderFault) → elim r as (λ (_ : Result Configuration OrderFault). Option Configuration) [ Err _ ↦ None | Ok v ↦ walked rows v p ] ≡ Some t →
+        elim r as (λ (_ : Result Configuration OrderFault). Option Configuration) [ Err _ ↦ None | Ok v ↦ walked rows v (p ++ q) ] ≡ walked rows t q
     go rest (Err fault) none = absurd (cc)
     go rest (Ok v) on = rest v on
 
-pub walked-one : (rows : List RowOf) (s u : Spot) (d : Decision) → walked rows s (d ∷ []) ≡ Some u → stepped rows s d ≡ Ok u
+pub walked-one : (rows : List RowOf) (s u : Configuration) (d : Decision) → walked rows s (d ∷ []) ≡ Some u → stepped rows s d ≡ Ok u
 walked-one rows s u d = go (stepped rows s d) refl
   where
-    go : (r : Result Spot OrderFault) → stepped rows s d ≡ r → elim r as (λ (_ : Result Spot OrderFault). Option Spot) [ Err _ ↦ None | Ok v ↦ Some v ] ≡ Some u → stepped rows s d ≡ Ok u
+    go : (r : Result Configuration OrderFault) → stepped rows s d ≡ r → elim r as (λ (_ : Result Configuration OrderFault). Option Configuration) [ Err _ ↦ None | Ok v ↦ Some v ] ≡ Some u → stepped rows s d ≡ Ok u
     go (Err fault) is none = absurd (cc)
-    go (Ok v) is on = let same : v ≡ u = cc in is ∙ ap (λ (x : Spot). Ok x) same
+    go (Ok v) is on = let same : v ≡ u = cc in is ∙ ap (λ (x : Configuration). Ok x) same
 
 -- # Blocks that only observe
 
@@ -142,8 +142,8 @@ silent-leaves r f C states after silent allowed ran = go (list_all (λ (x : Exec
 
 -- # A step that may be taken at once
 
--- the spot with one more row placed
-abbrev pub marked : ℕ → Spot → Spot
+-- the configuration with one more row placed
+abbrev pub marked : ℕ → Configuration → Configuration
 marked k s = record { placed = slice_set s.placed k true; states = s.states }
 
 earlier-more : (rows : List RowOf) (placed : List Bool) (k stamp : ℕ) → are_earlier_placed rows placed stamp ≡ true → are_earlier_placed rows (set placed k true) stamp ≡ true
@@ -169,7 +169,7 @@ other-row rows t u k j found there differ same =
     cc
 
 -- no other step sees that the row is placed
-step-other : (rows : List RowOf) (t k : ℕ) (s u : Spot) (d : Decision) → position (nat_eq t) (map (λ (r : RowOf). r.tx) rows) ≡ Some k → nat_eq d.tx t ≡ false → stepped rows s d ≡ Ok u →
+step-other : (rows : List RowOf) (t k : ℕ) (s u : Configuration) (d : Decision) → position (nat_eq t) (map (λ (r : RowOf). r.tx) rows) ≡ Some k → nat_eq d.tx t ≡ false → stepped rows s d ≡ Ok u →
     stepped rows (marked k s) d ≡ Ok (marked k u)
 step-other rows t k s u d found differ step =
     let st = steps-from rows s u d step in
@@ -188,13 +188,13 @@ step-other rows t k s u d found differ step =
     })
 
 -- nor does it place the row
-step-keeps : (rows : List RowOf) (t k : ℕ) (s u : Spot) (d : Decision) → position (nat_eq t) (map (λ (r : RowOf). r.tx) rows) ≡ Some k → nat_eq d.tx t ≡ false → stepped rows s d ≡ Ok u →
+step-keeps : (rows : List RowOf) (t k : ℕ) (s u : Configuration) (d : Decision) → position (nat_eq t) (map (λ (r : RowOf). r.tx) rows) ≡ Some k → nat_eq d.tx t ≡ false → stepped rows s d ≡ Ok u →
     (slice_index_or u.placed k false ≡ slice_index_or s.placed k false) × (length u.placed ≡ length s.placed)
 step-keeps rows t k s u d found differ step =
     let st = steps-from rows s u d step in
     let ne : k ≢ st.place = (λ same. other-row rows t d.tx k st.place found st.found differ (sym same)) in (
-      ap (λ (x : Spot). get_or x.placed k false) st.leads ∙ get_or-set_other s.placed st.place k true false ne,
-      ap (λ (x : Spot). length x.placed) st.leads ∙ set-length s.placed st.place,
+      ap (λ (x : Configuration). get_or x.placed k false) st.leads ∙ get_or-set_other s.placed st.place k true false ne,
+      ap (λ (x : Configuration). length x.placed) st.leads ∙ set-length s.placed st.place,
     )
   where
     set-length : (bs : List Bool) (i : ℕ) → length (set bs i true) ≡ length bs
@@ -209,15 +209,15 @@ all-at (b ∷ bs) (suc k) all inside = all-at bs k (and_true b (list_all (λ b. 
 
 -- what a list reaches is reached with the step taken at once
 pub moved : (rows : List RowOf) (t k : ℕ) (row : RowOf) (f : Fate) → position (nat_eq t) (map (λ (r : RowOf). r.tx) rows) ≡ Some k → slice_get rows k ≡ Some row → silent_row row ≡ Some f →
-    (q : List Decision) (s u : Spot) → k < length s.placed → slice_index_or s.placed k false ≡ false → walked rows s q ≡ Some u → are_all_placed u ≡ true → walked rows (marked k s) (without t q) ≡ Some u
+    (q : List Decision) (s u : Configuration) → k < length s.placed → slice_index_or s.placed k false ≡ false → walked rows s q ≡ Some u → are_all_placed u ≡ true → walked rows (marked k s) (without t q) ≡ Some u
 moved rows t k row f found at silent [] s u inside absent led all =
     let same : s ≡ u = cc in
-    let there : get_or s.placed k false ≡ true = all-at s.placed k (subst (λ (x : Spot). are_all_placed x ≡ true) (sym same) all) inside in
+    let there : get_or s.placed k false ≡ true = all-at s.placed k (subst (λ (x : Configuration). are_all_placed x ≡ true) (sym same) all) inside in
     absurd (cc)
 moved rows t k row f found at silent (d ∷ q) s u inside absent led all =
     go (λ v inside absent on. moved rows t k row f found at silent q v u inside absent on all) (stepped rows s d) refl led (nat_eq d.tx t) refl
   where
-    go : ((v : Spot) → k < length v.placed → slice_index_or v.placed k false ≡ false → walked rows v q ≡ Some u → walked rows (marked k v) (without t q) ≡ Some u) → (r : Result Spot OrderFault) → stepped rows s d ≡ r → elim r as (λ (_ : Result Spot OrderFault). Option Spot) [ Err _ ↦ None | Ok v ↦ walked rows v q ] ≡ Some u →
+    go : ((v : Configuration) → k < length v.placed → slice_index_or v.placed k false ≡ false → walked rows v q ≡ Some u → walked rows (marked k v) (without t q) ≡ Some u) → (r : Result Configuration OrderFault) → stepped rows s d ≡ r → elim r as (λ (_ : Result Configuration OrderFault). Option Configuration) [ Err _ ↦ None | Ok v ↦ walked rows v q ] ≡ Some u →
         (b : Bool) → nat_eq d.tx t ≡ b → walked rows (marked k s) (cond b q (d ∷ without t q)) ≡ Some u
     go later (Err fault) is none b same = absurd (cc)
     go later (Ok v) is on true same =
@@ -225,9 +225,9 @@ moved rows t k row f found at silent (d ∷ q) s u inside absent led all =
         let place : st.place ≡ k = (let a = st.found in let b = ap (λ n. position (nat_eq n) (map (λ (r : RowOf). r.tx) rows)) (nat_eq-is d.tx t same) ∙ found in cc) in
         let own : st.row ≡ row = (let a = st.at in let b = ap (slice_get rows) place ∙ at in cc) in
         let left : states_with d.fate s.states st.after ≡ s.states = silent-leaves st.row f d.fate s.states st.after (ap silent_row own ∙ silent) st.allowed st.ran in
-        let same_spot : v ≡ marked k s = st.leads ∙ (λ i. record { placed = set s.placed (place i) true; states = left i }) in
-        subst (λ (x : Spot). walked rows x q ≡ Some u) same_spot on
+        let same_configuration : v ≡ marked k s = st.leads ∙ (λ i. record { placed = set s.placed (place i) true; states = left i }) in
+        subst (λ (x : Configuration). walked rows x q ≡ Some u) same_configuration on
     go later (Ok v) is on false same =
         let keeps = step-keeps rows t k s v d found same is in
         let rest : walked rows (marked k v) (without t q) ≡ Some u = later v (omega (arith, keeps.1, inside)) (keeps.0 ∙ absent) on in
-        ap (λ (r : Result Spot OrderFault). elim r as (λ (_ : Result Spot OrderFault). Option Spot) [ Err _ ↦ None | Ok v ↦ walked rows v (without t q) ]) (step-other rows t k s v d found same is) ∙ rest
+        ap (λ (r : Result Configuration OrderFault). elim r as (λ (_ : Result Configuration OrderFault). Option Configuration) [ Err _ ↦ None | Ok v ↦ walked rows v (without t q) ]) (step-other rows t k s v d found same is) ∙ rest

@@ -1,4 +1,4 @@
--- A cursor over the good lists of decisions.
+-- A cursor over the good prefixes.
 use Rattle.std.specs.Prelude.{◌≡◌, ℕ, ◌<◌, ◌-◌, Bool, true, false, List, [], ◌∷◌, ◌++◌, length, take, Option, Some, None, Ok, slice_index_or}
 use Rattle.aud_history.specs.WellFormed.{IsWellFormed}
 use Rattle.aud_history.specs.FirstFault.{IsWithinLimits}
@@ -8,7 +8,7 @@ use Rattle.aud_witness.specs.declared.fault.OrderFault.{OrderFault}
 use Rattle.aud_witness.specs.declared.fault.OrderFault.TheVariants.{UnknownTx, Twice, FateNotAllowed, RealTime, Illegal, Missing}
 use Rattle.aud_witness.specs.OrderFaults.{is_good_next, place_fault}
 use Rattle.aud_witness.specs.Orders.{IsGood, IsGoodNext}
-use Rattle.aud_witness.specs.Spots.{Spot, first_spot, stepped}
+use Rattle.aud_witness.specs.Configurations.{Configuration, first_configuration, stepped}
 use Rattle.aud_witness.specs.Placings.{PlacingOf}
 use Rattle.aud_order.specs.declared.pushed.Pushed.{Pushed}
 use Rattle.aud_order.specs.declared.pushed.Pushed.TheVariants as reported
@@ -19,7 +19,7 @@ pub record CursorOf : Type 0 where
   pub shape : ShapeOf
   pub path : List Decision
 
--- a cursor at the list, which is good; or none, and it is not
+-- a cursor at the prefix, which is good; or none, and it is not
 abbrev pub IsCursorAfter : ShapeOf → List Decision → Option CursorOf → Type 0
 IsCursorAfter shape p None = IsGood (objects_of shape) (history_of shape) p → ⊥
 IsCursorAfter shape p (Some c) = (c ≡ record { shape = shape; path = p }) × IsGood (objects_of shape) (history_of shape) p
@@ -62,8 +62,8 @@ pushed_by (Some fault) = pushed_by_fault fault
 abbrev pub pushed_at : CursorOf → Decision → Pushed
 pushed_at c d = pushed_by (place_fault (objects_of c.shape) (history_of c.shape) c.path d)
 
--- the decisions lead from the first spot to a spot, over the spots after it, the last one first
-abbrev pub Leads : List RowOf → Spot → List Decision → Spot → List Spot → Type 0
+-- the decisions lead from the first configuration to a configuration, over the configurations after it, the last one first
+abbrev pub Leads : List RowOf → Configuration → List Decision → Configuration → List Configuration → Type 0
 Leads rows root path s [] = (path ≡ []) × (s ≡ root)
 Leads rows root path s (t ∷ past) =
     (p : List Decision) × ((d : Decision) × ((path ≡ p ++ d ∷ []) × (stepped rows t d ≡ Ok s) × Leads rows root p t past))
@@ -77,5 +77,5 @@ pub record IsAt (shape : ShapeOf) (p : PlacingOf) (first_open : ℕ) : Type 0 wh
   pub fine : IsWellFormed (history_of shape)
   pub fits : IsWithinLimits (plan_of shape) (history_of shape)
   pub rows : p.agenda.rows ≡ table_of (history_of shape)
-  pub leads : Leads (table_of (history_of shape)) (first_spot (table_of (history_of shape)) (objects_of shape)) p.path p.spot p.past
-  pub opens : ArePlaced p.spot.placed first_open
+  pub leads : Leads (table_of (history_of shape)) (first_configuration (table_of (history_of shape)) (objects_of shape)) p.path p.configuration p.past
+  pub opens : ArePlaced p.configuration.placed first_open

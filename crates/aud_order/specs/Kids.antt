@@ -1,4 +1,4 @@
--- The good extensions of a list by one decision.
+-- The good extensions of a prefix by one decision.
 use Rattle.std.specs.Prelude.{◌↔◌, ℕ, List, [], ◌∷◌, filter}
 use Rattle.std.specs.List.{Contains, flat_map}
 use Rattle.std.specs.List.Sorted.{IsSorted, IsPermutation}
@@ -20,7 +20,7 @@ both_fates t = record { tx = t; fate = C } ∷ record { tx = t; fate = A } ∷ [
 abbrev pub goods : List Declared → History → List Decision → List ℕ → List Decision
 goods objects h p ts = filter (is_good_next objects h p) (flat_map both_fates ts)
 
--- the same after the list of a cursor
+-- the same after the prefix of a cursor
 abbrev pub goods_at : CursorOf → List ℕ → List Decision
 goods_at c ts = goods (objects_of c.shape) (history_of c.shape) c.path ts
 

@@ -1,4 +1,4 @@
--- What may be moved in a list of decisions, and what decides what may follow it.
+-- What may be moved in a prefix, and what decides what may follow it.
 use Rattle.std.specs.Prelude.{◌≡◌, ℕ, if◌then◌else◌, nat_eq, List, [], ◌∷◌, ◌++◌, map, Some}
 use Rattle.aud_event.specs.Meanings.{PlanOf}
 use Rattle.aud_object.specs.Objects.{opening_of}
@@ -10,19 +10,19 @@ use Rattle.aud_witness.specs.declared.decision.Decision.{Decision}
 use Rattle.aud_witness.specs.Orders.{is_named, kept, Shows, IsGood, IsGoodNext}
 use Rattle.aud_order.specs.Silent.{silent_fate}
 
--- the list without the first decision on T
+-- the prefix without the first decision on T
 abbrev pub without : ℕ → List Decision → List Decision
 without t [] = []
 without t (d ∷ p) = if nat_eq d.tx t then p else d ∷ without t p
 
 -- A silent transaction that is good after p with its silent fate can be moved from any later place, whatever fate it has
--- there, to the place after p with its silent fate, and the list still shows.
+-- there, to the place after p with its silent fate, and the prefix still shows.
 abbrev pub SilentMovesForward : Type 0
 SilentMovesForward = (plan : PlanOf) (h : History) (p q : List Decision) (d : Decision) → IsWellFormed h → IsWithinLimits plan h →
     silent_fate h d.tx ≡ Some d.fate → IsGoodNext plan.objects h p d → Shows plan.objects h (p ++ q) → Shows plan.objects h ((p ++ d ∷ []) ++ without d.tx q)
 
--- after two good lists that name the same transactions and leave the same states, the same shows
-abbrev pub SpotsDecide : Type 0
-SpotsDecide = (plan : PlanOf) (h : History) (p q rest : List Decision) → IsWellFormed h → IsWithinLimits plan h → IsGood plan.objects h p → IsGood plan.objects h q →
+-- after two good prefixes that name the same transactions and leave the same states, the same shows
+abbrev pub ConfigurationsDecide : Type 0
+ConfigurationsDecide = (plan : PlanOf) (h : History) (p q rest : List Decision) → IsWellFormed h → IsWithinLimits plan h → IsGood plan.objects h p → IsGood plan.objects h q →
     ((t : ℕ) → is_named p t ≡ is_named q t) → states_after (map opening_of plan.objects) (kept h p) ≡ states_after (map opening_of plan.objects) (kept h q) →
     Shows plan.objects h (p ++ rest) → Shows plan.objects h (q ++ rest)

@@ -9,7 +9,7 @@ use Rattle.aud_history.specs.Table.{RowOf}
 use Rattle.aud_witness.specs.declared.decision.Fate.{Fate}
 use Rattle.aud_witness.specs.declared.decision.Fate.TheVariants.{C, A}
 use Rattle.aud_witness.specs.Orders.{is_allowed}
-use Rattle.aud_witness.specs.Spots.{status_allows}
+use Rattle.aud_witness.specs.Configurations.{status_allows}
 
 -- an event that invokes no operation but an observing one
 abbrev pub leaves_objects : Event → Bool

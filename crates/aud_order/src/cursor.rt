@@ -1,4 +1,4 @@
-//! A cursor over the good lists of decisions of a history.
+//! A cursor over the good prefixes of a history.
 
 ghost use Rattle.std.specs.Prelude.{◌≡◌, ◌≢◌, ◌↔◌, ◌<◌, ◌-◌, ◌++◌, [], ◌∷◌, true, false, length, take, map, filter, IsTrue, IfOk, OnOk, OnErr};
 ghost use Rattle.aud_object.specs.Objects.{opening_of};
@@ -19,7 +19,7 @@ use base_bits::Marks;
 use std::alloc::{Allocator, Global};
 use std::marker::Model;
 
-/// A good list of decisions of a history, with the states of all objects after what is kept of it.
+/// A good prefix of a history, with the states of all objects after what is kept of it.
 ///
 /// A step forward costs what the block of its transaction touches, and so does a step back.
 #[derive(Drop)]
@@ -41,8 +41,8 @@ impl<'a, A: Allocator + Copy> Model for Cursor<'a, A> {
 
 /// How many rows are placed from the first one on, where the first `from` are.
 fn open_from<A: Allocator + Copy>(placing: &Placing<A>, from: usize, count: usize) -> usize
-    requires { ArePlaced placing.now.spot.placed from }
-    ensures { ArePlaced placing.now.spot.placed result }
+    requires { ArePlaced placing.now.configuration.placed from }
+    ensures { ArePlaced placing.now.configuration.placed result }
 {
     let mut open = from;
     while open < count && placing.has_row(open) {
@@ -52,7 +52,7 @@ fn open_from<A: Allocator + Copy>(placing: &Placing<A>, from: usize, count: usiz
 }
 
 impl<'a, A: Allocator + Copy> Cursor<'a, A> {
-    /// A cursor at the empty list.
+    /// A cursor at the empty prefix.
     pub fn root(alloc: A, shape: &'a Shape<A>) -> Result<Cursor<'a, A>, OutOfMemory>
         ensures { IfOk result (λ cursor. cursor ≡ record { shape = shape.entry.now; path = [] }) }
     {
@@ -65,7 +65,7 @@ impl<'a, A: Allocator + Copy> Cursor<'a, A> {
         })
     }
 
-    /// A cursor at the list of decisions, where it is good.
+    /// A cursor at the prefix, where it is good.
     pub fn after(
         alloc: A,
         shape: &'a Shape<A>,
@@ -144,7 +144,7 @@ impl<'a, A: Allocator + Copy> Cursor<'a, A> {
         }
     }
 
-    /// Takes the last decision back; at the empty list it changes nothing and answers false. It does not allocate.
+    /// Takes the last decision back; at the empty prefix it changes nothing and answers false. It does not allocate.
     pub fn pop(&mut self) -> bool
         ensures root { result ≡ false → (self.old.path ≡ []) × (self.new ≡ self.old) }
         ensures back { result ≡ true → (self.old.path ≢ []) × (self.new ≡ cursor_back self.old) }

@@ -1,5 +1,5 @@
 #![tactic(auto)]
-//! The choices of a history at each list of decisions, and a cursor over the lists that are good.
+//! The choices of a history at each prefix, and a cursor over the prefixes that are good.
 
 mod cursor;
 pub mod laws;

@@ -13,7 +13,7 @@ use Rattle.base_values.proofs.Bools.{split}
 use Rattle.aud_history.specs.Table.{RowOf}
 use Rattle.aud_witness.specs.declared.end.End.{End}
 use Rattle.aud_witness.specs.contracts.end.EndOrd.TheImpl as end_order
-use Rattle.aud_witness.specs.Spots.{is_ended}
+use Rattle.aud_witness.specs.Configurations.{is_ended}
 use Rattle.aud_witness.specs.Agendas.{ends_from, AreEnds}
 
 abbrev end_of : RowOf → ℕ → End

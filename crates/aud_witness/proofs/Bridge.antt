@@ -17,7 +17,7 @@ use Rattle.aud_witness.specs.declared.decision.Fate.TheVariants.{C, A}
 use Rattle.aud_witness.specs.declared.decision.Decision.{Decision}
 use Rattle.aud_witness.specs.Orders.{is_allowed, is_named}
 use Rattle.aud_witness.specs.OrderFaults.{is_enabled}
-use Rattle.aud_witness.specs.Spots.{is_ended, status_allows, are_earlier_placed}
+use Rattle.aud_witness.specs.Configurations.{is_ended, status_allows, are_earlier_placed}
 
 -- # Rows of the table
 

@@ -39,7 +39,7 @@ use Rattle.aud_witness.specs.declared.fault.OrderFault.TheVariants.{UnknownTx, T
 use Rattle.aud_witness.specs.Orders.{is_allowed, is_named, is_kept, block, kept}
 use Rattle.aud_witness.specs.Enumeration.{is_legal_from}
 use Rattle.aud_witness.specs.OrderFaults.{is_enabled, place_fault}
-use Rattle.aud_witness.specs.Spots.{Spot, first_spot, status_allows, are_earlier_placed, states_with, early_fault, block_stepped, row_stepped, stepped}
+use Rattle.aud_witness.specs.Configurations.{Configuration, first_configuration, status_allows, are_earlier_placed, states_with, early_fault, block_stepped, row_stepped, stepped}
 use Rattle.aud_witness.proofs.Tested.{IsLegal-from_test, test-from_IsLegal}
 use Rattle.aud_witness.proofs.Beginnings.{is_named-append}
 use Rattle.aud_witness.proofs.Endings.{on_object-block}
@@ -209,8 +209,8 @@ kept-push h (x ∷ p) d =
 
 -- # Where a list of decisions has led
 
--- a spot is the one to which the list led
-pub record Stands (objects : List Declared) (h : History) (p : List Decision) (s : Spot) : Type 0 where
+-- a configuration is the one to which the list led
+pub record Stands (objects : List Declared) (h : History) (p : List Decision) (s : Configuration) : Type 0 where
   pub placed : s.placed ≡ map (is_named p) (transactions h)
   pub states : s.states ≡ states_after (map opening_of objects) (kept h p)
   pub whole : AreExecutionsOnEach (kept h p)
@@ -224,7 +224,7 @@ after-nothing : (n : ℕ) (states : List ObjState) → states ≡ states_after_f
 after-nothing n [] = refl
 after-nothing n (s ∷ ss) = ap (λ l. s ∷ l) (after-nothing (suc n) ss)
 
-pub Stands-root : (objects : List Declared) (h : History) → Stands objects h [] (first_spot (table_of h) objects)
+pub Stands-root : (objects : List Declared) (h : History) → Stands objects h [] (first_configuration (table_of h) objects)
 Stands-root objects h = record {
   placed = ap (λ n. replicate n false) (length-map (transactions h) (row_of h)) ∙ none-named (transactions h);
   states = after-nothing 0 (map opening_of objects);
@@ -274,7 +274,7 @@ set-named f g (x ∷ ts) (suc k) t d differ inside at placed others =
 -- # One decision
 
 -- what a step says of a decision after a list
-abbrev pub Reported : List Declared → History → List Decision → Decision → Result Spot OrderFault → Type 0
+abbrev pub Reported : List Declared → History → List Decision → Decision → Result Configuration OrderFault → Type 0
 Reported objects h p d (Ok s) = (place_fault objects h p d ≡ None) × Stands objects h (p ++ d ∷ []) s
 Reported objects h p d (Err fault) = place_fault objects h p d ≡ Some fault
 
@@ -293,8 +293,8 @@ place-by : (objects : List Declared) (h : History) (p : List Decision) (d : Deci
     place_fault objects h p d ≡ fault_by there named allowed enabled legal d.tx
 place-by objects h p d there named allowed enabled legal a b c e l = λ i. fault_by (a i) (b i) (c i) (e i) (l i) d.tx
 
--- the spot after a decision whose block could run
-Stands-next : (objects : List Declared) (h : History) (p : List Decision) (s : Spot) (d : Decision) (k d0 : ℕ) (after : List ObjState) → IsWellFormed h → Stands objects h p s →
+-- the configuration after a decision whose block could run
+Stands-next : (objects : List Declared) (h : History) (p : List Decision) (s : Configuration) (d : Decision) (k d0 : ℕ) (after : List ObjState) → IsWellFormed h → Stands objects h p s →
     k < length (transactions h) → get_or (transactions h) k d0 ≡ d.tx → is_allowed h d.tx d.fate ≡ true →
     IsLegalFrom (map opening_of objects) (kept h p ++ block h d) → after ≡ states_after (map opening_of objects) (kept h p ++ block h d) →
     Stands objects h (p ++ d ∷ []) (record { placed = set s.placed k true; states = states_with d.fate s.states after })
@@ -340,7 +340,7 @@ Stands-next objects h p s d k d0 after fine stands inside at allowed legal is =
         }
 
 -- a decision of which nothing is wrong but perhaps its block
-reported-block : (objects : List Declared) (h : History) (p : List Decision) (s : Spot) (d : Decision) (k d0 : ℕ) → IsWellFormed h → AllFit objects (events_of d.tx h) → Stands objects h p s →
+reported-block : (objects : List Declared) (h : History) (p : List Decision) (s : Configuration) (d : Decision) (k d0 : ℕ) → IsWellFormed h → AllFit objects (events_of d.tx h) → Stands objects h p s →
     k < length (transactions h) → get_or (transactions h) k d0 ≡ d.tx → is_in h d.tx ≡ true → is_named p d.tx ≡ false → is_allowed h d.tx d.fate ≡ true → is_enabled h p d.tx ≡ true →
     Reported objects h p d (block_stepped s d k (row_of h d.tx))
 reported-block objects h p s d k d0 fine fit stands inside at there new allowed enabled =
@@ -348,7 +348,7 @@ reported-block objects h p s d k d0 fine fit stands inside at there new allowed 
     (subst (λ l. Replays objects (kept h p ++ block h d) (replayed l (block_of (events_of d.tx h)))) (sym stands.states) (replays objects h (kept h p) d fine fit stands.whole stands.legal))
   where
     go : (o : Option (List ObjState)) → Replays objects (kept h p ++ block h d) o →
-        Reported objects h p d (elim o as (λ (_ : Option (List ObjState)). Result Spot OrderFault) [ None ↦ Err (Illegal d.tx) | Some after ↦ Ok (record { placed = slice_set s.placed k true; states = states_with d.fate s.states after }) ])
+        Reported objects h p d (elim o as (λ (_ : Option (List ObjState)). Result Configuration OrderFault) [ None ↦ Err (Illegal d.tx) | Some after ↦ Ok (record { placed = slice_set s.placed k true; states = states_with d.fate s.states after }) ])
     go None illegal = place-by objects h p d true false true true false there new allowed enabled illegal
     go (Some after) (legal, (all, is)) =
         (place-by objects h p d true false true true true there new allowed enabled legal, Stands-next objects h p s d k d0 after fine stands inside at allowed all is)
@@ -358,7 +358,7 @@ early_by named allowed enabled t =
     if named then Some (Twice t) else (if not allowed then Some (FateNotAllowed t) else (if not enabled then Some (RealTime t) else None))
 
 -- a decision on the row of its transaction
-reported-row : (objects : List Declared) (h : History) (p : List Decision) (s : Spot) (d : Decision) (k d0 : ℕ) → IsWellFormed h → AllFit objects (events_of d.tx h) → Stands objects h p s →
+reported-row : (objects : List Declared) (h : History) (p : List Decision) (s : Configuration) (d : Decision) (k d0 : ℕ) → IsWellFormed h → AllFit objects (events_of d.tx h) → Stands objects h p s →
     k < length (transactions h) → get_or (transactions h) k d0 ≡ d.tx → is_in h d.tx ≡ true → Reported objects h p d (row_stepped (table_of h) s d k (row_of h d.tx))
 reported-row objects h p s d k d0 fine fit stands inside at there =
     elim (split (is_named p d.tx)) [
@@ -379,8 +379,8 @@ reported-row objects h p s d k d0 fine fit stands inside at there =
           ]
     ]
   where
-    row_by : Option OrderFault → Result Spot OrderFault
-    row_by o = elim o as (λ (_ : Option OrderFault). Result Spot OrderFault) [ Some fault ↦ Err fault | None ↦ block_stepped s d k (row_of h d.tx) ]
+    row_by : Option OrderFault → Result Configuration OrderFault
+    row_by o = elim o as (λ (_ : Option OrderFault). Result Configuration OrderFault) [ Some fault ↦ Err fault | None ↦ block_stepped s d k (row_of h d.tx) ]
 
     at_row : slice_index_or s.placed k false ≡ is_named p d.tx
     at_row = ap (λ l. get_or l k false) stands.placed ∙ named-at (is_named p) (transactions h) k d0 inside ∙ ap (is_named p) at
@@ -399,7 +399,7 @@ reported-row objects h p s d k d0 fine fit stands inside at there =
     reported fault early is = subst (λ o. Reported objects h p d (row_by o)) (sym (is_early ∙ early)) is
 
 -- a step by the rows of the table is a step by the definition
-pub stepped-reported : (objects : List Declared) (h : History) (p : List Decision) (s : Spot) (d : Decision) → IsWellFormed h → AllFit objects (events_of d.tx h) → Stands objects h p s →
+pub stepped-reported : (objects : List Declared) (h : History) (p : List Decision) (s : Configuration) (d : Decision) → IsWellFormed h → AllFit objects (events_of d.tx h) → Stands objects h p s →
     Reported objects h p d (stepped (table_of h) s d)
 stepped-reported objects h p s d fine fit stands = go (position (nat_eq d.tx) (map (λ (r : RowOf). r.tx) (table_of h))) refl
   where
@@ -407,7 +407,7 @@ stepped-reported objects h p s d fine fit stands = go (position (nat_eq d.tx) (m
     keys = tx-rows h (transactions h)
 
     go : (o : Option ℕ) → position (nat_eq d.tx) (map (λ (r : RowOf). r.tx) (table_of h)) ≡ o →
-        Reported objects h p d (elim o as (λ (_ : Option ℕ). Result Spot OrderFault) [ None ↦ Err (UnknownTx d.tx) | Some k ↦ elim (slice_get (table_of h) k) as (λ (_ : Option RowOf). Result Spot OrderFault) [ None ↦ Err (UnknownTx d.tx) | Some r ↦ row_stepped (table_of h) s d k r ] ])
+        Reported objects h p d (elim o as (λ (_ : Option ℕ). Result Configuration OrderFault) [ None ↦ Err (UnknownTx d.tx) | Some k ↦ elim (slice_get (table_of h) k) as (λ (_ : Option RowOf). Result Configuration OrderFault) [ None ↦ Err (UnknownTx d.tx) | Some r ↦ row_stepped (table_of h) s d k r ] ])
     go None none =
         let absent : is_in h d.tx ≡ false = sym (any-transactions h d.tx) ∙ absent-from_position (nat_eq d.tx) (transactions h) (ap (position (nat_eq d.tx)) (sym keys) ∙ none) in
         λ i. fault_by (absent i) (is_named p d.tx) (is_allowed h d.tx d.fate) (is_enabled h p d.tx) (is_legal_from 0 objects (kept h p ++ block h d)) d.tx
@@ -416,5 +416,5 @@ stepped-reported objects h p s d fine fit stands = go (position (nat_eq d.tx) (m
         let at : get_or (transactions h) k 0 ≡ d.tx = sym (nat_eq-is d.tx (get_or (transactions h) k 0) place.1) in
         let there : is_in h d.tx ≡ true = sym (any-transactions h d.tx) ∙ any-at d.tx (transactions h) k 0 place.0 place.1 in
         let row : slice_get (table_of h) k ≡ Some (row_of h d.tx) = row-at h (transactions h) k 0 place.0 ∙ ap (λ t. Some (row_of h t)) at in
-        subst (λ o. Reported objects h p d (elim o as (λ (_ : Option RowOf). Result Spot OrderFault) [ None ↦ Err (UnknownTx d.tx) | Some r ↦ row_stepped (table_of h) s d k r ])) (sym row)
+        subst (λ o. Reported objects h p d (elim o as (λ (_ : Option RowOf). Result Configuration OrderFault) [ None ↦ Err (UnknownTx d.tx) | Some r ↦ row_stepped (table_of h) s d k r ])) (sym row)
         (reported-row objects h p s d k 0 fine fit stands place.0 at there)

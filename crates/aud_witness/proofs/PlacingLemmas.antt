@@ -15,9 +15,9 @@ use Rattle.aud_witness.specs.declared.fault.OrderFault.TheVariants.{Illegal}
 use Rattle.aud_history.specs.Table.{RowOf, fresh_row}
 use Rattle.aud_witness.specs.declared.end.End.{End}
 use Rattle.aud_witness.specs.declared.step.Step.{Step}
-use Rattle.aud_witness.specs.Spots.{Spot, unplaced, is_ended, are_earlier_placed, states_with, block_stepped}
+use Rattle.aud_witness.specs.Configurations.{Configuration, unplaced, is_ended, are_earlier_placed, states_with, block_stepped}
 use Rattle.aud_witness.specs.Agendas.{AgendaOf, AreEnds, IsEarliest}
-use Rattle.aud_witness.specs.Placings.{PlacingOf, CanGoBack, spots_before, is_kept_fate, store_with, Advances}
+use Rattle.aud_witness.specs.Placings.{PlacingOf, CanGoBack, configurations_before, is_kept_fate, store_with, Advances}
 
 get_or-false : (n i : ℕ) → get_or (replicate n false) i false ≡ false
 get_or-false zero i = refl
@@ -166,11 +166,11 @@ back-front ends placed store after e e' k C xs inside fresh first back =
 back-front ends placed store after e e' k A xs inside fresh first back =
     (first, omega (arith, length-set placed k true), (λ h. cc), subst (λ l. CanGoBack ends l store.past e xs) (sym (set-back placed k fresh)) back)
 
-spots-front : (placed : List Bool) (store : StoreOf) (after : List ObjState) (e k : ℕ) (fate : Fate) (xs : List Step) → get_or placed k false ≡ false →
-    spots_before (set placed k true) (store_with fate store after).now (store_with fate store after).past (step_of k fate e ∷ xs)
-    ≡ record { placed = placed; states = store.now } ∷ spots_before placed store.now store.past xs
-spots-front placed store after e k C xs fresh = ap (λ l. record { placed = l; states = store.now } ∷ spots_before l store.now store.past xs) (set-back placed k fresh)
-spots-front placed store after e k A xs fresh = ap (λ l. record { placed = l; states = store.now } ∷ spots_before l store.now store.past xs) (set-back placed k fresh)
+configurations-front : (placed : List Bool) (store : StoreOf) (after : List ObjState) (e k : ℕ) (fate : Fate) (xs : List Step) → get_or placed k false ≡ false →
+    configurations_before (set placed k true) (store_with fate store after).now (store_with fate store after).past (step_of k fate e ∷ xs)
+    ≡ record { placed = placed; states = store.now } ∷ configurations_before placed store.now store.past xs
+configurations-front placed store after e k C xs fresh = ap (λ l. record { placed = l; states = store.now } ∷ configurations_before l store.now store.past xs) (set-back placed k fresh)
+configurations-front placed store after e k A xs fresh = ap (λ l. record { placed = l; states = store.now } ∷ configurations_before l store.now store.past xs) (set-back placed k fresh)
 
 reverse-push : (xs : List Step) (x : Step) → reverse (xs ++ x ∷ []) ≡ x ∷ reverse xs
 reverse-push xs x = reverse-append xs (x ∷ [])
@@ -183,27 +183,27 @@ back-pushed ends placed store new after e e' k fate xs ys inside fresh first bac
     (subst (λ (s : StoreOf). CanGoBack ends (set placed k true) s.past e' (step_of k fate e ∷ reverse xs)) (sym is)
     (back-front ends placed store after e e' k fate (reverse xs) inside fresh first back))
 
-abbrev spot_at : List Bool → ℕ → List ObjState → Spot
-spot_at placed k s = record { placed = set placed k true; states = s }
+abbrev configuration_at : List Bool → ℕ → List ObjState → Configuration
+configuration_at placed k s = record { placed = set placed k true; states = s }
 
 -- the placing then is one decision further
 pub advanced : (agenda : AgendaOf) (placed : List Bool) (store new : StoreOf) (after : List ObjState) (path path' : List Decision) (e k : ℕ) (d : Decision) (r : RowOf) (xs ys : List Step) →
     get_or placed k false ≡ false → replayed store.now r.block ≡ Some after → new ≡ store_with d.fate store after → ys ≡ xs ++ step_of k d.fate e ∷ [] → path' ≡ path ++ d ∷ [] →
     Advances
-    (record { agenda = agenda; spot = record { placed = placed; states = store.now }; path = path; past = spots_before placed store.now store.past (reverse xs) })
+    (record { agenda = agenda; configuration = record { placed = placed; states = store.now }; path = path; past = configurations_before placed store.now store.past (reverse xs) })
     d
-    (record { agenda = agenda; spot = record { placed = set placed k true; states = new.now }; path = path'; past = spots_before (set placed k true) new.now new.past (reverse ys) })
+    (record { agenda = agenda; configuration = record { placed = set placed k true; states = new.now }; path = path'; past = configurations_before (set placed k true) new.now new.past (reverse ys) })
     (block_stepped (record { placed = placed; states = store.now }) d k r)
 advanced agenda placed store new after path path' e k d r xs ys fresh runs is grown longer = record {
-  spot =
-      ap (λ o. elim o as (λ (_ : Option (List ObjState)). Result Spot OrderFault) [ None ↦ Err (Illegal d.tx) | Some s ↦ Ok (record { placed = set placed k true; states = states_with d.fate store.now s }) ]) runs
-      ∙ ap (λ s. Ok (spot_at placed k s)) (sym (ap (λ (s : StoreOf). s.now) is ∙ store_with-now d.fate store after));
+  configuration =
+      ap (λ o. elim o as (λ (_ : Option (List ObjState)). Result Configuration OrderFault) [ None ↦ Err (Illegal d.tx) | Some s ↦ Ok (record { placed = set placed k true; states = states_with d.fate store.now s }) ]) runs
+      ∙ ap (λ s. Ok (configuration_at placed k s)) (sym (ap (λ (s : StoreOf). s.now) is ∙ store_with-now d.fate store after));
   agenda = refl;
   path = longer;
   past =
-      ap (λ (s : StoreOf). spots_before (set placed k true) s.now s.past (reverse ys)) is
-      ∙ ap (λ l. spots_before (set placed k true) (store_with d.fate store after).now (store_with d.fate store after).past l) (ap reverse grown ∙ reverse-push xs (step_of k d.fate e))
-      ∙ spots-front placed store after e k d.fate (reverse xs) fresh;
+      ap (λ (s : StoreOf). configurations_before (set placed k true) s.now s.past (reverse ys)) is
+      ∙ ap (λ l. configurations_before (set placed k true) (store_with d.fate store after).now (store_with d.fate store after).past l) (ap reverse grown ∙ reverse-push xs (step_of k d.fate e))
+      ∙ configurations-front placed store after e k d.fate (reverse xs) fresh;
 }
 
 -- a block that was tried and was right
@@ -214,8 +214,8 @@ tried None right fate store new h is = absurd (let wrong : right ≡ false = h.0
 tried (Some after) right fate store new h is = (after, (refl, h.1))
 
 -- the same of a placing that is seen as the first
-pub advanced-view : (old seen new : PlacingOf) (d : Decision) (k : ℕ) (r : RowOf) → old ≡ seen → Advances old d new (block_stepped old.spot d k r) → Advances seen d new (block_stepped seen.spot d k r)
-advanced-view old seen new d k r is advances = subst (λ (v : PlacingOf). Advances v d new (block_stepped v.spot d k r)) is advances
+pub advanced-view : (old seen new : PlacingOf) (d : Decision) (k : ℕ) (r : RowOf) → old ≡ seen → Advances old d new (block_stepped old.configuration d k r) → Advances seen d new (block_stepped seen.configuration d k r)
+advanced-view old seen new d k r is advances = subst (λ (v : PlacingOf). Advances v d new (block_stepped v.configuration d k r)) is advances
 
 -- the rows from one on
 unplaced-at : (rows : List RowOf) (placed : List Bool) (k : ℕ) (d : RowOf) → k < length rows → length placed ≡ length rows →

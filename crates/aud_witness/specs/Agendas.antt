@@ -2,7 +2,7 @@
 use Rattle.std.specs.Prelude.{◌≡◌, ℕ, suc, ◌<◌, ◌≤◌, true, false, if◌then◌else◌, List, [], ◌∷◌, length, slice_get, slice_index_or, Some, Bool}
 use Rattle.aud_history.specs.Table.{RowOf}
 use Rattle.aud_witness.specs.declared.end.End.{End}
-use Rattle.aud_witness.specs.Spots.{is_ended}
+use Rattle.aud_witness.specs.Configurations.{is_ended}
 
 -- how contracts see an agenda
 pub record AgendaOf : Type 0 where

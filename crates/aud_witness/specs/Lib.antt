@@ -8,7 +8,7 @@ pub mod Sameness
 pub mod Enumeration
 pub mod OrderFaultNumbers
 pub mod OrderFaults
-pub mod Spots
+pub mod Configurations
 pub mod Agendas
 pub mod Placings
 pub mod Walks

@@ -8,18 +8,18 @@ use Rattle.aud_witness.specs.declared.decision.Decision.{Decision}
 use Rattle.aud_witness.specs.declared.fault.OrderFault.{OrderFault}
 use Rattle.aud_witness.specs.declared.end.End.{End}
 use Rattle.aud_witness.specs.declared.step.Step.{Step}
-use Rattle.aud_witness.specs.Spots.{Spot, first_spot}
+use Rattle.aud_witness.specs.Configurations.{Configuration, first_configuration}
 use Rattle.aud_witness.specs.Agendas.{AgendaOf, IsEarliest}
 use Rattle.aud_object.specs.Blocks.{BlockOf}
 use Rattle.aud_object.specs.Replayed.{replayed}
 use Rattle.aud_event.specs.Meanings.{Declared}
 
--- how contracts see a placing: its agenda, where it stands, the decisions that led there, and the spots before each, the last first
+-- how contracts see a placing: its agenda, where it stands, the decisions that led there, and the configurations before each, the last first
 pub record PlacingOf : Type 0 where
   pub agenda : AgendaOf
-  pub spot : Spot
+  pub configuration : Configuration
   pub path : List Decision
-  pub past : List Spot
+  pub past : List Configuration
 
 -- the states before a block that was replayed last, where it is kept
 abbrev pub head_or : List ObjState → List (List ObjState) → List ObjState
@@ -30,12 +30,12 @@ abbrev pub after_head : List (List ObjState) → List (List ObjState)
 after_head [] = []
 after_head (s ∷ ss) = ss
 
--- the spots before each step, from the last step on
-abbrev pub spots_before : List Bool → List ObjState → List (List ObjState) → List Step → List Spot
-spots_before placed now past [] = []
-spots_before placed now past (x ∷ xs) =
+-- the configurations before each step, from the last step on
+abbrev pub configurations_before : List Bool → List ObjState → List (List ObjState) → List Step → List Configuration
+configurations_before placed now past [] = []
+configurations_before placed now past (x ∷ xs) =
     record { placed = slice_set placed x.row false; states = if x.is_kept then head_or now past else now }
-    ∷ spots_before (slice_set placed x.row false) (if x.is_kept then head_or now past else now) (if x.is_kept then after_head past else past) xs
+    ∷ configurations_before (slice_set placed x.row false) (if x.is_kept then head_or now past else now) (if x.is_kept then after_head past else past) xs
 
 -- each step, from the last one on, can be taken back
 abbrev pub CanGoBack : List End → List Bool → List (List ObjState) → ℕ → List Step → Type 0
@@ -54,15 +54,15 @@ is_kept_fate C = true
 is_kept_fate A = false
 
 -- the decision was placed, and led where the step says
-pub record Advances (old : PlacingOf) (d : Decision) (new : PlacingOf) (step : Result Spot OrderFault) : Type 0 where
-  pub spot : step ≡ Ok new.spot
+pub record Advances (old : PlacingOf) (d : Decision) (new : PlacingOf) (step : Result Configuration OrderFault) : Type 0 where
+  pub configuration : step ≡ Ok new.configuration
   pub agenda : new.agenda ≡ old.agenda
   pub path : new.path ≡ old.path ++ d ∷ []
-  pub past : new.past ≡ old.spot ∷ old.past
+  pub past : new.past ≡ old.configuration ∷ old.past
 
 -- the last decision was taken back
 pub record GoesBack (old new : PlacingOf) : Type 0 where
-  pub past : old.past ≡ new.spot ∷ new.past
+  pub past : old.past ≡ new.configuration ∷ new.past
   pub agenda : new.agenda ≡ old.agenda
   pub some : 0 < length old.path
   pub path : new.path ≡ take (length old.path - 1) old.path
@@ -73,4 +73,4 @@ Tries old block fate new right = MatchOption (replayed old.now block) ((right �
 
 -- before any decision
 abbrev pub first_placing : AgendaOf → List Declared → PlacingOf
-first_placing agenda objects = record { agenda = agenda; spot = first_spot agenda.rows objects; path = []; past = [] }
+first_placing agenda objects = record { agenda = agenda; configuration = first_configuration agenda.rows objects; path = []; past = [] }

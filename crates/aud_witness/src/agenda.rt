@@ -3,7 +3,7 @@
 ghost use Rattle.std.specs.Prelude.{◌≡◌, IfOk};
 ghost use Rattle.aud_history.specs.WellFormed.{IsWellFormed};
 ghost use Rattle.aud_history.specs.Table.{table_of};
-ghost use Rattle.aud_witness.specs.Spots.{is_ended, status_allows};
+ghost use Rattle.aud_witness.specs.Configurations.{is_ended, status_allows};
 ghost use Rattle.aud_witness.specs.Agendas.{ends_from, AreEnds};
 
 use crate::decision::Fate;

@@ -2,7 +2,7 @@
 
 ghost use Rattle.std.specs.Prelude.{◌≡◌, ◌<◌, ◌≤◌, ◌++◌, [], ◌∷◌, None, Some, Ok, Err, length, true, false, vec_len, vec_capacity, ℕ, IfOk, IfSome, OnErr, MatchResult, MatchOption, slice_index_or, slice_set, nat_lt, if◌then◌else◌};
 ghost use Rattle.aud_witness.specs.OrderFaults.{least_tx};
-ghost use Rattle.aud_witness.specs.Spots.{unplaced, stepped, block_stepped, early_fault, are_earlier_placed};
+ghost use Rattle.aud_witness.specs.Configurations.{unplaced, stepped, block_stepped, early_fault, are_earlier_placed};
 ghost use Rattle.aud_witness.specs.Placings.{is_kept_fate, Advances, GoesBack, first_placing, Tries};
 ghost use Rattle.aud_witness.specs.declared.end.End.{End};
 ghost use Rattle.aud_witness.specs.Agendas.{IsEarliest};
@@ -35,15 +35,15 @@ pub struct Placing<'a, A: Allocator + Copy = Global> {
 
 impl<'a, A: Allocator + Copy> Model for Placing<'a, A> {
     ghost use Rattle.std.specs.Prelude.{◌≡◌, length, reverse};
-    ghost use Rattle.aud_witness.specs.Placings.{PlacingOf, spots_before, CanGoBack};
+    ghost use Rattle.aud_witness.specs.Placings.{PlacingOf, configurations_before, CanGoBack};
 
     ghost Value = { PlacingOf };
 
     ghost view = { λ p. record {
       agenda = p.agenda.now;
-      spot = record { placed = p.placed; states = p.store.now };
+      configuration = record { placed = p.placed; states = p.store.now };
       path = p.path.items;
-      past = spots_before p.placed p.store.now p.store.past (reverse p.steps.items);
+      past = configurations_before p.placed p.store.now p.store.past (reverse p.steps.items);
     } };
 
     ghost invariant = { λ p. (length p.placed ≡ length p.agenda.now.rows)
@@ -141,28 +141,28 @@ impl<'a, A: Allocator + Copy> Placing<'a, A> {
 
     /// The states of all objects after what is kept.
     pub fn store(&self) -> &Store<A>
-        ensures { result.now.now ≡ self.now.spot.states }
+        ensures { result.now.now ≡ self.now.configuration.states }
     {
         &self.store
     }
 
     /// For each row whether it is placed.
     pub fn placed(&self) -> &Marks<A>
-        ensures { result.now ≡ self.now.spot.placed }
+        ensures { result.now ≡ self.now.configuration.placed }
     {
         &self.placed
     }
 
     /// Whether the row at the place is placed; one that is not there is not.
     pub fn has_row(&self, row: usize) -> bool
-        ensures { result ≡ slice_index_or self.now.spot.placed row false }
+        ensures { result ≡ slice_index_or self.now.configuration.placed row false }
     {
         self.placed.has(row)
     }
 
     /// The least transaction that is not placed.
     pub fn least_unplaced(&self) -> Option<u32>
-        ensures { result ≡ least_tx (unplaced self.now.agenda.rows self.now.spot.placed) }
+        ensures { result ≡ least_tx (unplaced self.now.agenda.rows self.now.configuration.placed) }
     {
         let rows = self.agenda.table().rows();
         let mut least = None;
@@ -178,7 +178,7 @@ impl<'a, A: Allocator + Copy> Placing<'a, A> {
 
     /// Whether every transaction that ended below the stamp is placed.
     pub fn are_earlier_placed(&self, stamp: u32) -> bool
-        ensures { result ≡ are_earlier_placed self.now.agenda.rows self.now.spot.placed stamp }
+        ensures { result ≡ are_earlier_placed self.now.agenda.rows self.now.configuration.placed stamp }
     {
         match self.agenda.ends().get(self.earliest) {
             Some(end) => stamp <= end.last,
@@ -193,7 +193,7 @@ impl<'a, A: Allocator + Copy> Placing<'a, A> {
         row: &TxRow<A>,
         decision: Decision,
     ) -> Option<OrderFault>
-        ensures { result ≡ early_fault self.now.agenda.rows self.now.spot decision place row.now }
+        ensures { result ≡ early_fault self.now.agenda.rows self.now.configuration decision place row.now }
     {
         if self.has_row(place) {
             Some(OrderFault::Twice(decision.tx))
@@ -213,11 +213,11 @@ impl<'a, A: Allocator + Copy> Placing<'a, A> {
         row: &TxRow<A>,
         decision: Decision,
     ) -> Result<Result<(), OrderFault>, OutOfMemory>
-        requires inside { place < length self.old.spot.placed }
-        requires fresh { slice_index_or self.old.spot.placed place false ≡ false }
+        requires inside { place < length self.old.configuration.placed }
+        requires fresh { slice_index_or self.old.configuration.placed place false ≡ false }
         ensures placed { IfOk result (λ r. MatchResult r
-            (λ _. Advances self.old decision self.new (block_stepped self.old.spot decision place row.now))
-            (λ fault. (block_stepped self.old.spot decision place row.now ≡ Err fault) × (self.new ≡ self.old))) }
+            (λ _. Advances self.old decision self.new (block_stepped self.old.configuration decision place row.now))
+            (λ fault. (block_stepped self.old.configuration decision place row.now ≡ Err fault) × (self.new ≡ self.old))) }
         ensures err { OnErr result (self.new ≡ self.old) }
     {
         self.steps.reserve(1)?;
@@ -242,8 +242,8 @@ impl<'a, A: Allocator + Copy> Placing<'a, A> {
     /// answer that it cannot get here. A refusal leaves the placing as it was.
     pub fn place(&mut self, decision: Decision) -> Result<Result<(), OrderFault>, OutOfMemory>
         ensures placed { IfOk result (λ r. MatchResult r
-            (λ _. Advances self.old decision self.new (stepped self.old.agenda.rows self.old.spot decision))
-            (λ fault. (stepped self.old.agenda.rows self.old.spot decision ≡ Err fault) × (self.new ≡ self.old))) }
+            (λ _. Advances self.old decision self.new (stepped self.old.agenda.rows self.old.configuration decision))
+            (λ fault. (stepped self.old.agenda.rows self.old.configuration decision ≡ Err fault) × (self.new ≡ self.old))) }
         ensures err { OnErr result (self.new ≡ self.old) }
     {
         let agenda = self.agenda;
@@ -261,7 +261,7 @@ impl<'a, A: Allocator + Copy> Placing<'a, A> {
     pub fn take_back(&mut self) -> Option<usize>
         ensures root { result ≡ None → (self.old.path ≡ []) × (self.new ≡ self.old) }
         ensures back { IfSome result (λ row. GoesBack self.old self.new) }
-        ensures row { IfSome result (λ row. self.new.spot.placed ≡ slice_set self.old.spot.placed row false) }
+        ensures row { IfSome result (λ row. self.new.configuration.placed ≡ slice_set self.old.configuration.placed row false) }
     {
         let step = self.steps.pop()?;
         self.path.pop();

@@ -20,8 +20,8 @@ fn place_all<A: Allocator + Copy>(
     decisions: &[Decision],
 ) -> Result<Result<(), OrderFault>, OutOfMemory>
     ensures { IfOk result (λ r. MatchResult r
-        (λ _. walk_fault placing.old.agenda.rows placing.old.spot decisions.now ≡ None)
-        (λ fault. walk_fault placing.old.agenda.rows placing.old.spot decisions.now ≡ Some fault)) }
+        (λ _. walk_fault placing.old.agenda.rows placing.old.configuration decisions.now ≡ None)
+        (λ fault. walk_fault placing.old.agenda.rows placing.old.configuration decisions.now ≡ Some fault)) }
 {
     for decision in decisions {
         match placing.place(*decision)? {

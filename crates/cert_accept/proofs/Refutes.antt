@@ -11,14 +11,14 @@ use Rattle.aud_history.specs.FirstFault.{IsWithinLimits}
 use Rattle.aud_witness.specs.declared.decision.Decision.{Decision}
 use Rattle.aud_witness.specs.Orders.{IsGood, Refuted}
 use Rattle.aud_witness.specs.Laws.{ShowsIsFullAndGood}
-use Rattle.aud_order.specs.Moves.{without, SilentMovesForward, SpotsDecide}
+use Rattle.aud_order.specs.Moves.{without, SilentMovesForward, ConfigurationsDecide}
 use Rattle.cert_accept.proofs.Kids.{refuted-by_kids}
 use Rattle.cert_accept.specs.declared.cert.CertLine.{CertLine}
 use Rattle.cert_accept.specs.declared.cert.CertLine.TheVariants.{Kids, Silent, Same}
 use Rattle.cert_accept.specs.Acceptance.{prefix_in, Rests, AreAccepted, IsAccepted, JudgesLines}
 use Rattle.cert_accept.specs.Laws.{AcceptedIsRefuted}
 
-module _ (goods-law : ShowsIsFullAndGood) (silent-law : SilentMovesForward) (spots-law : SpotsDecide)
+module _ (goods-law : ShowsIsFullAndGood) (silent-law : SilentMovesForward) (configurations-law : ConfigurationsDecide)
     (plan : PlanOf) (h : History) (fine : IsWellFormed h) (within : IsWithinLimits plan h) where
   abbrev AreRefuted : List (List Decision) → Type 0
   AreRefuted ps = (p : List Decision) → Contains ps p → Refuted plan.objects h p
@@ -34,7 +34,7 @@ module _ (goods-law : ShowsIsFullAndGood) (silent-law : SilentMovesForward) (spo
   rests-refuted earlier (Silent p d) goods dead good has =
       λ q shown. dead (p ++ d ∷ []) has.line (without d.tx q) (silent-law plan h p q d fine within has.silent has.good shown)
   rests-refuted earlier (Same p q) goods dead good has =
-      λ rest shown. dead q has.line rest (spots-law plan h p q rest fine within good (goods q has.line) has.alike.placed has.alike.states shown)
+      λ rest shown. dead q has.line rest (configurations-law plan h p q rest fine within good (goods q has.line) has.alike.placed has.alike.states shown)
 
   lines-refuted : {X : Type 0} (lines : List (CertLine X)) (earlier : List (List Decision)) → AreGood earlier → AreRefuted earlier → AreAccepted plan.objects h earlier lines →
       AreRefuted (earlier ++ map prefix_in lines)
@@ -50,10 +50,10 @@ module _ (goods-law : ShowsIsFullAndGood) (silent-law : SilentMovesForward) (spo
 none-there : {X : Type 0} (x : X) → Contains [] x → ⊥
 none-there x (k, inside, is) = absurd (omega arith)
 
-pub accepted-refuted : {X : Type 0} → ShowsIsFullAndGood → SilentMovesForward → SpotsDecide → AcceptedIsRefuted X
-accepted-refuted goods silents spots plan h lines fine within accepted =
+pub accepted-refuted : {X : Type 0} → ShowsIsFullAndGood → SilentMovesForward → ConfigurationsDecide → AcceptedIsRefuted X
+accepted-refuted goods silents configurations plan h lines fine within accepted =
     let (before, ends) = accepted.last in
-    lines-refuted goods silents spots plan h fine within lines [] (λ p there. absurd (none-there p there)) (λ p there. absurd (none-there p there)) accepted.each []
+    lines-refuted goods silents configurations plan h fine within lines [] (λ p there. absurd (none-there p there)) (λ p there. absurd (none-there p there)) accepted.each []
     (subst (λ (ps : List (List Decision)). Contains ps []) (sym ends) (Contains-push before []))
 
 -- what judges the lines says true of refuted ones alone

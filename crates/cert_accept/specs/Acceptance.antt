@@ -14,7 +14,7 @@ prefix_in (Kids p) = p
 prefix_in (Silent p d) = p
 prefix_in (Same p q) = p
 
--- the same line, with its lists in memory of another kind
+-- the same line, with its prefixes in memory of another kind
 abbrev pub elsewhere : {X Y : Type 0} → CertLine X → CertLine Y
 elsewhere (Kids p) = Kids p
 elsewhere (Silent p d) = Silent p d

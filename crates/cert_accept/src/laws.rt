@@ -2,7 +2,7 @@
 
 ghost use Rattle.cert_accept.specs.Laws.{AcceptedIsRefuted};
 
-use aud_order::laws::{silent_moves_forward, spots_decide};
+use aud_order::laws::{configurations_decide, silent_moves_forward};
 use aud_witness::laws::shows_is_full_and_good;
 use std::alloc::Allocator;
 
@@ -13,5 +13,5 @@ pub fn accepted_is_refuted<A: Allocator>()
 {
     shows_is_full_and_good();
     silent_moves_forward();
-    spots_decide();
+    configurations_decide();
 }

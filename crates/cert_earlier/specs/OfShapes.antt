@@ -7,7 +7,7 @@ use Rattle.aud_order.specs.Shapes.{ShapeOf, objects_of, history_of}
 use Rattle.cert_earlier.specs.Resting.{HasKids, HasSilent, HasSame}
 use Rattle.cert_earlier.specs.Moves.{StaysBefore}
 
--- each of the lists is good
+-- each of the prefixes is good
 abbrev pub AreGoodFor : ShapeOf → List (List Decision) → Type 0
 AreGoodFor s ps = (p : List Decision) → Contains ps p → IsGood (objects_of s) (history_of s) p
 

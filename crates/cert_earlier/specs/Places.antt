@@ -1,4 +1,4 @@
--- Lists of decisions as the keys of a table, and the number that each is hashed by.
+-- Prefixes as the keys of a table, and the number that each is hashed by.
 use Rattle.std.specs.Prelude.{◌≡◌, ℕ, ◌+◌, ◌*◌, ◌%◌, ◌^◌, List, true}
 use Rattle.std.specs.Cmp.{Equal-is}
 use Rattle.std.specs.Cmp.Lexicographic.{slice_cmp}
@@ -19,14 +19,14 @@ numbered tx A = tx * 2 + 1
 abbrev pub number_of : Decision → ℕ
 number_of d = numbered d.tx d.fate
 
--- the number of a list, with one decision more
+-- the number of a prefix, with one decision more
 unfoldable pub stirred : ℕ → Decision → ℕ
 stirred sum d = (bit_xor sum (number_of d) * 11400714819323198485) % 2 ^ 64
 
 abbrev pub sum_of : List Decision → ℕ
 sum_of = fold stirred 0
 
--- what a list feeds a hasher
+-- what a prefix feeds a hasher
 abbrev pub sum_input : List Decision → HashWrites
 sum_input ds = u64 (sum_of ds)
 

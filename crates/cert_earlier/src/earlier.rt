@@ -19,7 +19,7 @@ use std::collections::HashMap;
 use std::hash::{BuildHasherDefault, FoldHasher};
 use std::marker::Model;
 
-/// A decision that makes a prefix of the list that it is noted after, and the number of where that leads, if it is kept.
+/// A decision that makes a prefix of the prefix that it is noted after, and the number of where that leads, if it is kept.
 #[derive(Clone, Copy)]
 pub(crate) struct Noted {
     decision: Decision,
@@ -139,7 +139,7 @@ impl<'c, A: Allocator + Copy> Earlier<'c, A> {
         }
     }
 
-    /// What was noted after the list: the decisions with which it makes one of the prefixes. It does not allocate.
+    /// What was noted after the prefix: the decisions with which it makes one of the prefixes. It does not allocate.
     pub(crate) fn after(&self, list: &'c [Decision]) -> &[Noted]
         ensures { (d : Decision) → Contains (decisions_of result.now) d ↔ Contains self.now.prefixes (list.entry.now ++ d ∷ []) }
     {
@@ -149,7 +149,7 @@ impl<'c, A: Allocator + Copy> Earlier<'c, A> {
         }
     }
 
-    /// Whether the list with the decision after it is one of them. It does not allocate.
+    /// Whether the prefix with the decision after it is one of them. It does not allocate.
     pub fn has_after(&self, list: &'c [Decision], decision: Decision) -> bool
         ensures { IsTrue result ↔ Contains self.now.prefixes (list.entry.now ++ decision ∷ []) }
     {

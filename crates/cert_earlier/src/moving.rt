@@ -17,7 +17,7 @@ pub(crate) fn is_same(a: Decision, b: Decision) -> bool
     a == b
 }
 
-/// How many decisions the two lists begin with in common.
+/// How many decisions the two prefixes begin with in common.
 fn in_common(a: &[Decision], b: &[Decision]) -> usize
     ensures first { result ≤ length a.now }
     ensures second { result ≤ length b.now }
@@ -43,7 +43,7 @@ fn go_back<A: Allocator + Copy>(cursor: &mut Cursor<A>, depth: usize)
     }
 }
 
-/// Takes the cursor to a list, and says whether the list is good. Where it is not, the cursor stays before the first decision of
+/// Takes the cursor to a prefix, and says whether the prefix is good. Where it is not, the cursor stays before the first decision of
 /// it that is not good there.
 pub fn go_to<A: Allocator + Copy>(
     cursor: &mut Cursor<A>,

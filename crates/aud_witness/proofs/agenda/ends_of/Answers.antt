@@ -1,6 +1,6 @@
 use Rattle.std.specs.Prelude.{true, false, [], ◌∷◌, ◌++◌}
 use Rattle.std.proofs.Common.{sym, ◌∙◌, ap}
-use Rattle.aud_witness.specs.Spots.{is_ended}
+use Rattle.aud_witness.specs.Configurations.{is_ended}
 use Rattle.aud_witness.proofs.AgendaLemmas.{ends_from-step}
 use Rattle.aud_witness.proofs.agenda.ends_of.Goals as goal
 use Rattle.aud_witness.proofs.agenda.ends_of.Goals.{then-has_ended+in_ok-push, else-has_ended}

@@ -18,11 +18,11 @@ returns-in-Err g c =
 pub returns-in-Some : goal.returns-in-Some
 returns-in-Some g c =
     c.loop-decision.invariant
-    ∙ (walk-ends c.loop-decision.placing.agenda.rows c.loop-decision.placing.spot c.args.decisions.now c.loop-decision.decision-index _ c.loop-decision-test.false c.least_unplaced.ensures
+    ∙ (walk-ends c.loop-decision.placing.agenda.rows c.loop-decision.placing.configuration c.args.decisions.now c.loop-decision.decision-index _ c.loop-decision-test.false c.least_unplaced.ensures
     ∙ ap missing c.in-Some.is)
 
 pub returns-in-None : goal.returns-in-None
 returns-in-None g c =
     c.loop-decision.invariant
-    ∙ (walk-ends c.loop-decision.placing.agenda.rows c.loop-decision.placing.spot c.args.decisions.now c.loop-decision.decision-index _ c.loop-decision-test.false c.least_unplaced.ensures
+    ∙ (walk-ends c.loop-decision.placing.agenda.rows c.loop-decision.placing.configuration c.args.decisions.now c.loop-decision.decision-index _ c.loop-decision-test.false c.least_unplaced.ensures
     ∙ ap missing c.in-None.is)

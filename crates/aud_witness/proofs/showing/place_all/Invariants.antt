@@ -4,4 +4,4 @@ use Rattle.aud_witness.proofs.showing.place_all.Given as goal
 
 abbrev pub invariant-loop-decision : goal.invariant-loop-decision
 invariant-loop-decision g l =
-    walk_fault l.fn.placing.agenda.rows l.fn.placing.spot l.decisions ≡ walk_fault l.placing.agenda.rows l.placing.spot (drop l.decision-index l.decisions)
+    walk_fault l.fn.placing.agenda.rows l.fn.placing.configuration l.decisions ≡ walk_fault l.placing.agenda.rows l.placing.configuration (drop l.decision-index l.decisions)

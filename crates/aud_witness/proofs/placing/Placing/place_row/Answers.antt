@@ -24,8 +24,8 @@ pub invariant_of-self-2 : goal.invariant_of-self-2
 invariant_of-self-2 g c =
     let p = c.self.inside in
     let k = c.args.place in
-    let inside : k < length p.placed = subst (λ v. k < length v.spot.placed) (sym c.self.view_is) c.requires.inside in
-    let fresh : slice_index_or p.placed k false ≡ false = subst (λ v. slice_index_or v.spot.placed k false ≡ false) (sym c.self.view_is) c.requires.fresh in
+    let inside : k < length p.placed = subst (λ v. k < length v.configuration.placed) (sym c.self.view_is) c.requires.inside in
+    let fresh : slice_index_or p.placed k false ≡ false = subst (λ v. slice_index_or v.configuration.placed k false ≡ false) (sym c.self.view_is) c.requires.fresh in
     let first : IsEarliest p.agenda.now.ends (slice_set p.placed k true) c.earliest_from-self-inside.result =
     subst (λ l. IsEarliest l (slice_set p.placed k true) c.earliest_from-self-inside.result) c.ends.ensures.ends
     (subst (λ l. IsEarliest c.ends.result.now l c.earliest_from-self-inside.result) c.put.ensures c.earliest_from-self-inside.ensures) in
@@ -48,7 +48,7 @@ returns-clause-placed g c =
     let p = c.self.inside in
     let k = c.args.place in
     let d = c.args.decision in
-    let fresh : slice_index_or p.placed k false ≡ false = subst (λ v. slice_index_or v.spot.placed k false ≡ false) (sym c.self.view_is) c.requires.fresh in
+    let fresh : slice_index_or p.placed k false ≡ false = subst (λ v. slice_index_or v.configuration.placed k false ≡ false) (sym c.self.view_is) c.requires.fresh in
     let ran = tried (replayed p.store.now c.block.result.now) c.in_ok-try_block.field-0 d.fate p.store c.try_block.new.store c.in_ok-try_block.ensures.right c.if-not-branch.false in
     let steps : c.push_within.new.list.items ≡ p.steps.items ++ step_of k d.fate p.earliest ∷ [] =
     c.push_within.ensures ∙ ap (λ l. l ++ record { row = k; is_kept = c.is_kept.result; earliest = p.earliest } ∷ []) c.in_ok-reserve.ensures.items

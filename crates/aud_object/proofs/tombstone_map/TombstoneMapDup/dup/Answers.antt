@@ -2,7 +2,7 @@ use Rattle.std.proofs.Common.{◌≡◌, ◌∙◌, sym, subst}
 use Rattle.std.proofs.lemmas.Map.Entries.{entries_from_clone}
 use Rattle.aud_object.specs.Entries.{Ascend}
 use Rattle.aud_object.proofs.Keeping.{cloned}
-use Rattle.aud_object.proofs.kept.KeptDup.dup.Goals as goal
+use Rattle.aud_object.proofs.tombstone_map.TombstoneMapDup.dup.Goals as goal
 
 pub invariant_of-result : goal.invariant_of-result
 invariant_of-result g c =

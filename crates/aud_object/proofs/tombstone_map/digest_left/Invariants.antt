@@ -1,7 +1,7 @@
 use Rattle.std.proofs.Common.{◌≡◌, length}
 use Rattle.aud_object.specs.Digests.{digest_entries}
 use Rattle.aud_object.specs.Keeps.{entries_in}
-use Rattle.aud_object.proofs.kept.digest_left.Given as goal
+use Rattle.aud_object.proofs.tombstone_map.digest_left.Given as goal
 
 abbrev pub invariant-loop-key : goal.invariant-loop-key
 invariant-loop-key g l = digest_entries g.V.Value.stirs l.digest (entries_in l.left) ≡ digest_entries g.V.Value.stirs l.fn.start (entries_in l.fn.left)

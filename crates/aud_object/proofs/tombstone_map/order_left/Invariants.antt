@@ -2,7 +2,7 @@ use Rattle.std.proofs.Common.{◌≡◌, length}
 use Rattle.std.specs.Cmp.Lexicographic.{slice_cmp}
 use Rattle.aud_object.specs.Keeps.{entries_in}
 use Rattle.aud_object.specs.Orders.{entry_cmp}
-use Rattle.aud_object.proofs.kept.order_left.Given as goal
+use Rattle.aud_object.proofs.tombstone_map.order_left.Given as goal
 
 abbrev pub invariant-loop-b : goal.invariant-loop-b
 invariant-loop-b g l = slice_cmp (entry_cmp g.V.Value.orders) (entries_in l.initial.a) (entries_in l.initial.b) ≡ slice_cmp (entry_cmp g.V.Value.orders) (entries_in l.a) (entries_in l.b)

@@ -14,13 +14,13 @@ use Rattle.aud_witness.specs.declared.fault.OrderFault.{OrderFault}
 use Rattle.aud_witness.specs.declared.fault.OrderFault.TheVariants.{UnknownTx, Twice, FateNotAllowed, RealTime, Illegal}
 
 -- where a list of decisions has led: which rows are placed, and the states of all objects after what is kept
-pub record Spot : Type 0 where
+pub record Configuration : Type 0 where
   pub placed : List Bool
   pub states : List ObjState
 
 -- before any decision
-abbrev pub first_spot : List RowOf → List Declared → Spot
-first_spot rows objects = record { placed = replicate (length rows) false; states = map opening_of objects }
+abbrev pub first_configuration : List RowOf → List Declared → Configuration
+first_configuration rows objects = record { placed = replicate (length rows) false; states = map opening_of objects }
 
 -- the fates that a completion may give to a transaction of a status
 abbrev pub status_allows : Status → Fate → Bool
@@ -52,7 +52,7 @@ states_with C before after = after
 states_with A before after = before
 
 -- what is wrong with the decision on the row at the place, before its block is looked at
-abbrev pub early_fault : List RowOf → Spot → Decision → ℕ → RowOf → Option OrderFault
+abbrev pub early_fault : List RowOf → Configuration → Decision → ℕ → RowOf → Option OrderFault
 early_fault rows s d k r =
     if slice_index_or s.placed k false then Some (Twice d.tx)
     else (if not (status_allows r.status d.fate) then Some (FateNotAllowed d.tx)
@@ -60,18 +60,18 @@ early_fault rows s d k r =
     else None))
 
 -- the decision on the row at the place, if its block can run there
-abbrev pub block_stepped : Spot → Decision → ℕ → RowOf → Result Spot OrderFault
+abbrev pub block_stepped : Configuration → Decision → ℕ → RowOf → Result Configuration OrderFault
 block_stepped s d k r = elim (replayed s.states r.block) [
   | None ↦ Err (Illegal d.tx)
   | Some after ↦ Ok (record { placed = slice_set s.placed k true; states = states_with d.fate s.states after })
 ]
 
 -- the decision on the row at the place
-abbrev pub row_stepped : List RowOf → Spot → Decision → ℕ → RowOf → Result Spot OrderFault
+abbrev pub row_stepped : List RowOf → Configuration → Decision → ℕ → RowOf → Result Configuration OrderFault
 row_stepped rows s d k r = elim (early_fault rows s d k r) [ Some fault ↦ Err fault | None ↦ block_stepped s d k r ]
 
 -- one more decision, or what is wrong with it
-abbrev pub stepped : List RowOf → Spot → Decision → Result Spot OrderFault
+abbrev pub stepped : List RowOf → Configuration → Decision → Result Configuration OrderFault
 stepped rows s d =
     elim (position (nat_eq d.tx) (map (λ r. r.tx) rows)) [
       | None ↦ Err (UnknownTx d.tx)

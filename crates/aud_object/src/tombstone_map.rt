@@ -19,11 +19,11 @@ use std::marker::Model;
 /// Values under keys of i64: a set keeps nothing under a key, and a map a number. A key whose value was taken stays, with none,
 /// so that taking it back wants no memory.
 #[derive(Drop)]
-pub struct Kept<V, A: Allocator = Global> {
+pub struct TombstoneMap<V, A: Allocator = Global> {
     slots: BTreeMap<i64, Option<V>, A>,
 }
 
-impl<V, A: Allocator> Model for Kept<V, A> {
+impl<V, A: Allocator> Model for TombstoneMap<V, A> {
     ghost use Rattle.aud_object.specs.Keeps.{Slots};
     ghost use Rattle.aud_object.specs.Entries.{Ascend};
 
@@ -36,7 +36,7 @@ impl<V, A: Allocator> Model for Kept<V, A> {
 
 /// What has to be known to take a change of the values back.
 #[derive(Clone, Copy)]
-pub enum KeptChange<V> {
+pub enum TombstoneChange<V> {
     /// The key had this value.
     Had(i64, V),
     /// The key was kept, and had no value.
@@ -146,25 +146,25 @@ fn digest_left<V: Value>(start: u64, mut left: Iter<'_, i64, Option<V>>) -> u64
     digest
 }
 
-impl<V: Value, A: Allocator + Drop> Kept<V, A> {
+impl<V: Value, A: Allocator + Drop> TombstoneMap<V, A> {
     /// No keys. It does not allocate.
-    pub(crate) fn new(alloc: A) -> Kept<V, A>
+    pub(crate) fn new(alloc: A) -> TombstoneMap<V, A>
         ensures { result ≡ [] }
     {
-        Kept {
+        TombstoneMap {
             slots: BTreeMap::new(alloc),
         }
     }
 
     /// Whether the keys that have a value are the same, with their values, in linear time.
-    pub(crate) fn same(&self, other: &Kept<V, A>) -> bool
+    pub(crate) fn same(&self, other: &TombstoneMap<V, A>) -> bool
         ensures { IsTrue result ↔ (entries_in self.now ≡ entries_in other.now) }
     {
         have_same_entries(self.slots.iter(), other.slots.iter())
     }
 
     /// The order of the entries, the least key first, in linear time.
-    pub(crate) fn order(&self, other: &Kept<V, A>) -> Ordering
+    pub(crate) fn order(&self, other: &TombstoneMap<V, A>) -> Ordering
         ensures { result ≡ slice_cmp (entry_cmp V.orders) (entries_in self.now) (entries_in other.now) }
     {
         order_left(self.slots.iter(), other.slots.iter())
@@ -220,35 +220,35 @@ impl<V: Value, A: Allocator + Drop> Kept<V, A> {
 
     /// Takes the value from under the key, if it has one, in O(log n) steps.
     #[tactic(auto, using(crate::proofs::Keeping::facts))]
-    pub(crate) fn take(&mut self, key: i64) -> Option<KeptChange<V>>
+    pub(crate) fn take(&mut self, key: i64) -> Option<TombstoneChange<V>>
         ensures was { is_none result ≡ is_none (value_at (entries_in self.old) key) }
         ensures after { entries_in self.new ≡ without_entry (entries_in self.old) key }
         ensures back { MatchOption result (self.new ≡ self.old) (λ change. back_kept self.new change ≡ self.old) }
     {
         match self.write(key, None) {
-            Some(Some(value)) => Some(KeptChange::Had(key, value)),
+            Some(Some(value)) => Some(TombstoneChange::Had(key, value)),
             Some(None) => None,
             None => None,
         }
     }
 
     /// Takes back what the change was.
-    pub(crate) fn back(&mut self, change: KeptChange<V>)
+    pub(crate) fn back(&mut self, change: TombstoneChange<V>)
         ensures { self.new ≡ back_kept self.old change }
     {
         match change {
-            KeptChange::Had(key, value) => {
+            TombstoneChange::Had(key, value) => {
                 let _taken = self.write(key, Some(value));
             }
-            KeptChange::Lacked(key) => {
+            TombstoneChange::Lacked(key) => {
                 let _taken = self.write(key, None);
             }
-            KeptChange::Came(key) => self.forget(key),
+            TombstoneChange::Came(key) => self.forget(key),
         }
     }
 }
 
-impl<V: Value, A: Allocator + Clone> Kept<V, A> {
+impl<V: Value, A: Allocator + Clone> TombstoneMap<V, A> {
     #[tactic(auto, using(crate::proofs::Keeping::stays))]
     fn insert(&mut self, key: i64, value: V) -> Result<Option<Option<V>>, OutOfMemory>
         ensures was { IfOk result (λ was. was ≡ value_at self.old key) }
@@ -262,22 +262,22 @@ impl<V: Value, A: Allocator + Clone> Kept<V, A> {
 
     /// Puts the value under the key, in O(log n) steps. A refused call leaves all as it is.
     #[tactic(auto, using(crate::proofs::Keeping::facts))]
-    pub(crate) fn put(&mut self, key: i64, value: V) -> Result<KeptChange<V>, OutOfMemory>
+    pub(crate) fn put(&mut self, key: i64, value: V) -> Result<TombstoneChange<V>, OutOfMemory>
         ensures after { OnOk result (entries_in self.new ≡ with_entry (entries_in self.old) key value) }
         ensures back { IfOk result (λ change. back_kept self.new change ≡ self.old) }
         ensures err { OnErr result (self.new ≡ self.old) }
     {
         match self.insert(key, value)? {
-            Some(Some(old)) => Ok(KeptChange::Had(key, old)),
-            Some(None) => Ok(KeptChange::Lacked(key)),
-            None => Ok(KeptChange::Came(key)),
+            Some(Some(old)) => Ok(TombstoneChange::Had(key, old)),
+            Some(None) => Ok(TombstoneChange::Lacked(key)),
+            None => Ok(TombstoneChange::Came(key)),
         }
     }
 }
 
-impl<V: Value, A: Allocator + Clone> Dup for Kept<V, A> {
-    fn dup(&self) -> Result<Kept<V, A>, OutOfMemory> {
+impl<V: Value, A: Allocator + Clone> Dup for TombstoneMap<V, A> {
+    fn dup(&self) -> Result<TombstoneMap<V, A>, OutOfMemory> {
         let slots = self.slots.clone()?;
-        Ok(Kept { slots })
+        Ok(TombstoneMap { slots })
     }
 }

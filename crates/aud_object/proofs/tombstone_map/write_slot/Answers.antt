@@ -1,7 +1,7 @@
 use Rattle.std.proofs.Common.{◌∙◌, ap, sym, refl}
 use Rattle.std.proofs.Math.Facts.{to_z-of_z}
 use Rattle.aud_object.proofs.Keeping.{found-of, written-of, with-none}
-use Rattle.aud_object.proofs.kept.write_slot.Goals as goal
+use Rattle.aud_object.proofs.tombstone_map.write_slot.Goals as goal
 
 pub returns-in-Some-clause-was : goal.returns-in-Some-clause-was
 returns-in-Some-clause-was g c = found-of _ _ _ _ c.in-Some.ensures.value (to_z-of_z c.ranges.key) refl
