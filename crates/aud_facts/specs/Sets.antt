@@ -1,6 +1,7 @@
 -- What contracts see of a set of facts.
 use Rattle.std.specs.Prelude.{◌≡◌, ℕ, List, None, ◌↔◌}
 use Rattle.aud_event.specs.declared.fact.Event.{Event}
+use Rattle.aud_facts.specs.declared.status.FactStatus.{FactStatus}
 use Rattle.aud_facts.specs.declared.status.FactStatus.TheVariants.{Sealed}
 use Rattle.aud_facts.specs.Status.{fact_status, hist}
 use Rattle.std.specs.List.{AllByRecursion, Contains}
@@ -34,6 +35,10 @@ pub record IsSealedWith (facts : FactsOf) (history : List (ℕ × Event)) : Type
 -- the sealed set is that of the facts
 abbrev pub IsSealOf : FactsOf → SealedOf → Type 0
 IsSealOf facts sealed = (sealed.facts ≡ facts) × IsSealedWith facts sealed.history
+
+-- the status of facts that are not sealed
+abbrev pub IsStatusOfUnsealed : FactsOf → FactStatus → Type 0
+IsStatusOfUnsealed facts status = (fact_status facts.plan.logs facts.facts ≡ status) × (status ≡ Sealed → ⊥)
 
 -- exactly the facts of one set that another has not
 abbrev pub AreWithout : List Fact → List Fact → List Fact → Type 0

@@ -1,13 +1,13 @@
 //! Facts of one plan.
 
-ghost use Rattle.std.specs.Prelude.{◌≡◌, IfOk, OnOk, OnErr, IsTrue, ◌↔◌, ◌<◌, [], None, MatchOption, All, false};
+ghost use Rattle.std.specs.Prelude.{◌≡◌, IfOk, OnOk, OnErr, IsTrue, ◌↔◌, ◌<◌, [], None, MatchOption, All, false, MatchResult};
 ghost use Rattle.aud_event.specs.Facts.{first_fact_fault};
 ghost use Rattle.aud_event.specs.contracts.fact.FactOrd.TheImpl as fact_ord;
 ghost use Rattle.aud_lattice.specs.Sets.{has, with_item, inserted, union};
 ghost use Rattle.aud_facts.specs.Growth.{AreInConflict};
 ghost use Rattle.aud_facts.specs.Joins.{joined};
 ghost use Rattle.aud_facts.specs.Order.{AreOrdered};
-ghost use Rattle.aud_facts.specs.Sets.{FactsOf, AreSealed, AreSound, IsSealOf, AreWithout};
+ghost use Rattle.aud_facts.specs.Sets.{FactsOf, AreSealed, AreSound, IsSealOf, IsStatusOfUnsealed, AreWithout};
 ghost use Rattle.aud_facts.specs.Shares.{share_of};
 ghost use Rattle.aud_facts.specs.Status.{fact_status, hist, count, is_record};
 
@@ -216,6 +216,17 @@ impl<A: Allocator + Copy> Facts<A> {
     pub fn seal(&self) -> Result<Option<Arc<Sealed<A>, A>>, OutOfMemory>
         ensures { IfOk result (λ o. MatchOption o (¬ (AreSealed self.now)) (λ s. IsSealOf self.now s.value)) }
     {
+        match self.seal_or_status()? {
+            Ok(sealed) => Ok(Some(sealed)),
+            Err(_) => Ok(None),
+        }
+    }
+
+    /// The facts with their history where they are sealed, else their status, which says why they are not. It walks over the facts once,
+    /// as `status` does, and once more to seal them.
+    pub fn seal_or_status(&self) -> Result<Result<Arc<Sealed<A>, A>, FactStatus>, OutOfMemory>
+        ensures { IfOk result (λ r. MatchResult r (λ s. IsSealOf self.now s.value) (IsStatusOfUnsealed self.now)) }
+    {
         let (status, records) = status_of_set(&self.plan, &self.set);
         match status {
             FactStatus::Sealed => {
@@ -223,9 +234,9 @@ impl<A: Allocator + Copy> Facts<A> {
                 let history = history_of_set(self.alloc, plan, &self.set, records)?;
                 let facts = self.dup()?;
                 let sealed = Arc::new(self.alloc, Sealed { facts, history })?;
-                Ok(Some(sealed))
+                Ok(Ok(sealed))
             }
-            FactStatus::Conflict(_, _, _) | FactStatus::Waiting(_) | FactStatus::Gap(_) => Ok(None),
+            status => Ok(Err(status)),
         }
     }
 }

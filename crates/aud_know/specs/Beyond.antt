@@ -14,11 +14,11 @@ AreNew {T} held other new = (x : T) → Contains new x ↔ (Contains held x × �
 abbrev pub IsNewWitness : Option (List Decision) → Option (List Decision) → Option (List Decision) → Type 0
 IsNewWitness held other new = (p : List Decision) → (new ≡ Some p) ↔ ((held ≡ Some p) × (other ≢ Some p))
 
--- there is a refuted list or a witness
+-- there is a refuted prefix or a witness
 abbrev pub HasFinding : List (List Decision) → Option (List Decision) → Type 0
 HasFinding cover witness = (p : List Decision) × (Contains cover p ⊎ (witness ≡ Some p))
 
--- the refuted lists that the other has not; the witness where the other has not the same; and all facts where there is any of
+-- the refuted prefixes that the other has not; the witness where the other has not the same; and all facts where there is any of
 -- these, else the facts that the other has not
 pub record IsBeyond (held other new : Held) : Type 0 where
   pub cover : AreNew held.cover other.cover new.cover

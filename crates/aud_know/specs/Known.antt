@@ -14,7 +14,7 @@ use Rattle.aud_know.specs.Norms.{Atom, Norm, norm}
 abbrev pub KnownAtom : Type 0
 KnownAtom = Atom Fact Decision
 
--- facts, refuted lists of decisions, and a witness
+-- facts, refuted prefixes, and a witness
 abbrev pub Held : Type 0
 Held = Norm Fact Decision
 

@@ -13,7 +13,7 @@ use Rattle.aud_know.specs.Verdicts.{IsVerdict}
 use Rattle.aud_know.specs.declared.verdict.Verdict.{Verdict}
 use Rattle.aud_know.specs.declared.verdict.Verdict.TheVariants as verdict
 
--- the normal form of atoms is what has exactly their facts, their first refuted lists and their least witness
+-- the normal form of atoms is what has exactly their facts, their first refuted prefixes and their least witness
 abbrev pub NormIsExact : Type 0
 NormIsExact = (atoms : List KnownAtom) (held : Held) → (held ≡ norm_of atoms) ↔ IsNormOf atoms held
 

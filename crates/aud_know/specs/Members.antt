@@ -21,7 +21,7 @@ abbrev pub IsLeastShown : List KnownAtom → Option (List Decision) → Type 0
 IsLeastShown atoms None = (q : List Decision) → Contains atoms (shown q) → ⊥
 IsLeastShown atoms (Some p) = Contains atoms (shown p) × ((q : List Decision) → Contains atoms (shown q) → slice_cmp decision_cmp q p ≡ Less → ⊥)
 
--- the facts are those of the atoms, each once, least first; the refuted lists are those of which no proper beginning is
+-- the facts are those of the atoms, each once, least first; the refuted prefixes are those of which no proper beginning is
 -- refuted, each once, least first; and the witness is the least
 pub record IsNormOf (atoms : List KnownAtom) (held : Held) : Type 0 where
   pub facts : (f : Fact) → Contains held.facts f ↔ Contains atoms (fact f)

@@ -7,7 +7,7 @@ use Rattle.aud_lattice.specs.Sets.{union}
 use Rattle.aud_lattice.specs.Covers.{IsCover, cover_union, normal_form}
 use Rattle.aud_lattice.specs.Least.{least_of}
 
--- a fact, a refuted list of decisions, or a list of decisions that shows
+-- a fact, a refuted prefix, or an order that shows
 pub data Atom (F D : Type 0) : Type 0 where
   fact : F → Atom F D
   refuted : List D → Atom F D
@@ -20,7 +20,7 @@ facts_of (fact f ∷ xs) = f ∷ facts_of xs
 facts_of (refuted p ∷ xs) = facts_of xs
 facts_of (shown p ∷ xs) = facts_of xs
 
--- the refuted lists among them
+-- the refuted prefixes among them
 abbrev pub refuted_of : {F D : Type 0} → List (Atom F D) → List (List D)
 refuted_of [] = []
 refuted_of (fact f ∷ xs) = refuted_of xs
@@ -34,7 +34,7 @@ shown_of (fact f ∷ xs) = shown_of xs
 shown_of (refuted p ∷ xs) = shown_of xs
 shown_of (shown p ∷ xs) = p ∷ shown_of xs
 
--- facts, refuted lists, and a witness
+-- facts, refuted prefixes, and a witness
 pub record Norm (F D : Type 0) : Type 0 where
   pub facts : List F
   pub cover : List (List D)
@@ -49,7 +49,7 @@ abbrev pub least_in : {T : Type 0} → (T → T → Ordering) → List T → Opt
 least_in cmp [] = None
 least_in cmp (x ∷ xs) = least_of cmp (Some x) (least_in cmp xs)
 
--- the normal form of atoms: their facts, the refuted lists of which none begins another, and the least witness
+-- the normal form of atoms: their facts, the refuted prefixes of which none begins another, and the least witness
 abbrev pub norm : {F D : Type 0} → (F → F → Ordering) → (D → D → Ordering) → List (Atom F D) → Norm F D
 norm R S xs = record {
   facts = set_of R (facts_of xs);
@@ -69,7 +69,7 @@ abbrev pub witness_atoms : {F D : Type 0} → Option (List D) → List (Atom F D
 witness_atoms None = []
 witness_atoms (Some p) = shown p ∷ []
 
--- the atoms of a normal form: its facts, its refuted lists, and its witness
+-- the atoms of a normal form: its facts, its refuted prefixes, and its witness
 abbrev pub atoms_of : {F D : Type 0} → Norm F D → List (Atom F D)
 atoms_of n = map fact n.facts ++ (map refuted n.cover ++ witness_atoms n.witness)
 

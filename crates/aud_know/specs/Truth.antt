@@ -28,7 +28,7 @@ AreShownBy plan facts p = AreWhole plan facts × Shows plan.objects (hist facts)
 abbrev pub AreRefutedAt : PlanOf → List Fact → List Decision → Type 0
 AreRefutedAt plan facts p = AreWhole plan facts × Refuted plan.objects (hist facts) p
 
--- if the facts conflict nowhere, and there is any refuted list or a witness, then they are sealed, their history is
+-- if the facts conflict nowhere, and there is any refuted prefix or a witness, then they are sealed, their history is
 -- well-formed, no list that begins with a refuted one shows it, and the witness does
 pub record IsTrue (plan : PlanOf) (held : Held) : Type 0 where
   pub refuted : AreQuiet held.facts → (p : List Decision) → Contains held.cover p → AreRefutedAt plan held.facts p

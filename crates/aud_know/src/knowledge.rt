@@ -91,7 +91,7 @@ impl<A: Allocator + Copy> Knowledge<A> {
         self.facts.set()
     }
 
-    /// The refuted lists of decisions.
+    /// The refuted prefixes.
     pub fn cover(&self) -> &Cover<Decision, A>
         ensures cover { result.now ≡ self.now.held.cover }
         ensures is_true { IsKnowledge self.now.plan self.now.held }
@@ -169,7 +169,7 @@ impl<A: Allocator + Copy> Knowledge<A> {
         Ok(())
     }
 
-    /// What the other has not: the refuted lists that are not lists of the other's cover, and the witness where the other has
+    /// What the other has not: the refuted prefixes that are not of the other's cover, and the witness where the other has
     /// not the same. Where there is any of these, all facts go with it, so that it is true by itself; else the facts that the
     /// other has not. What joins it to the other then knows what it would by joining all.
     pub fn beyond(&self, other: &Knowledge<A>) -> Result<Knowledge<A>, KnowFault>
@@ -200,7 +200,7 @@ impl<A: Allocator + Copy> Knowledge<A> {
         Ok(())
     }
 
-    /// Whether both have equal plans and the same facts, refuted lists and witness. It does not allocate.
+    /// Whether both have equal plans and the same facts, refuted prefixes and witness. It does not allocate.
     pub fn same(&self, other: &Knowledge<A>) -> bool
         ensures { IsTrue result ↔ (self.now ≡ other.now) }
     {

@@ -6,7 +6,7 @@ use aud_cover::laws::closed_is_refuted;
 use aud_facts::laws::quiet_is_no_conflict;
 use std::alloc::Allocator;
 
-/// The normal form of atoms is what has exactly their facts, those of their refuted lists of which no proper beginning is
+/// The normal form of atoms is what has exactly their facts, those of their refuted prefixes of which no proper beginning is
 /// refuted by them, and the least of their witnesses.
 pub fn norm_is_exact()
     ensures { NormIsExact }

@@ -139,7 +139,7 @@ pub fn witnesses_joined<A: Allocator>(
     }
 }
 
-/// The lists of the cover that are not lists of the other.
+/// The lists of the cover that are not of the other.
 pub fn cover_beyond<A: Allocator + Copy>(
     alloc: A,
     ours: &SharedCover<A>,
@@ -165,7 +165,7 @@ pub fn witness_beyond<A: Allocator>(
     shared(ours)
 }
 
-/// Whether there is a refuted list or a witness.
+/// Whether there is a refuted prefix or a witness.
 pub fn has_finding<A: Allocator + Copy>(cover: &SharedCover<A>, witness: &SharedWitness<A>) -> bool
     ensures { IsTrue result ↔ HasFinding cover.now.value (linked witness.now) }
 {

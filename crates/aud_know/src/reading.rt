@@ -34,12 +34,12 @@ pub fn well_formed_history<A: Allocator + Copy>(
         (λ sealed. (sealed.value.facts ≡ facts.now) × IsSealedWith facts.now sealed.value.history × IsWellFormed sealed.value.history)
         (λ reported. FactsReportAtOnce facts.now.plan.logs facts.now.facts reported)) }
 {
-    if let Some(sealed) = facts.seal()? {
-        return Ok(without_fault(sealed));
-    }
-    match Verdict::of_status(facts.status()) {
-        Some(reported) => Ok(Err(reported)),
-        None => unreachable!(),
+    match facts.seal_or_status()? {
+        Ok(sealed) => Ok(without_fault(sealed)),
+        Err(status) => match Verdict::of_status(status) {
+            Some(reported) => Ok(Err(reported)),
+            None => unreachable!(),
+        },
     }
 }
 
