@@ -15,14 +15,14 @@ use Rattle.aud_history.specs.Table.{row_of, table_of}
 use Rattle.aud_witness.specs.declared.decision.Decision.{Decision}
 use Rattle.aud_witness.specs.declared.fault.OrderFault.{OrderFault}
 use Rattle.aud_witness.specs.Orders.{is_named}
-use Rattle.aud_witness.specs.Spots.{Spot, first_spot, stepped}
+use Rattle.aud_witness.specs.Configurations.{Configuration, first_configuration, stepped}
 use Rattle.aud_witness.specs.Walks.{walked}
 use Rattle.aud_witness.proofs.WalkLemmas.{walks-say}
-use Rattle.judge_clauses.specs.declared.clause.Cell.{Cell}
+use Rattle.search_model.specs.declared.cell.Cell.{Cell}
 use Rattle.judge_clauses.specs.declared.clause.Literal.{Literal}
-use Rattle.judge_clauses.specs.declared.need.Need.{Need}
-use Rattle.judge_clauses.specs.declared.need.Need.TheVariants.{Absent, Present, Holding}
-use Rattle.judge_clauses.specs.Cells.{content, meets, asks_by, puts_by, changes, newer_of}
+use Rattle.search_model.specs.declared.cell.Need.{Need}
+use Rattle.search_model.specs.declared.cell.Need.TheVariants.{Absent, Present, Holding}
+use Rattle.search_model.specs.Cells.{content, meets, asks_by, puts_by, changes, newer_of}
 use Rattle.judge_clauses.specs.Clauses.{FactsOf, Holds}
 use Rattle.judge_clauses.proofs.Celling.{over}
 use Rattle.judge_clauses.proofs.CellWalks.{Stands, stands-after, asks-there, content_after, further}
@@ -84,10 +84,10 @@ module _ (c : Cell) (x : ℕ) where
       (kept-right (puts_by c x e) (learned (asks_by c x e) known) o (learned-right (asks_by c x e) known o met knows)) rest
 
   module _ (h : History) (o0 : Option ℤ) where
-    walked-agrees : (p : List Decision) (s t : Spot) (last : Option ℕ) (r : ℕ) → walked (table_of h) s p ≡ Some t → Stands c x s.states (content_after c x h o0 last) → is_named p r ≡ true → clashes_of h c x r ≡ false
+    walked-agrees : (p : List Decision) (s t : Configuration) (last : Option ℕ) (r : ℕ) → walked (table_of h) s p ≡ Some t → Stands c x s.states (content_after c x h o0 last) → is_named p r ≡ true → clashes_of h c x r ≡ false
     walked-agrees [] s t last r led at there = absurd (cc)
     walked-agrees (d ∷ p) s t last r led at there =
-        elim (stepped (table_of h) s d) as (λ (z : Result Spot OrderFault). stepped (table_of h) s d ≡ z → (elim z as (λ (_ : Result Spot OrderFault). Option Spot) [ Err _ ↦ None | Ok u ↦ walked (table_of h) u p ]) ≡ Some t → clashes_of h c x r ≡ false) [
+        elim (stepped (table_of h) s d) as (λ (z : Result Configuration OrderFault). stepped (table_of h) s d ≡ z → (elim z as (λ (_ : Result Configuration OrderFault). Option Configuration) [ Err _ ↦ None | Ok u ↦ walked (table_of h) u p ]) ≡ Some t → clashes_of h c x r ≡ false) [
           | Err fault ↦ λ was on. absurd (cc)
           | Ok u ↦ λ was on.
               elim (split (nat_eq d.tx r)) [
@@ -107,5 +107,5 @@ valid-clash f c fine within cell x r o opens there clash =
     let (d, (declared, (fits, is_o))) = opens in
     let (t, (led, _)) = ((walks-say f.plan f.history fine within).shows p).0 shown in
     not-both (clashes_of f.history cell x r) clash
-    (walked-agrees cell x f.history (content cell (opening_of d)) p (first_spot (table_of f.history) f.plan.objects) t None r led
+    (walked-agrees cell x f.history (content cell (opening_of d)) p (first_configuration (table_of f.history) f.plan.objects) t None r led
     (record { state = opening_of d; there = get-opening f.plan.objects x d declared; proper = proper-opening d; fits = fits; holds = refl }) (shown.full.same r ∙ there)))

@@ -11,12 +11,12 @@ use Rattle.aud_history.specs.Table.{RowOf, row_of, table_of}
 use Rattle.aud_witness.specs.declared.decision.Decision.{Decision}
 use Rattle.aud_witness.specs.declared.decision.Fate.TheVariants.{C}
 use Rattle.aud_witness.specs.Orders.{is_allowed, stands_before, Shows}
-use Rattle.aud_witness.specs.Spots.{first_spot}
+use Rattle.aud_witness.specs.Configurations.{first_configuration}
 use Rattle.aud_witness.proofs.WalkLemmas.{walks-say}
 use Rattle.judge_clauses.specs.declared.clause.Atom.TheVariants.{Source, Opening}
 use Rattle.judge_clauses.specs.declared.clause.Read.{Read}
-use Rattle.judge_clauses.specs.declared.need.Need.{Need}
-use Rattle.judge_clauses.specs.Cells.{meets, content, needs, leaves, moves, leaves_of, changes}
+use Rattle.search_model.specs.declared.cell.Need.{Need}
+use Rattle.search_model.specs.Cells.{meets, content, needs, leaves, moves, leaves_of, changes}
 use Rattle.judge_clauses.specs.Clauses.{is_kept_in, source_of, says, FactsOf, Always}
 use Rattle.judge_clauses.proofs.Celling.{over}
 use Rattle.judge_clauses.proofs.CellLast.{just-is, nothing-is, writer-last}
@@ -88,7 +88,7 @@ module _ (f : FactsOf) (read : Read) where
         let (d, (declared, (fits, is_o))) = opens in
         let (t, (led, _)) = ((walks-say f.plan f.history fine within).shows p).0 shown in
         subst (λ (v : Option ℤ). meets need (content_after read.cell read.object f.history v (source_of f.history p read)) ≡ true) is_o
-        (walked-needs read.cell read.object f.history (content read.cell (opening_of d)) p (first_spot (table_of f.history) f.plan.objects) t None read.reader need led
+        (walked-needs read.cell read.object f.history (content read.cell (opening_of d)) p (first_configuration (table_of f.history) f.plan.objects) t None read.reader need led
         (record { state = opening_of d; there = get-opening f.plan.objects read.object d declared; proper = proper-opening d; fits = fits; holds = refl }) (shown.full.same read.reader ∙ is.there) is.needed)
 
     pub opening-other : (o : Option ℤ) → OpensWith f read.object read.cell o → meets need o ≡ false → Always f (λ p. says f.history p (Opening read) ≡ false)

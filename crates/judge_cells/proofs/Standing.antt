@@ -9,7 +9,7 @@ use Rattle.aud_witness.specs.Orders.{stands_before, Shows}
 use Rattle.judge_clauses.specs.declared.clause.Atom.TheVariants.{Source, Opening}
 use Rattle.judge_clauses.specs.declared.clause.Literal.{Literal}
 use Rattle.judge_clauses.specs.declared.clause.Read.{Read}
-use Rattle.judge_clauses.specs.Cells.{changes}
+use Rattle.search_model.specs.Cells.{changes}
 use Rattle.judge_clauses.specs.Clauses.{is_kept_in, is_just, is_nothing, source_of, says, holds, meaning, FactsOf, Unless, Holds}
 use Rattle.judge_clauses.proofs.CellLast.{IsEarlier, last-earlier, last-source, last-opening}
 use Rattle.judge_clauses.proofs.Standing.{first-named}

@@ -4,10 +4,10 @@ use Rattle.std.specs.Ordering.{int_eq}
 use Rattle.aud_object.specs.declared.execution.Execution.{Execution}
 use Rattle.aud_history.specs.Histories.{History}
 use Rattle.aud_history.specs.Table.{row_of}
-use Rattle.judge_clauses.specs.declared.clause.Cell.{Cell}
-use Rattle.judge_clauses.specs.declared.need.Need.{Need}
-use Rattle.judge_clauses.specs.declared.need.Need.TheVariants.{Absent, Present, Holding}
-use Rattle.judge_clauses.specs.Cells.{asks_by, puts_by}
+use Rattle.search_model.specs.declared.cell.Cell.{Cell}
+use Rattle.search_model.specs.declared.cell.Need.{Need}
+use Rattle.search_model.specs.declared.cell.Need.TheVariants.{Absent, Present, Holding}
+use Rattle.search_model.specs.Cells.{asks_by, puts_by}
 
 -- no cell is as both need it
 abbrev pub are_apart : Need → Need → Bool

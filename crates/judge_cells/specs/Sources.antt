@@ -6,12 +6,12 @@ use Rattle.aud_history.specs.Histories.{is_in, is_before}
 use Rattle.aud_history.specs.Table.{RowOf, row_of, table_of}
 use Rattle.aud_witness.specs.declared.decision.Fate.TheVariants.{A}
 use Rattle.aud_witness.specs.Orders.{is_allowed}
-use Rattle.judge_clauses.specs.declared.clause.Cell.{Cell}
+use Rattle.search_model.specs.declared.cell.Cell.{Cell}
 use Rattle.judge_clauses.specs.declared.clause.Read.{Read}
 use Rattle.judge_clauses.specs.declared.clause.Literal.{Literal}
 use Rattle.judge_clauses.specs.declared.clause.Atom.TheVariants.{Source}
-use Rattle.judge_clauses.specs.declared.need.Need.{Need}
-use Rattle.judge_clauses.specs.Cells.{is_cell, content, needs_of, changes}
+use Rattle.search_model.specs.declared.cell.Need.{Need}
+use Rattle.search_model.specs.Cells.{is_cell, content, needs_of, changes}
 use Rattle.judge_clauses.specs.Clauses.{says, FactsOf, Unless}
 
 -- the object has the cell, which holds this where it opens

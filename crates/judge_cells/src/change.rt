@@ -2,10 +2,11 @@
 
 ghost use Rattle.std.specs.Prelude.{◌≡◌, None, Some, true, false, IfNone, IfSome, IsTrue};
 ghost use Rattle.aud_history.specs.Histories.{is_in};
-ghost use Rattle.judge_clauses.specs.Cells.{needs, leaves, moves, changes};
+ghost use Rattle.search_model.specs.Cells.{needs, leaves, moves, changes};
 
 use aud_object::Execution;
-use judge_clauses::{Cell, Facts, leaves, moves, needs};
+use judge_clauses::Facts;
+use search_model::{Cell, leaves, moves, needs};
 use std::alloc::Allocator;
 
 /// What the executions leave in the cell, if they change it.

@@ -6,7 +6,8 @@ ghost use Rattle.judge_cells.specs.Clashes.{are_apart, learned, kept_known, fail
 
 use crate::opening::opening;
 use aud_object::Execution;
-use judge_clauses::{Cell, Facts, Literal, Need, asks, puts};
+use judge_clauses::{Facts, Literal};
+use search_model::{Cell, Need, asks, puts};
 use std::alloc::Allocator;
 
 /// Whether no cell is as both need it.

@@ -4,7 +4,8 @@ use crate::between::{is_after_opening, is_after_source, is_standing};
 use crate::clash::is_clash;
 use crate::sources::are_listed;
 use aud_event::OutOfMemory;
-use judge_clauses::{Cell, Facts, Law, Literal, Read};
+use judge_clauses::{Facts, Law, Literal, Read};
+use search_model::Cell;
 use std::alloc::Allocator;
 
 /// A law of cells, with what it is applied to. What real time or a sure fate denies the clause need not say.

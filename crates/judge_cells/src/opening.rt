@@ -4,7 +4,8 @@ ghost use Rattle.std.specs.Prelude.{IfSome};
 ghost use Rattle.judge_cells.specs.Sources.{OpensWith};
 
 use aud_event::ObjKind;
-use judge_clauses::{Cell, Facts};
+use judge_clauses::Facts;
+use search_model::Cell;
 use std::alloc::Allocator;
 
 /// What the cell holds where its object opens, if the object has such a cell.

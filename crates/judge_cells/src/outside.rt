@@ -7,7 +7,8 @@ ghost use Rattle.judge_cells.specs.Sources.{IsRead, IsHiding};
 
 use crate::change::change;
 use aud_witness::Fate;
-use judge_clauses::{Facts, Need, Read, meets};
+use judge_clauses::{Facts, Read};
+use search_model::{Need, meets};
 use std::alloc::Allocator;
 
 /// The stamp of the transaction's first event, if all that ended before it is hidden from the reader behind it: it is committed, changes the

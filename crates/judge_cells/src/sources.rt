@@ -10,7 +10,8 @@ ghost use Rattle.judge_cells.specs.Sources.{IsRead, IsHiding, AreOut};
 use crate::opening::opening;
 use crate::outside::{is_outside, latest};
 use aud_event::OutOfMemory;
-use judge_clauses::{Atom, Facts, Literal, Need, Question, Read, meets, needs};
+use judge_clauses::{Atom, Facts, Literal, Question, Read};
+use search_model::{Need, meets, needs};
 use std::alloc::Allocator;
 
 /// What the reader first needs of the cell, if it is in the history and needs something.

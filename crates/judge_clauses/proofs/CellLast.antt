@@ -9,7 +9,7 @@ use Rattle.aud_witness.specs.Orders.{is_named, are_named_once, is_kept, stands_b
 use Rattle.aud_witness.proofs.Beginnings.{second_is_named}
 use Rattle.aud_witness.proofs.Blocks.{stands_before-total}
 use Rattle.judge_clauses.specs.Clauses.{is_kept_in, is_just, is_nothing}
-use Rattle.judge_clauses.specs.Cells.{newer_of, last_of}
+use Rattle.search_model.specs.Cells.{newer_of, last_of}
 use Rattle.judge_clauses.proofs.Standing.{first-named}
 
 pub just-is : (o : Option ℕ) (w : ℕ) → is_just o w ≡ true → o ≡ Some w

@@ -16,12 +16,12 @@ use Rattle.aud_witness.specs.declared.decision.Fate.TheVariants.{C, A}
 use Rattle.aud_witness.specs.declared.decision.Decision.{Decision}
 use Rattle.aud_witness.specs.declared.fault.OrderFault.{OrderFault}
 use Rattle.aud_witness.specs.Orders.{is_named, is_kept}
-use Rattle.aud_witness.specs.Spots.{Spot, states_with, stepped}
+use Rattle.aud_witness.specs.Configurations.{Configuration, states_with, stepped}
 use Rattle.aud_witness.specs.Walks.{walked}
-use Rattle.judge_clauses.specs.declared.clause.Cell.{Cell}
-use Rattle.judge_clauses.specs.declared.need.Need.{Need}
-use Rattle.judge_clauses.specs.declared.need.Need.TheVariants.{Absent, Present, Holding}
-use Rattle.judge_clauses.specs.Cells.{is_cell, content, meets, asks, puts, asks_by, puts_by, newest, leaves, first_of, needs, stays, moves, leaves_of, needs_of, changes, newer_of, last_of}
+use Rattle.search_model.specs.declared.cell.Cell.{Cell}
+use Rattle.search_model.specs.declared.cell.Need.{Need}
+use Rattle.search_model.specs.declared.cell.Need.TheVariants.{Absent, Present, Holding}
+use Rattle.search_model.specs.Cells.{is_cell, content, meets, asks, puts, asks_by, puts_by, newest, leaves, first_of, needs, stays, moves, leaves_of, needs_of, changes, newer_of, last_of}
 use Rattle.judge_clauses.proofs.Celling.{over, after-cell, is_cell-after, asks-met}
 use Rattle.judge_clauses.proofs.Walking.{off, ran-first, stepped-led}
 
@@ -145,7 +145,7 @@ module _ (c : Cell) (x : ℕ) where
               still-over (needs_of h c x d.tx) (leaves_of h c x d.tx) (content_after last) still met ∙ ap content_after (sym stays)
         ]
 
-    pub further : (s u : Spot) (d : Decision) (last : Option ℕ) → stepped (table_of h) s d ≡ Ok u → Stands c x s.states (content_after last) → Stands c x u.states (content_after (newer_of (changes h c x) d last))
+    pub further : (s u : Configuration) (d : Decision) (last : Option ℕ) → stepped (table_of h) s d ≡ Ok u → Stands c x s.states (content_after last) → Stands c x u.states (content_after (newer_of (changes h c x) d last))
     further s u d last is at =
         let (after, (ran, leads)) = stepped-led h s u d is in
         go d.fate refl after ran leads
@@ -164,11 +164,11 @@ module _ (c : Cell) (x : ℕ) where
             subst (λ l. Stands c x l (content_after (newer_of (changes h c x) d last))) (sym states) (subst (λ o. Stands c x s.states (content_after o)) (sym stays) at)
 
     -- what a transaction of the list first needs is what the last that may change the cell left
-    pub walked-needs : (p : List Decision) (s t : Spot) (last : Option ℕ) (r : ℕ) (n : Need) → walked (table_of h) s p ≡ Some t → Stands c x s.states (content_after last) → is_named p r ≡ true →
+    pub walked-needs : (p : List Decision) (s t : Configuration) (last : Option ℕ) (r : ℕ) (n : Need) → walked (table_of h) s p ≡ Some t → Stands c x s.states (content_after last) → is_named p r ≡ true →
         needs_of h c x r ≡ Some n → meets n (content_after (last_of (changes h c x) p r last)) ≡ true
     walked-needs [] s t last r n led at there is = absurd (cc)
     walked-needs (d ∷ p) s t last r n led at there is =
-        elim (stepped (table_of h) s d) as (λ (z : Result Spot OrderFault). stepped (table_of h) s d ≡ z → (elim z as (λ (_ : Result Spot OrderFault). Option Spot) [ Err _ ↦ None | Ok u ↦ walked (table_of h) u p ]) ≡ Some t →
+        elim (stepped (table_of h) s d) as (λ (z : Result Configuration OrderFault). stepped (table_of h) s d ≡ z → (elim z as (λ (_ : Result Configuration OrderFault). Option Configuration) [ Err _ ↦ None | Ok u ↦ walked (table_of h) u p ]) ≡ Some t →
         meets n (content_after (last_of (changes h c x) (d ∷ p) r last)) ≡ true) [
           | Err fault ↦ λ was on. absurd (cc)
           | Ok u ↦ λ was on.

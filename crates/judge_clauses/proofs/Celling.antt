@@ -12,11 +12,11 @@ use Rattle.aud_object.specs.Proper.{MembersAscend, IsProper}
 use Rattle.aud_object.specs.Replayed.{same_answer}
 use Rattle.aud_object.proofs.Ints.{eq-is}
 use Rattle.aud_object.proofs.Proper.{has-with, has-without, value-with, value-without}
-use Rattle.judge_clauses.specs.declared.clause.Cell.{Cell}
-use Rattle.judge_clauses.specs.declared.clause.Cell.TheVariants.{Whole, Element, Key}
-use Rattle.judge_clauses.specs.declared.need.Need.{Need}
-use Rattle.judge_clauses.specs.declared.need.Need.TheVariants.{Absent, Present, Holding}
-use Rattle.judge_clauses.specs.Cells.{is_cell, content, meets, told_so, told, looked, read, asks, puts}
+use Rattle.search_model.specs.declared.cell.Cell.{Cell}
+use Rattle.search_model.specs.declared.cell.Cell.TheVariants.{Whole, Element, Key}
+use Rattle.search_model.specs.declared.cell.Need.{Need}
+use Rattle.search_model.specs.declared.cell.Need.TheVariants.{Absent, Present, Holding}
+use Rattle.search_model.specs.Cells.{is_cell, content, meets, told_so, told, looked, read, asks, puts}
 
 -- what is left, or else what was there
 abbrev pub over : Option (Option ℤ) → Option ℤ → Option ℤ

@@ -10,7 +10,7 @@ use Rattle.aud_history.specs.Table.{RowOf, transactions, row_of, table_of, first
 use Rattle.aud_history.proofs.Numbers.{tx-rows}
 use Rattle.aud_history.proofs.RowLaws.{is_before-by_stamps}
 use Rattle.aud_history.proofs.Tables.{any-transactions}
-use Rattle.aud_witness.specs.Spots.{is_ended}
+use Rattle.aud_witness.specs.Configurations.{is_ended}
 use Rattle.aud_witness.proofs.Bridge.{row-at, ended-status}
 use Rattle.aud_witness.proofs.BridgeSteps.{any-at}
 

@@ -3,8 +3,8 @@ use Rattle.std.specs.Prelude.{◌≡◌, ℕ, ℤ, false, nat_eq, List, [], ◌�
 use Rattle.std.proofs.Common.{◌∙◌, ap, cond}
 use Rattle.base_values.proofs.Bools.{or_false}
 use Rattle.aud_object.specs.declared.execution.Execution.{Execution}
-use Rattle.judge_clauses.specs.declared.clause.Cell.{Cell}
-use Rattle.judge_clauses.specs.Cells.{asks, puts, asks_by, puts_by, newest, leaves, first_of, needs, moves}
+use Rattle.search_model.specs.declared.cell.Cell.{Cell}
+use Rattle.search_model.specs.Cells.{asks, puts, asks_by, puts_by, newest, leaves, first_of, needs, moves}
 use Rattle.judge_clauses.specs.Touching.{mentions}
 
 module _ (c : Cell) (x : ℕ) where

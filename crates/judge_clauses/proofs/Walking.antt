@@ -15,7 +15,7 @@ use Rattle.aud_history.proofs.Tables.{any-transactions}
 use Rattle.aud_witness.specs.declared.decision.Decision.{Decision}
 use Rattle.aud_witness.specs.declared.fault.OrderFault.{OrderFault}
 use Rattle.aud_witness.specs.declared.fault.OrderFault.TheVariants.{UnknownTx, Illegal}
-use Rattle.aud_witness.specs.Spots.{Spot, states_with, early_fault, block_stepped, row_stepped, stepped}
+use Rattle.aud_witness.specs.Configurations.{Configuration, states_with, early_fault, block_stepped, row_stepped, stepped}
 use Rattle.aud_witness.proofs.Bridge.{row-at}
 
 pub off : (a b : ℕ) → nat_eq a b ≡ false → a ≡ b → ⊥
@@ -36,33 +36,33 @@ ran-first states e es after led =
 
 -- # A step of a walk
 
-abbrev pub Led : History → Spot → Spot → Decision → Type 0
+abbrev pub Led : History → Configuration → Configuration → Decision → Type 0
 Led h s u d = (after : List ObjState) × ((replayed s.states (row_of h d.tx).block ≡ Some after) × (u.states ≡ states_with d.fate s.states after))
 
-pub stepped-led : (h : History) (s u : Spot) (d : Decision) → stepped (table_of h) s d ≡ Ok u → Led h s u d
+pub stepped-led : (h : History) (s u : Configuration) (d : Decision) → stepped (table_of h) s d ≡ Ok u → Led h s u d
 stepped-led h s u d is = go (position (nat_eq d.tx) (map (λ (r : RowOf). r.tx) (table_of h))) refl is
   where
     by_block : (o : Option (List ObjState)) (k : ℕ) → replayed s.states (row_of h d.tx).block ≡ o →
-        (elim o as (λ (_ : Option (List ObjState)). Result Spot OrderFault) [ None ↦ Err (Illegal d.tx) | Some after ↦ Ok (record { placed = slice_set s.placed k true; states = states_with d.fate s.states after }) ]) ≡ Ok u → Led h s u d
+        (elim o as (λ (_ : Option (List ObjState)). Result Configuration OrderFault) [ None ↦ Err (Illegal d.tx) | Some after ↦ Ok (record { placed = slice_set s.placed k true; states = states_with d.fate s.states after }) ]) ≡ Ok u → Led h s u d
     by_block None k at is = absurd (cc)
     by_block (Some after) k at is =
-        let next : Spot = record { placed = slice_set s.placed k true; states = states_with d.fate s.states after } in
+        let next : Configuration = record { placed = slice_set s.placed k true; states = states_with d.fate s.states after } in
         let same : next ≡ u = cc in
-        (after, (at, sym (ap (λ (z : Spot). z.states) same)))
+        (after, (at, sym (ap (λ (z : Configuration). z.states) same)))
 
     by_early : (o : Option OrderFault) (k : ℕ) →
-        (elim o as (λ (_ : Option OrderFault). Result Spot OrderFault) [ Some fault ↦ Err fault | None ↦ block_stepped s d k (row_of h d.tx) ]) ≡ Ok u → Led h s u d
+        (elim o as (λ (_ : Option OrderFault). Result Configuration OrderFault) [ Some fault ↦ Err fault | None ↦ block_stepped s d k (row_of h d.tx) ]) ≡ Ok u → Led h s u d
     by_early (Some fault) k is = absurd (cc)
     by_early None k is = by_block (replayed s.states (row_of h d.tx).block) k refl is
 
     go : (o : Option ℕ) → position (nat_eq d.tx) (map (λ (r : RowOf). r.tx) (table_of h)) ≡ o →
-        (elim o as (λ (_ : Option ℕ). Result Spot OrderFault) [ None ↦ Err (UnknownTx d.tx) | Some k ↦ elim (slice_get (table_of h) k) as (λ (_ : Option RowOf). Result Spot OrderFault) [ None ↦ Err (UnknownTx d.tx) | Some r ↦ row_stepped (table_of h) s d k r ] ]) ≡ Ok u → Led h s u d
+        (elim o as (λ (_ : Option ℕ). Result Configuration OrderFault) [ None ↦ Err (UnknownTx d.tx) | Some k ↦ elim (slice_get (table_of h) k) as (λ (_ : Option RowOf). Result Configuration OrderFault) [ None ↦ Err (UnknownTx d.tx) | Some r ↦ row_stepped (table_of h) s d k r ] ]) ≡ Ok u → Led h s u d
     go None found is = absurd (cc)
     go (Some k) found is =
         let place = position-Some (nat_eq d.tx) (transactions h) k 0 (ap (position (nat_eq d.tx)) (sym (tx-rows h (transactions h))) ∙ found) in
         let row : slice_get (table_of h) k ≡ Some (row_of h d.tx) = row-at h (transactions h) k 0 place.0 ∙ ap (λ t. Some (row_of h t)) (sym (nat_eq-is d.tx _ place.1)) in
         by_early (early_fault (table_of h) s d k (row_of h d.tx)) k
-        (sym (ap (λ o. elim o as (λ (_ : Option RowOf). Result Spot OrderFault) [ None ↦ Err (UnknownTx d.tx) | Some r ↦ row_stepped (table_of h) s d k r ]) row) ∙ is)
+        (sym (ap (λ o. elim o as (λ (_ : Option RowOf). Result Configuration OrderFault) [ None ↦ Err (UnknownTx d.tx) | Some r ↦ row_stepped (table_of h) s d k r ]) row) ∙ is)
 
 -- # Rows and openings
 

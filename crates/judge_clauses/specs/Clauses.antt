@@ -10,8 +10,8 @@ use Rattle.judge_clauses.specs.declared.clause.Atom.TheVariants.{Before, Kept, S
 use Rattle.judge_clauses.specs.declared.clause.Literal.{Literal}
 use Rattle.judge_clauses.specs.declared.clause.Read.{Read}
 use Rattle.judge_clauses.specs.declared.clause.Take.{Take}
-use Rattle.judge_clauses.specs.Cells.{changes, last_of}
-use Rattle.judge_clauses.specs.Queues.{taken_before, adder}
+use Rattle.search_model.specs.Cells.{changes, last_of}
+use Rattle.search_model.specs.Queues.{taken_before, adder}
 
 -- # Atoms
 

@@ -1,5 +1,3 @@
-pub mod Cells
-pub mod Queues
 pub mod Clauses
 pub mod Units
 pub mod Values

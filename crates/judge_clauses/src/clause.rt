@@ -2,19 +2,9 @@
 
 ghost use Rattle.std.specs.Prelude.{◌≡◌, not};
 
+use search_model::Cell;
 use std::alloc::{Allocator, Global};
 use std::marker::Model;
-
-/// A part of an object that is changed and seen as a whole.
-#[derive(Clone, Copy, PartialEq, Eq)]
-pub enum Cell {
-    /// All of a register.
-    Whole,
-    /// An element of a set.
-    Element(i64),
-    /// A key of a map.
-    Key(i64),
-}
 
 /// What a transaction first needs of a cell, before it changes it.
 #[derive(Clone, Copy, PartialEq, Eq)]

@@ -6,7 +6,7 @@ ghost use Rattle.aud_history.specs.Table.{RowOf, row_of, table_of};
 ghost use Rattle.aud_history.specs.WellFormed.{IsWellFormed};
 ghost use Rattle.aud_history.specs.FirstFault.{IsWithinLimits};
 ghost use Rattle.aud_witness.specs.Orders.{is_allowed};
-ghost use Rattle.aud_witness.specs.Spots.{is_ended};
+ghost use Rattle.aud_witness.specs.Configurations.{is_ended};
 ghost use Rattle.judge_clauses.specs.Clauses.{atom_at};
 ghost use Rattle.judge_clauses.specs.Touching.{mentions};
 

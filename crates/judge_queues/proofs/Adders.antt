@@ -11,9 +11,9 @@ use Rattle.aud_witness.specs.declared.decision.Decision.{Decision}
 use Rattle.aud_witness.specs.Orders.{is_named, are_named_once, is_kept, stands_before}
 use Rattle.judge_clauses.specs.Clauses.{is_kept_in}
 use Rattle.judge_sums.proofs.Naming.{kept-named, fresh, rest-once, nothing-before}
-use Rattle.judge_clauses.specs.Queues.{adds_of, takes_of, taken_before, adder}
-use Rattle.judge_queues.specs.Blocks.{added_of}
-use Rattle.judge_queues.proofs.Lists.{get-or}
+use Rattle.search_model.specs.Queues.{adds_of, takes_of, taken_before, adder}
+use Rattle.search_model.specs.Blocks.{added_of}
+use Rattle.search_model.proofs.Lists.{get-or}
 use Rattle.judge_queues.proofs.Running.{added-length}
 
 module _ (h : History) (x : ℕ) where

@@ -14,23 +14,23 @@ use Rattle.judge_clauses.specs.declared.clause.Atom.TheVariants.{Item}
 use Rattle.judge_clauses.specs.declared.clause.Literal.{Literal}
 use Rattle.judge_clauses.specs.declared.clause.Take.{Take}
 use Rattle.judge_clauses.specs.Clauses.{FactsOf, is_kept_in, is_addition_of, item_of, says, Unless, Holds}
-use Rattle.judge_clauses.specs.Queues.{takes_of, taken_before}
+use Rattle.search_model.specs.Queues.{takes_of, taken_before}
 use Rattle.judge_clauses.proofs.Standing.{first-named, stands_before-turn, stands_before-apart}
 use Rattle.judge_clauses.proofs.Validity.{valid-unless}
 use Rattle.judge_clauses.proofs.Walking.{row-there}
 use Rattle.judge_sums.specs.declared.bounds.Bounds.{Bounds}
-use Rattle.judge_sums.specs.declared.effect.Effect.TheVariants.{Takes, Additions, Shortening}
+use Rattle.search_model.specs.declared.effect.Effect.TheVariants.{Takes, Additions, Shortening}
 use Rattle.judge_sums.specs.Between.{IsWithin}
-use Rattle.judge_sums.specs.Effects.{net_of}
+use Rattle.search_model.specs.Effects.{net_of}
 use Rattle.judge_sums.specs.Laws.{ComesTo}
 use Rattle.judge_sums.specs.Sums.{total}
-use Rattle.judge_queues.specs.Blocks.{added, added_of, takes_value}
+use Rattle.search_model.specs.Blocks.{added, added_of, takes_value}
 use Rattle.judge_queues.specs.Laws.{IsQueue, AsksIn, IsTaken, NoItem, AreListed, IsStuck}
 use Rattle.judge_queues.proofs.Running.{added-length}
 use Rattle.judge_queues.proofs.Adders.{added_before, adder-place, adder-stands, added-through}
 use Rattle.judge_queues.proofs.Placing.{item-found, place-found, own-found, empty-found, empty-at}
 use Rattle.judge_queues.proofs.Leaving.{front-added, asks-takes, gone-before}
-use Rattle.judge_queues.proofs.Lists.{get-left}
+use Rattle.search_model.proofs.Lists.{get-left}
 
 -- # What an atom on an item says
 

@@ -21,17 +21,14 @@ use Rattle.aud_witness.specs.declared.decision.Decision.{Decision}
 use Rattle.aud_witness.specs.Orders.{stands_before, Shows}
 use Rattle.judge_clauses.specs.Clauses.{is_kept_in}
 use Rattle.judge_sums.proofs.Naming.{kept-named}
-use Rattle.judge_clauses.specs.Queues.{is_take, takes, takes_of, adds, taken_before}
-use Rattle.judge_queues.specs.Blocks.{item, added, added_of, is_take_of, gives, takes_value, Asks}
-use Rattle.judge_queues.proofs.Lists.{get-left, get-right}
+use Rattle.search_model.specs.Queues.{is_take, takes, takes_of, adds, taken_before}
+use Rattle.search_model.specs.Blocks.{item, added, added_of, is_take_of, gives, takes_value, Asks}
+use Rattle.search_model.proofs.Deeds.{takes-append}
+use Rattle.search_model.proofs.Lists.{get-left, get-right}
 use Rattle.judge_queues.proofs.Adders.{queued, added_before, queued-length, queued-through, taker-of}
 use Rattle.judge_queues.proofs.Placing.{taken-at}
 
 -- # A block's own takes
-
-pub takes-append : (x : ℕ) (a b : List Execution) → takes x (a ++ b) ≡ takes x a + takes x b
-takes-append x [] b = omega arith
-takes-append x (e ∷ a) b = let rest = takes-append x a b in omega (arith, rest)
 
 pub added-append : (x : ℕ) (a b : List Execution) → added x (a ++ b) ≡ added x a ++ added x b
 added-append x [] b = refl

@@ -13,12 +13,12 @@ use Rattle.judge_clauses.specs.declared.clause.Atom.TheVariants.{Item}
 use Rattle.judge_clauses.specs.declared.clause.Literal.{Literal}
 use Rattle.judge_clauses.specs.declared.clause.Take.{Take}
 use Rattle.judge_clauses.specs.Clauses.{FactsOf, says, Unless}
-use Rattle.judge_clauses.specs.Queues.{is_addition, adds}
+use Rattle.search_model.specs.Queues.{is_addition, adds}
 use Rattle.judge_clauses.specs.Touching.{mentions}
-use Rattle.judge_queues.specs.Blocks.{item, added, brings, is_addition_of, gives, takes_value}
+use Rattle.search_model.specs.Blocks.{item, added, brings, is_addition_of, gives, takes_value}
 use Rattle.judge_queues.specs.Laws.{NoItem, IsListed, IsNoTaker}
 use Rattle.judge_queues.proofs.Running.{first-length, added-length}
-use Rattle.judge_queues.proofs.Lists.{get-right}
+use Rattle.search_model.proofs.Lists.{get-right}
 
 item-brings : (op : Op) (rest : List ℤ) (v : ℤ) → is_addition op ≡ true → slice_get (item op ++ rest) 0 ≡ Some v → brings v op ≡ true
 item-brings (Enq w) rest v is at = let same : w ≡ v = same_Some w v at in subst (λ u. brings u (Enq w) ≡ true) same (eq-itself w)

@@ -18,16 +18,16 @@ use Rattle.aud_history.specs.FirstFault.{IsWithinLimits}
 use Rattle.aud_history.specs.Table.{row_of, table_of}
 use Rattle.aud_witness.specs.declared.decision.Decision.{Decision}
 use Rattle.aud_witness.specs.Orders.{is_kept, Shows}
-use Rattle.aud_witness.specs.Spots.{first_spot}
+use Rattle.aud_witness.specs.Configurations.{first_configuration}
 use Rattle.aud_witness.proofs.WalkLemmas.{walks-say}
-use Rattle.judge_sums.specs.declared.effect.Effect.TheVariants.{Takes, Additions, Shortening}
-use Rattle.judge_sums.specs.Effects.{take, addition, change_by, net, net_of}
+use Rattle.search_model.specs.declared.effect.Effect.TheVariants.{Takes, Additions, Shortening}
+use Rattle.search_model.specs.Effects.{take, addition, change_by, net, net_of}
 use Rattle.judge_sums.specs.Sums.{gain, total}
 use Rattle.judge_clauses.proofs.Walking.{get-opening}
 use Rattle.judge_sums.proofs.Gains.{total-gain}
 use Rattle.judge_sums.proofs.Walks.{Arrives, arrive, reached}
-use Rattle.judge_clauses.specs.Queues.{is_addition, is_take, adds, takes, adds_of, takes_of, taken_before, adder}
-use Rattle.judge_queues.specs.Blocks.{added, added_of, Asks}
+use Rattle.search_model.specs.Queues.{is_addition, is_take, adds, takes, adds_of, takes_of, taken_before, adder}
+use Rattle.search_model.specs.Blocks.{added, added_of, Asks}
 use Rattle.judge_queues.proofs.Running.{Stands, executed-stands, taken-here, empty-here}
 use Rattle.judge_queues.proofs.Adders.{queued, added_before, queued-length, Added, adder-at, adder-place}
 
@@ -200,7 +200,7 @@ module _ (plan : PlanOf) (h : History) (fine : IsWellFormed h) (within : IsWithi
       let begins : Invariant ([], 0) p (map opening_of plan.objects) =
       (queue [], (get-opening plan.objects x d declared ∙ ap (λ (z : ObjState). Some z) opens, record { gone = []; left = []; is = refl; whole = refl; many = refl })) in
       let arrives : Arrives h Items Invariant (arrive h Items more ([], 0) p r) r =
-      reached h Items more Invariant step (λ e q a states stands. stands) p (first_spot (table_of h) plan.objects) t ([], 0) r led begins (shown.full.same r ∙ there) in
+      reached h Items more Invariant step (λ e q a states stands. stands) p (first_configuration (table_of h) plan.objects) t ([], 0) r led begins (shown.full.same r ∙ there) in
       let zero_more : 0 + taken_before h x p r ≡ taken_before h x p r = omega arith in
       let at : Invariant (queued h x p r, 0 + taken_before h x p r) (arrives.first ∷ arrives.rest) arrives.states =
       subst (λ (a : Items). Invariant a (arrives.first ∷ arrives.rest) arrives.states) (arrives-at p ([], 0) r) arrives.stands in

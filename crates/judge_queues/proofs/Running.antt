@@ -14,9 +14,9 @@ use Rattle.aud_object.proofs.Ints.{eq-is}
 use Rattle.aud_object.proofs.Legality.{after_at-other}
 use Rattle.judge_clauses.proofs.Walking.{off, ran-first}
 use Rattle.judge_sums.proofs.Finding.{told-here, there-after}
-use Rattle.judge_clauses.specs.Queues.{is_addition, is_take, adds, takes}
-use Rattle.judge_queues.specs.Blocks.{item, added, Asks}
-use Rattle.judge_queues.proofs.Lists.{get-at}
+use Rattle.search_model.specs.Queues.{is_addition, is_take, adds, takes}
+use Rattle.search_model.specs.Blocks.{item, added, Asks}
+use Rattle.search_model.proofs.Lists.{get-at}
 
 -- the queue holds what was added, but for the first ones, so many, which were taken
 pub record IsLeft (all : List ℤ) (n : ℕ) (state : ObjState) : Type 0 where

@@ -12,7 +12,7 @@ use Rattle.judge_clauses.specs.declared.clause.Atom.TheVariants.{Item}
 use Rattle.judge_clauses.specs.declared.clause.Literal.{Literal}
 use Rattle.judge_clauses.specs.declared.clause.Take.{Take}
 use Rattle.judge_clauses.specs.Clauses.{FactsOf, is_kept_in, says, Always, Unless}
-use Rattle.judge_queues.specs.Blocks.{added, added_of, takes_value, Asks}
+use Rattle.search_model.specs.Blocks.{added, added_of, takes_value, Asks}
 
 -- the object is a queue, which opens empty
 abbrev pub IsQueue : FactsOf → ℕ → Type 0

@@ -3,15 +3,15 @@
 ghost use Rattle.std.specs.Prelude.{◌≡◌, ℕ, true, false, Some, slice_get, IsTrue};
 ghost use Rattle.aud_history.specs.Table.{RowOf, row_of, table_of};
 ghost use Rattle.judge_clauses.specs.Clauses.{Holds};
-ghost use Rattle.judge_queues.specs.Blocks.{added_of, takes_value};
+ghost use Rattle.search_model.specs.Blocks.{added_of, takes_value};
 ghost use Rattle.judge_queues.specs.Laws.{IsNoTaker, AreNoTakers, IsStuck};
 
-use crate::blocks::{adds_value, takes_value};
 use crate::known::{asked_in, has_take, is_queue};
 use crate::places::never_comes;
 use aud_event::Answer;
 use aud_history::TxRow;
 use judge_clauses::{Atom, Facts, Literal, Take};
+use search_model::{adds_value, takes_value};
 use std::alloc::Allocator;
 
 /// An item that stood in front: who added it, and its value.

@@ -4,14 +4,14 @@ ghost use Rattle.std.specs.Prelude.{◌≡◌, true, false, Some, slice_get, IsT
 ghost use Rattle.aud_history.specs.Table.{RowOf, table_of};
 ghost use Rattle.judge_clauses.specs.Clauses.{says, Unless, Holds};
 ghost use Rattle.judge_clauses.specs.declared.clause.Atom.TheVariants.{Item};
-ghost use Rattle.judge_queues.specs.Blocks.{is_addition_of};
+ghost use Rattle.search_model.specs.Blocks.{is_addition_of};
 ghost use Rattle.judge_queues.specs.Laws.{NoItem, IsListed, AreListed};
 
-use crate::blocks::{is_addition, is_addition_of};
 use crate::known::{is_queue, may_come, taken_by};
 use aud_history::TxRow;
 use aud_object::Execution;
 use judge_clauses::{Atom, Facts, Literal, Take};
+use search_model::{is_addition, is_addition_of};
 use std::alloc::Allocator;
 
 /// Whose addition may be what is taken, and with which value.

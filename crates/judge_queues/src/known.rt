@@ -2,12 +2,12 @@
 
 ghost use Rattle.std.specs.Prelude.{◌≡◌, ◌≤◌, true, false, IfSome, IsTrue};
 ghost use Rattle.aud_history.specs.Histories.{is_in};
-ghost use Rattle.judge_clauses.specs.Queues.{takes_of};
+ghost use Rattle.search_model.specs.Queues.{takes_of};
 ghost use Rattle.judge_queues.specs.Laws.{IsQueue, AsksIn, IsTaken, NeverAdds};
 
-use crate::blocks::{Asked, asked_at, count_takes, place_of_take};
 use aud_event::{Answer, ObjKind};
 use judge_clauses::{Atom, Facts, Take};
+use search_model::{Asked, asked_at, count_takes, place_of_take};
 use std::alloc::Allocator;
 
 /// Whether the object is a queue.

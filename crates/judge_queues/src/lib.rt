@@ -1,7 +1,6 @@
 #![tactic(auto)]
 //! Clauses on what transactions take from queues.
 
-mod blocks;
 mod gone;
 mod items;
 mod known;

@@ -4,16 +4,17 @@ ghost use Rattle.std.specs.Prelude.{◌≡◌, ◌-ℤ◌, pos, true, false, nat
 ghost use Rattle.judge_clauses.specs.Clauses.{says, is_kept_in, Unless, Holds};
 ghost use Rattle.aud_witness.specs.Orders.{stands_before};
 ghost use Rattle.judge_clauses.specs.declared.clause.Atom.TheVariants.{Item};
-ghost use Rattle.judge_sums.specs.declared.effect.Effect.TheVariants.{Takes, Additions, Shortening};
+ghost use Rattle.search_model.specs.declared.effect.Effect.TheVariants.{Takes, Additions, Shortening};
 ghost use Rattle.judge_sums.specs.Between.{IsWithin};
-ghost use Rattle.judge_sums.specs.Effects.{net_of};
+ghost use Rattle.search_model.specs.Effects.{net_of};
 ghost use Rattle.judge_sums.specs.Laws.{ComesTo};
 ghost use Rattle.judge_sums.specs.Sums.{total};
 
 use crate::known::{asked_in, is_queue};
 use aud_event::{Answer, OutOfMemory};
 use judge_clauses::{Atom, Facts, Literal, Take};
-use judge_sums::{Bounds, Effect, sum_bounds, sum_bounds_without};
+use judge_sums::{Bounds, sum_bounds, sum_bounds_without};
+use search_model::Effect;
 use std::alloc::Allocator;
 
 /// Whether the adder is not kept, or does not stand before the taker, where the clause does not hold.

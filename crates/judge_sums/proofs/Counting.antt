@@ -12,8 +12,8 @@ use Rattle.base_values.proofs.Bools.{true_and, is_false}
 use Rattle.aud_object.specs.Objects.{ObjState, counter, answer_of, after_op, greatest, least, is_within}
 use Rattle.aud_object.specs.Replayed.{same_answer}
 use Rattle.aud_object.proofs.Ints.{eq-is}
-use Rattle.judge_sums.specs.declared.effect.Effect.TheVariants.{Count}
-use Rattle.judge_sums.specs.Effects.{count_change, count_told, change, told, reach}
+use Rattle.search_model.specs.declared.effect.Effect.TheVariants.{Count}
+use Rattle.search_model.specs.Effects.{count_change, count_told, change, told, reach}
 use Rattle.judge_sums.specs.Room.{HasRoom}
 
 -- # Far from the ends

@@ -16,10 +16,10 @@ use Rattle.aud_history.specs.FirstFault.{IsWithinLimits}
 use Rattle.aud_history.specs.Table.{transactions, row_of, table_of}
 use Rattle.aud_witness.specs.declared.decision.Decision.{Decision}
 use Rattle.aud_witness.specs.Orders.{is_kept, Shows}
-use Rattle.aud_witness.specs.Spots.{first_spot}
+use Rattle.aud_witness.specs.Configurations.{first_configuration}
 use Rattle.aud_witness.proofs.WalkLemmas.{walks-say}
-use Rattle.judge_sums.specs.declared.effect.Effect.{Effect}
-use Rattle.judge_sums.specs.Effects.{change, object_of, change_by, net, net_of, told, told_by, less, first_of, asked, Tell, Contradict, reach, reach_by, reaches, reach_of}
+use Rattle.search_model.specs.declared.effect.Effect.{Effect}
+use Rattle.search_model.specs.Effects.{change, object_of, change_by, net, net_of, told, told_by, less, first_of, asked, Tell, Contradict, reach, reach_by, reaches, reach_of}
 use Rattle.judge_sums.specs.Sums.{sum_over, sum_of, gain, total}
 use Rattle.judge_sums.proofs.Gains.{all-sums, total-gain}
 use Rattle.judge_clauses.proofs.Walking.{off, ran-first, get-opening}
@@ -172,7 +172,7 @@ module _ (f : Effect) (Is : ℤ → ℕ → ObjState → Type 0)
         let begins : Invariant v0 p (map opening_of plan.objects) =
         (opening_of d, (get-opening plan.objects (object_of f) d declared, opens (reach_over h f p) (reach-sum h f p ∙ all-sums plan.objects h p shown (λ t. pos (reach_of h f t))))) in
         let arrives : Arrives h ℤ Invariant (arrive h ℤ (λ t n. n +ℤ net_of h f t) v0 p r) r =
-        reached h ℤ (λ t n. n +ℤ net_of h f t) Invariant step skip p (first_spot (table_of h) plan.objects) t v0 r led begins (shown.full.same r ∙ there) in
+        reached h ℤ (λ t n. n +ℤ net_of h f t) Invariant step skip p (first_configuration (table_of h) plan.objects) t v0 r led begins (shown.full.same r ∙ there) in
         let own : Stands (arrive h ℤ (λ t n. n +ℤ net_of h f t) v0 p r) (reach_of h f r + reach_over h f arrives.rest) arrives.states =
         subst (λ m. Stands (arrive h ℤ (λ t n. n +ℤ net_of h f t) v0 p r) (reach_of h f m + reach_over h f arrives.rest) arrives.states) arrives.is arrives.stands in
         (reach_over h f arrives.rest, (arrives.states, (arrives.ends, (own, arrives.ran))))

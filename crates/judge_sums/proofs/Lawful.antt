@@ -9,8 +9,8 @@ use Rattle.aud_history.specs.Table.{row_of}
 use Rattle.judge_clauses.specs.declared.clause.Literal.{Literal}
 use Rattle.judge_clauses.specs.Clauses.{FactsOf, Holds}
 use Rattle.judge_clauses.proofs.Validity.{valid-unless}
-use Rattle.judge_sums.specs.Effects.{Contradict}
-use Rattle.judge_sums.specs.declared.effect.Effect.TheVariants.{Count, Element}
+use Rattle.search_model.specs.Effects.{Contradict}
+use Rattle.search_model.specs.declared.effect.Effect.TheVariants.{Count, Element}
 use Rattle.judge_sums.specs.Laws.{ComesTo, CountsFrom, IsSet, IsAskedBy}
 use Rattle.judge_sums.specs.Room.{HasRoomForAll}
 use Rattle.judge_sums.proofs.Counting.{IsCount, count-after, count-told, count-room}

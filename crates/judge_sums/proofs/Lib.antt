@@ -8,3 +8,4 @@ pub mod Members
 pub mod Adding
 pub mod Bounding
 pub mod Lawful
+pub mod Rests

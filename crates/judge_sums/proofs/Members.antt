@@ -12,8 +12,8 @@ use Rattle.aud_object.specs.Proper.{MembersAscend}
 use Rattle.aud_object.specs.Replayed.{same_answer}
 use Rattle.aud_object.proofs.Ints.{eq-is}
 use Rattle.aud_object.proofs.Proper.{has-with, has-without, ascend-with, ascend-without}
-use Rattle.judge_sums.specs.declared.effect.Effect.TheVariants.{Element}
-use Rattle.judge_sums.specs.Effects.{is_yes, element_change, member_told, absence_told, element_told, change, told, reach}
+use Rattle.search_model.specs.declared.effect.Effect.TheVariants.{Element}
+use Rattle.search_model.specs.Effects.{is_yes, element_change, member_told, absence_told, element_told, change, told, reach}
 
 -- 1 for a member, 0 for none
 abbrev pub as_number : Bool → ℤ

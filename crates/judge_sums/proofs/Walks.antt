@@ -11,7 +11,7 @@ use Rattle.aud_witness.specs.declared.decision.Fate.TheVariants.{C, A}
 use Rattle.aud_witness.specs.declared.decision.Decision.{Decision}
 use Rattle.aud_witness.specs.declared.fault.OrderFault.{OrderFault}
 use Rattle.aud_witness.specs.Orders.{is_named, is_kept}
-use Rattle.aud_witness.specs.Spots.{Spot, states_with, stepped}
+use Rattle.aud_witness.specs.Configurations.{Configuration, states_with, stepped}
 use Rattle.aud_witness.specs.Walks.{walked}
 use Rattle.judge_clauses.proofs.Walking.{stepped-led}
 
@@ -34,10 +34,10 @@ module _ (h : History) (S : Type 0) (after : ℕ → S → S) where
   module _ (Inv : S → List Decision → List ObjState → Type 0)
       (step : (d : Decision) (p : List Decision) (a : S) (states ends : List ObjState) → Inv a (d ∷ p) states → executed states (row_of h d.tx).block.executions ≡ Some ends → Inv (after d.tx a) p ends)
       (skip : (d : Decision) (p : List Decision) (a : S) (states : List ObjState) → Inv a (d ∷ p) states → Inv a p states) where
-    pub reached : (p : List Decision) (s t : Spot) (a : S) (r : ℕ) → walked (table_of h) s p ≡ Some t → Inv a p s.states → is_named p r ≡ true → Arrives h S Inv (arrive a p r) r
+    pub reached : (p : List Decision) (s t : Configuration) (a : S) (r : ℕ) → walked (table_of h) s p ≡ Some t → Inv a p s.states → is_named p r ≡ true → Arrives h S Inv (arrive a p r) r
     reached [] s t a r led inv there = absurd (cc)
     reached (d ∷ p) s t a r led inv there =
-        elim (stepped (table_of h) s d) as (λ (z : Result Spot OrderFault). stepped (table_of h) s d ≡ z → (elim z as (λ (_ : Result Spot OrderFault). Option Spot) [ Err _ ↦ None | Ok u ↦ walked (table_of h) u p ]) ≡ Some t →
+        elim (stepped (table_of h) s d) as (λ (z : Result Configuration OrderFault). stepped (table_of h) s d ≡ z → (elim z as (λ (_ : Result Configuration OrderFault). Option Configuration) [ Err _ ↦ None | Ok u ↦ walked (table_of h) u p ]) ≡ Some t →
         Arrives h S Inv (arrive a (d ∷ p) r) r) [
           | Err fault ↦ λ was on. absurd (cc)
           | Ok u ↦ λ was on.
@@ -62,7 +62,7 @@ module _ (h : History) (S : Type 0) (after : ℕ → S → S) where
               ]
         ] refl led
       where
-        go : (f : Fate) → d.fate ≡ f → (u : Spot) (ends : List ObjState) → replayed s.states (row_of h d.tx).block ≡ Some ends → u.states ≡ states_with d.fate s.states ends →
+        go : (f : Fate) → d.fate ≡ f → (u : Configuration) (ends : List ObjState) → replayed s.states (row_of h d.tx).block ≡ Some ends → u.states ≡ states_with d.fate s.states ends →
             ((b : S) → Inv b p u.states → Arrives h S Inv (arrive b p r) r) → Arrives h S Inv (arrive (cond (is_kept d) (after d.tx a) a) p r) r
         go C fate u ends ran leads further =
             let kept : is_kept d ≡ true = ap (λ f. elim f [ C ↦ true | A ↦ false ]) fate in

@@ -3,10 +3,10 @@ use Rattle.std.specs.Prelude.{◌≡◌, ℕ, ℤ, true, [], Some, slice_get}
 use Rattle.aud_event.specs.Meanings.{Declared}
 use Rattle.aud_object.specs.Objects.{counter, set_of, opening_of}
 use Rattle.judge_clauses.specs.Clauses.{FactsOf, Always}
-use Rattle.judge_sums.specs.declared.effect.Effect.{Effect}
+use Rattle.search_model.specs.declared.effect.Effect.{Effect}
 use Rattle.aud_history.specs.Histories.{is_in}
 use Rattle.aud_history.specs.Table.{row_of}
-use Rattle.judge_sums.specs.Effects.{net_of, asked}
+use Rattle.search_model.specs.Effects.{net_of, asked}
 use Rattle.judge_sums.specs.Sums.{total}
 
 -- in each list that shows the history those before R come to this number

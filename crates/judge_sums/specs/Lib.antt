@@ -1,5 +1,5 @@
-pub mod Effects
 pub mod Room
 pub mod Sums
 pub mod Between
 pub mod Laws
+pub mod Rests

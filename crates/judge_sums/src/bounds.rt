@@ -6,13 +6,14 @@ ghost use Rattle.judge_clauses.specs.Clauses.{Unless};
 ghost use Rattle.judge_clauses.specs.Values.{atom_of, AreTold};
 ghost use Rattle.judge_clauses.specs.declared.question.Question.TheVariants.{IsKept, StandsBefore};
 ghost use Rattle.aud_history.specs.Table.{RowOf, table_of};
-ghost use Rattle.judge_sums.specs.Effects.{net, net_of};
+ghost use Rattle.search_model.specs.Effects.{net, net_of};
 ghost use Rattle.judge_sums.specs.Sums.{total};
 ghost use Rattle.judge_sums.specs.Between.{fits, IsWithin};
 
-use crate::effect::{Effect, net, object_of};
+use crate::estimate::Estimate;
 use aud_event::OutOfMemory;
 use judge_clauses::{Facts, Literal, Question};
+use search_model::{Effect, net, object_of};
 use std::alloc::Allocator;
 
 /// Two numbers between which another one lies.
@@ -23,16 +24,6 @@ pub struct Bounds {
 }
 
 impl Bounds {
-    /// Those of the sum of both, if they are i64s.
-    pub fn plus(self, other: Bounds) -> Option<Bounds>
-        ensures { IfSome result (λ bounds. (m n : ℤ) → IsWithin self m → IsWithin other n → IsWithin bounds (m +ℤ n)) }
-    {
-        Some(Bounds {
-            low: self.low.checked_add(other.low)?,
-            high: self.high.checked_add(other.high)?,
-        })
-    }
-
     /// Those of the difference, if they are i64s.
     pub fn less(self, other: Bounds) -> Option<Bounds>
         ensures { IfSome result (λ bounds. (m n : ℤ) → IsWithin self m → IsWithin other n → IsWithin bounds (m -ℤ n)) }
@@ -51,24 +42,44 @@ impl Bounds {
     }
 }
 
-/// What a transaction of the weight adds at least and at most, by what is known of its fate and of its place.
-fn share(weight: i64, kept: Option<bool>, before: Option<bool>) -> Bounds
-    ensures { (k b : Bool) → fits kept k ≡ true → fits before b ≡ true → IsWithin result (if k && b then weight else pos 0) }
-{
-    match (kept, before) {
-        (Some(false), _) | (_, Some(false)) => Bounds { low: 0, high: 0 },
-        (Some(true), Some(true)) => Bounds {
-            low: weight,
-            high: weight,
-        },
-        _ if weight < 0 => Bounds {
-            low: weight,
-            high: 0,
-        },
-        _ => Bounds {
-            low: 0,
-            high: weight,
-        },
+/// Those of 0.
+pub(crate) const NOTHING: Bounds = Bounds { low: 0, high: 0 };
+
+/// What lies between the bounds.
+impl Estimate for Bounds {
+    ghost says = { IsWithin };
+
+    fn zero(self) -> Bounds {
+        NOTHING
+    }
+
+    fn share(self, weight: i64, kept: Option<bool>, before: Option<bool>) -> Option<Bounds> {
+        match (kept, before) {
+            (Some(false), _) | (_, Some(false)) => Some(NOTHING),
+            (Some(true), Some(true)) => Some(Bounds {
+                low: weight,
+                high: weight,
+            }),
+            _ if weight < 0 => Some(Bounds {
+                low: weight,
+                high: 0,
+            }),
+            _ => Some(Bounds {
+                low: 0,
+                high: weight,
+            }),
+        }
+    }
+
+    fn plus(self, other: Bounds) -> Option<Bounds> {
+        Some(Bounds {
+            low: self.low.checked_add(other.low)?,
+            high: self.high.checked_add(other.high)?,
+        })
+    }
+
+    fn excludes(self, number: i64) -> bool {
+        self.exclude(number)
     }
 }
 
@@ -93,24 +104,26 @@ fn weight_at<A: Allocator + Copy>(facts: &Facts<A>, effect: Effect, place: usize
     net(effect, row.block().executions())
 }
 
-/// The bounds of what those before the reader come to, by what is known of each row.
-fn sum_by<A: Allocator + Copy>(
+/// What is said of what those before the reader come to, by what is known of each row.
+fn sum_by<E: Estimate, A: Allocator + Copy>(
+    start: E,
     facts: &Facts<A>,
     clause: &[Literal],
     effect: Effect,
     reader: u32,
     kept: &[Option<bool>],
     before: &[Option<bool>],
-) -> Option<Bounds>
+) -> Option<E>
     requires fates { AreTold facts.now clause.now (atom_of IsKept) kept.now }
     requires places { AreTold facts.now clause.now (atom_of (StandsBefore reader)) before.now }
-    ensures { IfSome result (λ bounds. Unless facts.now clause.now (λ p. IsWithin bounds (total facts.now.history (net_of facts.now.history effect) p reader))) }
+    ensures { IfSome result (λ sum. Unless facts.now clause.now (λ p. E.says sum (total facts.now.history (net_of facts.now.history effect) p reader))) }
 {
     let _clause = clause;
-    let mut sum = Bounds { low: 0, high: 0 };
+    let mut sum = start.zero();
     for place in 0..facts.rows().len() {
         let weight = weight_at(facts, effect, place)?;
-        sum = sum.plus(share(weight, value_at(kept, place), value_at(before, place)))?;
+        let own = start.share(weight, value_at(kept, place), value_at(before, place))?;
+        sum = sum.plus(own)?;
     }
     Some(sum)
 }
@@ -135,6 +148,22 @@ fn put_out<A: Allocator + Copy>(
     }
 }
 
+/// What is said, as `start` says it, of what those before the reader come to, where the clause does not hold.
+pub(crate) fn estimated<E: Estimate, A: Allocator + Copy>(
+    alloc: A,
+    start: E,
+    facts: &Facts<A>,
+    clause: &[Literal],
+    effect: Effect,
+    reader: u32,
+) -> Result<Option<E>, OutOfMemory>
+    ensures { IfOk result (λ found. IfSome found (λ sum. Unless facts.now clause.now (λ p. E.says sum (total facts.now.history (net_of facts.now.history effect) p reader)))) }
+{
+    let kept = facts.values(alloc, clause, Question::IsKept)?;
+    let before = facts.values(alloc, clause, Question::StandsBefore(reader))?;
+    Ok(sum_by(start, facts, clause, effect, reader, &kept, &before))
+}
+
 /// The bounds of what those before the reader come to, where the clause does not hold.
 pub fn sum_bounds<A: Allocator + Copy>(
     alloc: A,
@@ -145,9 +174,7 @@ pub fn sum_bounds<A: Allocator + Copy>(
 ) -> Result<Option<Bounds>, OutOfMemory>
     ensures { IfOk result (λ found. IfSome found (λ bounds. Unless facts.now clause.now (λ p. IsWithin bounds (total facts.now.history (net_of facts.now.history effect) p reader)))) }
 {
-    let kept = facts.values(alloc, clause, Question::IsKept)?;
-    let before = facts.values(alloc, clause, Question::StandsBefore(reader))?;
-    Ok(sum_by(facts, clause, effect, reader, &kept, &before))
+    estimated(alloc, NOTHING, facts, clause, effect, reader)
 }
 
 /// The same, where one transaction is known not to stand before the reader.
@@ -165,5 +192,5 @@ pub fn sum_bounds_without<A: Allocator + Copy>(
     let kept = facts.values(alloc, clause, Question::IsKept)?;
     let mut before = facts.values(alloc, clause, Question::StandsBefore(reader))?;
     put_out(facts, clause, reader, out, &mut before);
-    Ok(sum_by(facts, clause, effect, reader, &kept, &before))
+    Ok(sum_by(NOTHING, facts, clause, effect, reader, &kept, &before))
 }

@@ -2,23 +2,26 @@
 
 ghost use Rattle.std.specs.Prelude.{◌≡◌, IfOk, IfSome, IsTrue};
 ghost use Rattle.judge_clauses.specs.Clauses.{Holds};
-ghost use Rattle.judge_sums.specs.declared.effect.Effect.TheVariants.{Count, Element};
+ghost use Rattle.search_model.specs.declared.effect.Effect.TheVariants.{Count, Element};
 ghost use Rattle.judge_sums.specs.Laws.{ComesTo, CountsFrom, IsSet, IsAskedBy};
 
-use crate::asking::{asked, contradict};
-use crate::bounds::sum_bounds;
-use crate::effect::Effect;
+use crate::bounds::{NOTHING, estimated};
+use crate::estimate::Estimate;
+use crate::remainder::Remainder;
 use crate::room::has_room;
 use aud_event::{ObjKind, OutOfMemory};
 use judge_clauses::{Facts, Law, Literal};
+use search_model::{Effect, asked, contradict};
 use std::alloc::Allocator;
 
-/// Where no literal of a clause holds, what those before a reader come to lies between bounds, and not all that is there can be what the
-/// reader finds.
+/// Where no literal of a clause holds, what those before a reader come to lies between bounds, or leaves a remainder, and the number that
+/// the reader finds does not.
 #[derive(Clone, Copy)]
 pub enum SumLaw {
     /// What the reader finds on the counter.
     Counter(u32, u16),
+    /// The same by what is left where the counts are divided by a number, of which each that is open is a multiple.
+    Remainder(u32, u16, i64),
     /// Whether the reader finds the element in the set.
     Element(u32, u16, i64),
     /// The transaction's block contradicts itself on the counter.
@@ -78,9 +81,10 @@ fn found<A: Allocator + Copy>(facts: &Facts<A>, reader: u32, set: u16, element: 
     asked_by(facts, reader, Effect::Element(set, element))
 }
 
-/// Whether the sum cannot be the number where the clause does not hold.
-fn is_excluded<A: Allocator + Copy>(
+/// Whether the sum cannot be the number where the clause does not hold, by what is said of it as `start` says it.
+fn is_excluded<E: Estimate, A: Allocator + Copy>(
     alloc: A,
+    start: E,
     facts: &Facts<A>,
     clause: &[Literal],
     effect: Effect,
@@ -90,8 +94,8 @@ fn is_excluded<A: Allocator + Copy>(
     requires { ComesTo facts.now effect reader number }
     ensures { IfOk result (λ yes. IsTrue yes → Holds facts.now clause.now) }
 {
-    match sum_bounds(alloc, facts, clause, effect, reader)? {
-        Some(bounds) => Ok(bounds.exclude(number)),
+    match estimated(alloc, start, facts, clause, effect, reader)? {
+        Some(sum) => Ok(sum.excludes(number)),
         None => Ok(false),
     }
 }
@@ -130,15 +134,25 @@ impl Law for SumLaw {
             SumLaw::Counter(reader, counter) => match counted(facts, *reader, *counter) {
                 Some(number) => {
                     let effect = Effect::Count(*counter);
-                    is_excluded(alloc, facts, clause, effect, *reader, number)
+                    is_excluded(alloc, NOTHING, facts, clause, effect, *reader, number)
                 }
                 None => Ok(false),
             },
+            SumLaw::Remainder(reader, counter, modulus) => {
+                match counted(facts, *reader, *counter) {
+                    Some(number) => {
+                        let start = Remainder::zero_of(*modulus);
+                        let effect = Effect::Count(*counter);
+                        is_excluded(alloc, start, facts, clause, effect, *reader, number)
+                    }
+                    None => Ok(false),
+                }
+            }
             SumLaw::Element(reader, set, element) => {
                 match found(facts, *reader, *set, *element) {
                     Some(number) => {
                         let effect = Effect::Element(*set, *element);
-                        is_excluded(alloc, facts, clause, effect, *reader, number)
+                        is_excluded(alloc, NOTHING, facts, clause, effect, *reader, number)
                     }
                     None => Ok(false),
                 }

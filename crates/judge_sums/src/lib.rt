@@ -1,12 +1,12 @@
 #![tactic(auto)]
 //! Clauses on sums of what transactions do to a number.
 
-mod asking;
 mod bounds;
-mod effect;
+mod estimate;
 mod law;
+mod remainder;
 mod room;
 
 pub use bounds::{Bounds, sum_bounds, sum_bounds_without};
-pub use effect::Effect;
+pub use estimate::Estimate;
 pub use law::SumLaw;

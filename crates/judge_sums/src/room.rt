@@ -2,15 +2,15 @@
 
 ghost use Rattle.std.specs.Prelude.{◌≡◌, pos, Some, slice_get, IfSome, IsTrue};
 ghost use Rattle.aud_history.specs.Table.{RowOf, transactions, table_of};
-ghost use Rattle.judge_sums.specs.declared.effect.Effect.TheVariants.{Count};
-ghost use Rattle.judge_sums.specs.Effects.{reach_by, reaches, reach_of};
+ghost use Rattle.search_model.specs.declared.effect.Effect.TheVariants.{Count};
+ghost use Rattle.search_model.specs.Effects.{reach_by, reaches, reach_of};
 ghost use Rattle.judge_sums.specs.Sums.{sum_of};
 ghost use Rattle.judge_sums.specs.Room.{HasRoomForAll, IsWider};
 
 use crate::bounds::Bounds;
-use crate::effect::{Effect, change_by};
 use aud_object::Execution;
 use judge_clauses::Facts;
+use search_model::{Effect, change_by};
 use std::alloc::Allocator;
 
 /// What a count lies between, if it lay between these before the execution.

@@ -2,7 +2,8 @@
 
 use crate::fields::Fields;
 use aud_event::OutOfMemory;
-use judge_clauses::{Atom, Cell, Literal};
+use judge_clauses::{Atom, Literal};
+use search_model::Cell;
 use std::alloc::Global;
 use std::collections::BTreeMap;
 

@@ -1,7 +1,8 @@
 //! Fields of a JSON array by their places, as the lines of refutations have them.
 
 use aud_event::{ObjKind, Plan};
-use judge_clauses::{Cell, Read, Take};
+use judge_clauses::{Read, Take};
+use search_model::Cell;
 use serde_json::Value;
 
 /// An array of a line, and what its objects are called.

@@ -38,6 +38,11 @@ fn cell_law(fields: Fields<'_>) -> Option<CellLaw> {
 fn sum_law(fields: Fields<'_>) -> Option<SumLaw> {
     match (fields.word()?, fields.len()) {
         ("counter", 3) => Some(SumLaw::Counter(fields.number(1)?, fields.object(2)?)),
+        ("remainder", 4) => Some(SumLaw::Remainder(
+            fields.number(1)?,
+            fields.object(2)?,
+            fields.signed(3)?,
+        )),
         ("counts", 3) => Some(SumLaw::Clash(fields.number(1)?, fields.object(2)?)),
         ("element", 4) => Some(SumLaw::Element(
             fields.number(1)?,

@@ -2,8 +2,9 @@
 
 use aud_event::{OutOfMemory, Plan};
 use itoa::{Buffer, Integer};
-use judge_clauses::{Atom, Cell, Literal, Read, Reason, Refutation, Step, Take};
+use judge_clauses::{Atom, Literal, Read, Reason, Refutation, Step, Take};
 use judge_laws::{CellLaw, ObjectLaw, QueueLaw, SumLaw};
+use search_model::Cell;
 use std::alloc::{Allocator, Global};
 
 fn text_of(text: &mut Vec<u8>, part: &str) -> Result<(), OutOfMemory> {
@@ -172,6 +173,12 @@ fn sum_law(text: &mut Vec<u8>, plan: &Plan, law: SumLaw) -> Result<(), OutOfMemo
             text_of(text, "\"counter\"")?;
             number(text, reader)?;
             object(text, plan, of)
+        }
+        SumLaw::Remainder(reader, of, modulus) => {
+            text_of(text, "\"remainder\"")?;
+            number(text, reader)?;
+            object(text, plan, of)?;
+            number(text, modulus)
         }
         SumLaw::Clash(tx, of) => {
             text_of(text, "\"counts\"")?;

@@ -3,7 +3,7 @@ use Rattle.std.proofs.Common.{sym, ◌∙◌, ap}
 use Rattle.base_values.proofs.Bools.{not_true}
 use Rattle.aud_object.specs.Blocks.{BlockOf}
 use Rattle.aud_history.specs.Table.{RowOf}
-use Rattle.judge_clauses.specs.Cells.{meets, needs, leaves, moves, leaves_of, changes}
+use Rattle.search_model.specs.Cells.{meets, needs, leaves, moves, leaves_of, changes}
 use Rattle.judge_cells.proofs.Ruling.{out-still, out-other}
 use Rattle.judge_cells.proofs.outside.is_other.Goals as goal
 

@@ -1,6 +1,6 @@
 use Rattle.std.specs.Prelude.{◌≡◌, false, IfSome}
 use Rattle.std.proofs.Common.{sym, ◌∙◌, subst}
-use Rattle.judge_clauses.specs.Cells.{meets}
+use Rattle.search_model.specs.Cells.{meets}
 use Rattle.judge_cells.specs.Sources.{IsHiding}
 use Rattle.judge_cells.proofs.Ruling.{opening-other, opening-hidden}
 use Rattle.judge_cells.proofs.sources.is_opening_out.Goals as goal

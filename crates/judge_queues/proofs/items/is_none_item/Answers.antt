@@ -1,9 +1,9 @@
 use Rattle.std.specs.Prelude.{◌≡◌, ℕ, ◌+◌, ◌&&◌, true, false, nat_eq}
 use Rattle.std.proofs.Common.{arith, ap, sym, ◌∙◌, subst, cond, get_or}
-use Rattle.judge_sums.proofs.Adding.{idle}
-use Rattle.judge_clauses.specs.Queues.{is_addition}
+use Rattle.search_model.proofs.Adding.{idle}
+use Rattle.search_model.specs.Queues.{is_addition}
 use Rattle.judge_queues.specs.Laws.{NoItem}
-use Rattle.judge_queues.proofs.Deeds.{adds-more}
+use Rattle.search_model.proofs.Deeds.{adds-more}
 use Rattle.judge_queues.proofs.Listing.{no-item-more, no-item-all}
 use Rattle.judge_queues.proofs.items.is_none_item.Goals as goal
 use Rattle.judge_queues.proofs.items.is_none_item.Goals.{then-is_addition+else-number-limit+else-not-is_no_item+in-Some, else-is_addition}

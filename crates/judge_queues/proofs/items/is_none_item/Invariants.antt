@@ -1,5 +1,5 @@
 use Rattle.std.proofs.Common.{◌≡◌, take}
-use Rattle.judge_clauses.specs.Queues.{adds}
+use Rattle.search_model.specs.Queues.{adds}
 use Rattle.judge_queues.specs.Laws.{NoItem}
 use Rattle.judge_queues.proofs.items.is_none_item.Given as goal
 

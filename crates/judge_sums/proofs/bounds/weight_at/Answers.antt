@@ -3,7 +3,7 @@ use Rattle.std.proofs.lemmas.Option.{IfSome_then}
 use Rattle.aud_object.specs.Blocks.{BlockOf}
 use Rattle.aud_history.specs.Table.{RowOf, table_of}
 use Rattle.judge_clauses.specs.Touching.{mentions}
-use Rattle.judge_sums.specs.Effects.{net}
+use Rattle.search_model.specs.Effects.{net}
 use Rattle.judge_sums.proofs.Adding.{net-untouched}
 use Rattle.judge_sums.proofs.Bounding.{found-row}
 use Rattle.judge_sums.proofs.bounds.weight_at.Goals as goal

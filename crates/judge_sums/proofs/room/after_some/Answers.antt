@@ -1,7 +1,8 @@
 use Rattle.std.proofs.Common.{arith}
 use Rattle.std.proofs.lemmas.Int.{ints}
-use Rattle.judge_sums.specs.declared.effect.Effect.TheVariants.{Count}
-use Rattle.judge_sums.proofs.Adding.{idle, reaches-more}
+use Rattle.search_model.specs.declared.effect.Effect.TheVariants.{Count}
+use Rattle.search_model.proofs.Adding.{idle}
+use Rattle.judge_sums.proofs.Adding.{reaches-more}
 use Rattle.judge_sums.proofs.room.after_some.Goals as goal
 
 pub loop-execution-preserved : goal.loop-execution-preserved

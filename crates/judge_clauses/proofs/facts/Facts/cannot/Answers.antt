@@ -2,7 +2,7 @@ use Rattle.std.proofs.Common.{sym, ◌∙◌, ap, subst}
 use Rattle.base_values.proofs.Bools.{not_true}
 use Rattle.aud_history.specs.Table.{RowOf}
 use Rattle.aud_history.specs.WellFormed.{IsWellFormed}
-use Rattle.aud_witness.specs.Spots.{status_allows}
+use Rattle.aud_witness.specs.Configurations.{status_allows}
 use Rattle.aud_witness.proofs.Bridge.{status-allowed}
 use Rattle.judge_clauses.specs.Clauses.{FactsOf}
 use Rattle.judge_clauses.proofs.facts.Facts.cannot.Goals as goal

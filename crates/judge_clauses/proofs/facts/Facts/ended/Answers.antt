@@ -2,7 +2,7 @@ use Rattle.std.specs.Prelude.{◌≡◌, ◌<◌, true, refl}
 use Rattle.std.proofs.Common.{sym, ◌∙◌, ap, subst}
 use Rattle.std.proofs.lemmas.Bool.{lt-ltb}
 use Rattle.aud_history.specs.Table.{row_of}
-use Rattle.aud_witness.specs.Spots.{is_ended}
+use Rattle.aud_witness.specs.Configurations.{is_ended}
 use Rattle.judge_clauses.proofs.Rows.{before-rows}
 use Rattle.judge_clauses.proofs.facts.Facts.ended.Goals as goal
 

@@ -1,6 +1,6 @@
 use Rattle.std.specs.Prelude.{◌≡◌, true, nat_lt}
 use Rattle.std.proofs.Common.{sym, ◌∙◌, ap}
-use Rattle.aud_witness.specs.Spots.{is_ended}
+use Rattle.aud_witness.specs.Configurations.{is_ended}
 use Rattle.judge_clauses.proofs.Rows.{before-rows}
 use Rattle.judge_clauses.proofs.facts.Facts.is_before.Goals as goal
 

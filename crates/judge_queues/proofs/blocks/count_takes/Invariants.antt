@@ -1,6 +1,0 @@
-use Rattle.std.proofs.Common.{◌≡◌, ◌≤◌, take}
-use Rattle.judge_clauses.specs.Queues.{takes}
-use Rattle.judge_queues.proofs.blocks.count_takes.Given as goal
-
-abbrev pub invariant-loop-execution : goal.invariant-loop-execution
-invariant-loop-execution l = (l.count ≡ takes l.queue (take l.execution-index l.executions)) × (l.count ≤ l.execution-index)

@@ -1,7 +1,0 @@
-use Rattle.std.proofs.Common.{◌≡◌, ℤ, take}
-use Rattle.std.specs.Prelude.{IfSome}
-use Rattle.judge_sums.specs.Effects.{net, Tell}
-use Rattle.judge_sums.proofs.asking.contradict.Given as goal
-
-abbrev pub invariant-loop-execution : goal.invariant-loop-execution
-invariant-loop-execution l = (l.before ≡ net l.effect (take l.execution-index l.executions)) × (IfSome l.first (λ m. (n : ℤ) → Tell l.effect n l.executions → n ≡ m))

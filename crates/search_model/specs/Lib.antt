@@ -1,0 +1,4 @@
+pub mod Cells
+pub mod Effects
+pub mod Queues
+pub mod Blocks
