@@ -1,6 +1,6 @@
 //! What is learned from what cannot be.
 
-use crate::grounds::{Help, Sight, add_clash, add_grounds};
+use crate::grounds::{Help, View, add_clash, add_grounds};
 use crate::heap::{Heap, bump};
 use crate::items::{at, fill, neg, set, var};
 use crate::known::{Clash, Ground, State, UNKNOWN};
@@ -142,11 +142,11 @@ fn are_met(todo: &[u32], is_met: &[bool], states: &[State]) -> bool {
 /// Takes the grounds of the literal in its place.
 fn go_on<A: Allocator + Copy>(
     analysis: &mut Analysis<A>,
-    sight: &Sight<'_, A>,
+    view: &View<'_, A>,
     literal: u32,
 ) -> Result<(), OutOfMemory> {
     analysis.todo.clear();
-    add_grounds(sight, literal, &mut analysis.helps, &mut analysis.todo)?;
+    add_grounds(view, literal, &mut analysis.helps, &mut analysis.todo)?;
     analysis.used.push(literal)?;
     Ok(())
 }
@@ -155,7 +155,7 @@ fn go_on<A: Allocator + Copy>(
 fn find_first<A: Allocator + Copy>(
     analysis: &mut Analysis<A>,
     heap: &mut Heap<A>,
-    sight: &Sight<'_, A>,
+    view: &View<'_, A>,
     trail: &[u32],
     level: u32,
 ) -> Result<(), OutOfMemory> {
@@ -163,7 +163,7 @@ fn find_first<A: Allocator + Copy>(
     let mut place = trail.len();
     analysis.clause.push(0)?;
     for _ in 0..trail.len() {
-        let more = take_in(analysis, heap, sight.states, level)?;
+        let more = take_in(analysis, heap, view.states, level)?;
         count = count.wrapping_add(more).saturating_sub(1);
         place = last_met(trail, &analysis.is_met, place);
         let literal = at(trail, place, 0);
@@ -171,7 +171,7 @@ fn find_first<A: Allocator + Copy>(
             set(&mut analysis.clause, 0, neg(literal));
             break;
         }
-        go_on(analysis, sight, literal)?;
+        go_on(analysis, view, literal)?;
     }
     Ok(())
 }
@@ -179,21 +179,21 @@ fn find_first<A: Allocator + Copy>(
 /// Whether the literal of the clause follows from the others: then it is left out.
 fn follows<A: Allocator + Copy>(
     analysis: &mut Analysis<A>,
-    sight: &Sight<'_, A>,
+    view: &View<'_, A>,
     literal: u32,
 ) -> Result<bool, OutOfMemory> {
-    if let Ground::Choice = at(sight.states, var(literal), UNKNOWN).ground {
+    if let Ground::Choice = at(view.states, var(literal), UNKNOWN).ground {
         return Ok(false);
     }
     analysis.todo.clear();
-    add_grounds(sight, neg(literal), &mut analysis.helps, &mut analysis.todo)?;
-    if !are_met(&analysis.todo, &analysis.is_met, sight.states) {
+    add_grounds(view, neg(literal), &mut analysis.helps, &mut analysis.todo)?;
+    if !are_met(&analysis.todo, &analysis.is_met, view.states) {
         return Ok(false);
     }
     analysis.used.push(neg(literal))?;
     for place in 0..analysis.todo.len() {
         let other = at(&analysis.todo, place, 0);
-        if level_of(sight.states, other) == 0 {
+        if level_of(view.states, other) == 0 {
             analysis.sure.push(other)?;
         }
     }
@@ -203,12 +203,12 @@ fn follows<A: Allocator + Copy>(
 /// Leaves out the literals of the clause that follow from the others.
 fn shorten<A: Allocator + Copy>(
     analysis: &mut Analysis<A>,
-    sight: &Sight<'_, A>,
+    view: &View<'_, A>,
 ) -> Result<(), OutOfMemory> {
     let mut kept: usize = 1;
     for place in 1..analysis.clause.len() {
         let literal = at(&analysis.clause, place, 0);
-        if !follows(analysis, sight, literal)? {
+        if !follows(analysis, view, literal)? {
             set(&mut analysis.clause, kept, literal);
             kept = kept.wrapping_add(1);
         }
@@ -254,27 +254,27 @@ fn forget_met(is_met: &mut [bool], met: &[usize]) {
 pub(crate) fn learn<A: Allocator + Copy>(
     analysis: &mut Analysis<A>,
     heap: &mut Heap<A>,
-    sight: &Sight<'_, A>,
+    view: &View<'_, A>,
     trail: &[u32],
     level: u32,
 ) -> Result<u32, OutOfMemory> {
     clear(analysis);
-    find_first(analysis, heap, sight, trail, level)?;
-    shorten(analysis, sight)?;
+    find_first(analysis, heap, view, trail, level)?;
+    shorten(analysis, view)?;
     forget_met(&mut analysis.is_met, &analysis.met);
     analysis.met.clear();
-    Ok(order_clause(&mut analysis.clause, sight.states))
+    Ok(order_clause(&mut analysis.clause, view.states))
 }
 
 /// Reads the literals that hold and cannot all do, and gives the highest of their levels.
 pub(crate) fn read_clash<A: Allocator + Copy>(
     analysis: &mut Analysis<A>,
-    sight: &Sight<'_, A>,
+    view: &View<'_, A>,
     clash: Clash,
 ) -> Result<u32, OutOfMemory> {
     analysis.todo.clear();
-    add_clash(sight, clash, &mut analysis.helps, &mut analysis.todo)?;
-    Ok(highest(sight.states, &analysis.todo))
+    add_clash(view, clash, &mut analysis.helps, &mut analysis.todo)?;
+    Ok(highest(view.states, &analysis.todo))
 }
 
 /// Of how many levels the literals of the clause are.

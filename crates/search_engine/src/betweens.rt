@@ -1,7 +1,8 @@
 //! Between a source and its reader nobody writes.
 
 use crate::cells::{
-    CellOf, Cells, NO_CELL, NO_PART, NO_READER, NO_SOURCE, NO_WRITER, Need, Part, Writer, meets,
+    CellOf, Cells, NO_CELL, NO_PART, NO_READER, NO_SOURCE, NO_WRITER, Need, Part, Source, Writer,
+    meets,
 };
 use crate::items::{FALSE, NONE, TRUE, at, neg, short};
 use crate::known::{Clash, Ground, Known, assign, value};
@@ -144,19 +145,10 @@ fn writers_before(writers: &[Writer], cell: CellOf, row: usize) -> usize {
     low
 }
 
-/// Looks at the source beside the writer, if it does not fail.
-fn look_open<A: Allocator + Copy>(
-    known: &mut Known<A>,
-    cells: &Cells<A>,
-    spans: &[Span],
-    source: u32,
-    writer: u32,
-) -> Option<Clash> {
-    let literal = at(&cells.sources, source as usize, NO_SOURCE).literal;
-    if value(&known.values, literal) == -1 {
-        return None;
-    }
-    look(known, cells, spans, source, writer)
+/// Whether the source fails.
+fn fails(values: &[i8], sources: &[Source], source: u32) -> bool {
+    let literal = at(sources, source as usize, NO_SOURCE).literal;
+    value(values, literal) == -1
 }
 
 /// Whether the reader may have read from the writer, by the value.
@@ -178,12 +170,30 @@ fn judge_reader<A: Allocator + Copy>(
     }
     let found = at(&cells.readers, reader as usize, NO_READER);
     for source in found.sources..found.sources_end {
-        let clash = look_open(known, cells, spans, short(source), writer);
+        if fails(&known.values, &cells.sources, short(source)) {
+            continue;
+        }
+        let clash = look(known, cells, spans, short(source), writer);
         if clash.is_some() {
             return clash;
         }
     }
     None
+}
+
+/// Looks at the source beside the other writer, if it does not fail.
+fn look_open<A: Allocator + Copy>(
+    known: &mut Known<A>,
+    cells: &Cells<A>,
+    spans: &[Span],
+    source: u32,
+    other: u32,
+) -> Option<Clash> {
+    let found = at(&cells.sources, source as usize, NO_SOURCE);
+    if value(&known.values, found.literal) == -1 || may_read(cells, found.reader, other) {
+        return None;
+    }
+    look(known, cells, spans, source, other)
 }
 
 /// Looks at those that the one writer is a source of, beside the other writer.
@@ -199,14 +209,11 @@ fn judge_writers<A: Allocator + Copy>(
         if source == NONE {
             break;
         }
-        let found = at(&cells.sources, source as usize, NO_SOURCE);
-        if !may_read(cells, found.reader, other) {
-            let clash = look_open(known, cells, spans, source, other);
-            if clash.is_some() {
-                return clash;
-            }
+        let clash = look_open(known, cells, spans, source, other);
+        if clash.is_some() {
+            return clash;
         }
-        source = found.next;
+        source = at(&cells.sources, source as usize, NO_SOURCE).next;
     }
     None
 }

@@ -10,7 +10,7 @@ use std::alloc::{Allocator, Global};
 pub(crate) enum Role {
     Nothing,
     /// The one row stands before the other, which began later.
-    Pair(u16, u16),
+    Precedence(u16, u16),
     /// The row is kept.
     Kept(u32),
     /// The source of that number is the one.
@@ -27,6 +27,8 @@ pub(crate) enum Cause {
     /// The source, and the other writer.
     Between(u32, u32),
     Counter(u32, u16),
+    /// The same, where each count that is open is a multiple of the last number.
+    Remainder(u32, u16, i64),
     Element(u32, u16, i64),
     Items(u32),
     ItemStands(u32),
@@ -87,7 +89,7 @@ pub(crate) fn add_pairs<A: Allocator + Copy>(
     add_variable(variables, Role::Nothing, true, false)?;
     for row in 0..spans.len() {
         for other in row.wrapping_add(1)..spans[row].end {
-            let role = Role::Pair((row & 0xffff) as u16, (other & 0xffff) as u16);
+            let role = Role::Precedence((row & 0xffff) as u16, (other & 0xffff) as u16);
             add_variable(variables, role, true, false)?;
         }
     }

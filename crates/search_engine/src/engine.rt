@@ -6,13 +6,16 @@ use crate::orders::{block, decisions_of, first_bad, order_of};
 use crate::problem::{Problem, Work};
 use crate::reading::{Asked, read};
 use crate::refuted::refutation_of;
-use crate::solver::{Bounds, Found, Solver, begin, bytes_held, prepare, search, solver_of};
+use crate::solver::{
+    Bounds, Found, Solver, begin, bytes_held, go_back, prepare, search, solver_of,
+};
 use crate::spans::{Span, instant, span_of};
 use aud_event::{ObjKind, OutOfMemory};
 use aud_order::Shape;
 use aud_witness::Decision;
-use judge_clauses::{Cell, Reason, Refutation, Step};
+use judge_clauses::{Reason, Refutation, Step};
 use judge_laws::{CellLaw, ObjectLaw, SumLaw};
+use search_model::Cell;
 use std::alloc::{Allocator, Global};
 
 /// What the engine came to: an order that it tried, steps that refute the history, or nothing within its effort.
@@ -111,7 +114,7 @@ fn ranks_of<A: Allocator + Copy>(
 /// Tries pairs first as the ranks say.
 fn rank_phases(roles: &[Role], ranks: &[usize], phases: &mut [bool]) {
     for variable in 1..roles.len() {
-        if let Role::Pair(row, other) = roles[variable] {
+        if let Role::Precedence(row, other) = roles[variable] {
             let one = at(ranks, row as usize, 0);
             set(phases, variable, one < at(ranks, other as usize, 0));
         }
@@ -120,7 +123,7 @@ fn rank_phases(roles: &[Role], ranks: &[usize], phases: &mut [bool]) {
 
 /// The literal of the pair that stands so far apart, as the ranks say, if both ended; or the one that never holds.
 fn far_literal(role: Role, spans: &[Span], ranks: &[usize], variable: usize, reach: usize) -> u32 {
-    let Role::Pair(row, other) = role else {
+    let Role::Precedence(row, other) = role else {
         return FALSE;
     };
     let (row, other) = (row as usize, other as usize);
@@ -231,9 +234,10 @@ fn search_rounds<A: Allocator + Copy>(
     let rows = solver.problem.spans.len();
     let mut turn = 0;
     let mut luby = Luby { turn: 1, share: 1 };
+    let unit = (rows as u64 / 8).max(100);
     for round in 0..u64::MAX {
         let mut used = None;
-        let mut budget = luby.share.saturating_mul(100);
+        let mut budget = luby.share.saturating_mul(unit);
         luby = next_share(luby);
         solver.assumed.clear();
         if round >= 6 && round % 2 == 0 {
@@ -243,6 +247,7 @@ fn search_rounds<A: Allocator + Copy>(
             turn = place;
             let found = nears[place % 4];
             let ranks = ranks_of(alloc, &solver.problem.spans, found.part)?;
+            go_back(solver, 0);
             assume_near(solver, &ranks, found.reach)?;
             budget = round.saturating_mul(100).saturating_add(300);
         }

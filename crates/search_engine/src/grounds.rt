@@ -12,7 +12,7 @@ use std::alloc::Allocator;
 
 /// What grounds are read from.
 #[derive(Drop)]
-pub(crate) struct Sight<'a, A: Allocator + Copy> {
+pub(crate) struct View<'a, A: Allocator + Copy> {
     pub values: &'a [i8],
     pub states: &'a [State],
     pub arena: &'a [u32],
@@ -56,7 +56,7 @@ pub(crate) fn literals_of(arena: &[u32], clause: u32) -> &[u32] {
 /// The two rows of a literal of a pair, the one that stands before first.
 pub(crate) fn pair_of(roles: &[Role], literal: u32) -> Option<(usize, usize)> {
     match at(roles, var(literal), Role::Nothing) {
-        Role::Pair(row, other) => {
+        Role::Precedence(row, other) => {
             let (row, other) = (row as usize, other as usize);
             if literal & 1 == 0 {
                 Some((row, other))
@@ -128,7 +128,7 @@ fn add_help<A: Allocator + Copy>(
 
 /// What the helps have to add up to so that the bound is crossed, the forced literal's term aside; and those that may.
 fn find_helps<A: Allocator + Copy>(
-    sight: &Sight<'_, A>,
+    view: &View<'_, A>,
     sum: &Sum,
     is_low: bool,
     forced: u32,
@@ -140,7 +140,7 @@ fn find_helps<A: Allocator + Copy>(
     let mut lacks = sum.wanted.wrapping_mul(sign).wrapping_add(1);
     let mut is_found = forced == FALSE;
     for place in sum.from..sum.to {
-        let term = at(sight.terms, place, NO_TERM);
+        let term = at(view.terms, place, NO_TERM);
         let gain = term.gain.wrapping_mul(sign);
         let rises = gain > 0;
         if !rises {
@@ -148,7 +148,7 @@ fn find_helps<A: Allocator + Copy>(
         }
         let wanted = if rises { neg(forced) } else { forced };
         let is_own = !is_found && term.literals.contains(&wanted);
-        if is_own && !is_decided(sight.values, sight.states, &term, limit) {
+        if is_own && !is_decided(view.values, view.states, &term, limit) {
             is_found = true;
             lacks = lacks.wrapping_sub(gain.wrapping_abs());
             if rises {
@@ -160,7 +160,7 @@ fn find_helps<A: Allocator + Copy>(
             }
             continue;
         }
-        let came = help_at(sight.values, sight.states, &term, rises);
+        let came = help_at(view.values, view.states, &term, rises);
         if came < limit {
             let gain = gain.wrapping_abs();
             helps.push(Help {
@@ -176,7 +176,7 @@ fn find_helps<A: Allocator + Copy>(
 /// The literals that force the least of the sum above what is wanted, or the greatest below it, before the limit: the earliest ones that
 /// suffice. The forced literal, if there is one, is no part of them.
 pub(crate) fn add_bound<A: Allocator + Copy>(
-    sight: &Sight<'_, A>,
+    view: &View<'_, A>,
     number: u32,
     is_low: bool,
     forced: u32,
@@ -184,19 +184,19 @@ pub(crate) fn add_bound<A: Allocator + Copy>(
     helps: &mut Vec<Help, A>,
     out: &mut Vec<u32, A>,
 ) -> Result<(), OutOfMemory> {
-    let sum = at(sight.sums, number as usize, NO_SUM);
+    let sum = at(view.sums, number as usize, NO_SUM);
     helps.clear();
-    let mut lacks = find_helps(sight, &sum, is_low, forced, limit, helps, out)?;
+    let mut lacks = find_helps(view, &sum, is_low, forced, limit, helps, out)?;
     helps.sort_unstable();
     for help in helps.iter() {
         if lacks <= 0 {
             break;
         }
         lacks = lacks.wrapping_sub(help.gain);
-        let term = at(sight.terms, help.term, NO_TERM);
+        let term = at(view.terms, help.term, NO_TERM);
         add_help(
-            sight.values,
-            sight.states,
+            view.values,
+            view.states,
             &term,
             (term.gain > 0) == is_low,
             out,
@@ -210,48 +210,48 @@ pub(crate) fn add_bound<A: Allocator + Copy>(
 
 /// Adds the literals that force this one.
 pub(crate) fn add_grounds<A: Allocator + Copy>(
-    sight: &Sight<'_, A>,
+    view: &View<'_, A>,
     literal: u32,
     helps: &mut Vec<Help, A>,
     out: &mut Vec<u32, A>,
 ) -> Result<(), OutOfMemory> {
-    let state = at(sight.states, var(literal), UNKNOWN);
+    let state = at(view.states, var(literal), UNKNOWN);
     match state.ground {
         Ground::Choice => Ok(()),
-        Ground::Clause(clause) => add_others(literals_of(sight.arena, clause), literal, out),
-        Ground::Turn(row, other) => match pair_of(sight.roles, literal) {
-            Some(ends) => add_turn(sight.spans, ends, (row as usize, other as usize), out),
+        Ground::Clause(clause) => add_others(literals_of(view.arena, clause), literal, out),
+        Ground::Turn(row, other) => match pair_of(view.roles, literal) {
+            Some(ends) => add_turn(view.spans, ends, (row as usize, other as usize), out),
             None => Ok(()),
         },
         Ground::Between(source, writer) => {
-            let clause = clause_of(sight.cells, sight.spans, source, writer);
+            let clause = clause_of(view.cells, view.spans, source, writer);
             add_others(&clause, literal, out)
         }
-        Ground::Low(sum) => add_bound(sight, sum, true, literal, state.place, helps, out),
-        Ground::High(sum) => add_bound(sight, sum, false, literal, state.place, helps, out),
+        Ground::Low(sum) => add_bound(view, sum, true, literal, state.place, helps, out),
+        Ground::High(sum) => add_bound(view, sum, false, literal, state.place, helps, out),
     }
 }
 
 /// Adds the literals that hold, and cannot all do.
 pub(crate) fn add_clash<A: Allocator + Copy>(
-    sight: &Sight<'_, A>,
+    view: &View<'_, A>,
     clash: Clash,
     helps: &mut Vec<Help, A>,
     out: &mut Vec<u32, A>,
 ) -> Result<(), OutOfMemory> {
     match clash {
-        Clash::Clause(clause) => add_others(literals_of(sight.arena, clause), FALSE, out),
+        Clash::Clause(clause) => add_others(literals_of(view.arena, clause), FALSE, out),
         Clash::Turn(row, from, to, other) => {
-            let literal = before(sight.spans, other, row);
+            let literal = before(view.spans, other, row);
             if row != other && literal != TRUE {
                 out.push(literal)?;
             }
-            add_turn(sight.spans, (row, other), (from, to), out)
+            add_turn(view.spans, (row, other), (from, to), out)
         }
         Clash::Between(source, writer) => {
-            let clause = clause_of(sight.cells, sight.spans, source, writer);
+            let clause = clause_of(view.cells, view.spans, source, writer);
             add_others(&clause, FALSE, out)
         }
-        Clash::Sum(sum, is_low) => add_bound(sight, sum, is_low, FALSE, NONE, helps, out),
+        Clash::Sum(sum, is_low) => add_bound(view, sum, is_low, FALSE, NONE, helps, out),
     }
 }

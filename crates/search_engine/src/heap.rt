@@ -102,6 +102,15 @@ pub(crate) fn insert<A: Allocator + Copy>(heap: &mut Heap<A>, variable: usize) {
     }
 }
 
+/// The heaviest variable.
+pub(crate) fn heaviest<A: Allocator + Copy>(heap: &Heap<A>) -> Option<u32> {
+    if heap.count == 0 {
+        None
+    } else {
+        Some(at(&heap.heap, 0, 0))
+    }
+}
+
 /// Takes the heaviest variable.
 pub(crate) fn take_heaviest<A: Allocator + Copy>(heap: &mut Heap<A>) -> Option<u32> {
     if heap.count == 0 {

@@ -2,7 +2,7 @@
 
 use crate::analysis::Analysis;
 use crate::draft::{CAUSE, Cause, STEP};
-use crate::grounds::{Help, Sight, add_grounds, literals_of, pair_of};
+use crate::grounds::{Help, View, add_grounds, literals_of, pair_of};
 use crate::items::{NONE, at, between, fill, neg, set, short, var};
 use crate::known::{Clash, Ground, UNKNOWN};
 use crate::sums::NO_SUM;
@@ -126,33 +126,33 @@ fn add_step<A: Allocator + Copy>(
 fn step_of_clause<A: Allocator + Copy>(
     steps: &mut Steps<A>,
     causes: &mut [u32],
-    sight: &Sight<'_, A>,
+    view: &View<'_, A>,
     clause: u32,
 ) -> Result<u32, OutOfMemory> {
     let place = clause as usize;
-    let cause = at(sight.arena, place.wrapping_add(CAUSE), NONE);
+    let cause = at(view.arena, place.wrapping_add(CAUSE), NONE);
     if cause == NONE {
-        return Ok(at(sight.arena, place.wrapping_add(STEP), NONE));
+        return Ok(at(view.arena, place.wrapping_add(STEP), NONE));
     }
     let known = at(causes, cause as usize, NONE);
     if known != NONE {
         return Ok(known);
     }
-    let why = Why::Cause(at(sight.causes, cause as usize, Cause::Tried));
-    let number = add_step(steps, literals_of(sight.arena, clause), why)?;
+    let why = Why::Cause(at(view.causes, cause as usize, Cause::Tried));
+    let number = add_step(steps, literals_of(view.arena, clause), why)?;
     set(causes, cause as usize, number);
     Ok(number)
 }
 
 /// Why the literals force this one, where no clause does.
-fn cause_of<A: Allocator + Copy>(sight: &Sight<'_, A>, literal: u32, ground: Ground) -> Cause {
+fn cause_of<A: Allocator + Copy>(view: &View<'_, A>, literal: u32, ground: Ground) -> Cause {
     match ground {
-        Ground::Turn(row, other) => match pair_of(sight.roles, literal) {
+        Ground::Turn(row, other) => match pair_of(view.roles, literal) {
             Some((first, last)) => Cause::Turn(short(first), row, other, short(last)),
             None => Cause::Tried,
         },
         Ground::Between(source, writer) => Cause::Between(source, writer),
-        Ground::Low(sum) | Ground::High(sum) => at(sight.sums, sum as usize, NO_SUM).cause,
+        Ground::Low(sum) | Ground::High(sum) => at(view.sums, sum as usize, NO_SUM).cause,
         Ground::Choice | Ground::Clause(_) => Cause::Tried,
     }
 }
@@ -175,12 +175,12 @@ fn turn_all(literals: &mut [u32]) {
 /// Puts the literals to the clause by which they force this one.
 fn make_clause<A: Allocator + Copy>(
     clause: &mut Vec<u32, A>,
-    sight: &Sight<'_, A>,
+    view: &View<'_, A>,
     helps: &mut Vec<Help, A>,
     literal: u32,
 ) -> Result<(), OutOfMemory> {
     clause.clear();
-    add_grounds(sight, literal, helps, clause)?;
+    add_grounds(view, literal, helps, clause)?;
     turn_all(clause);
     clause.push(literal)?;
     Ok(())
@@ -189,52 +189,52 @@ fn make_clause<A: Allocator + Copy>(
 /// The step whose clause forced the literal. If it is the same as when one was last made of it, that one is taken.
 fn step_of<A: Allocator + Copy>(
     log: &mut Log<A>,
-    sight: &Sight<'_, A>,
+    view: &View<'_, A>,
     helps: &mut Vec<Help, A>,
     literal: u32,
 ) -> Result<u32, OutOfMemory> {
-    let ground = at(sight.states, var(literal), UNKNOWN).ground;
+    let ground = at(view.states, var(literal), UNKNOWN).ground;
     if let Ground::Clause(clause) = ground {
-        return step_of_clause(&mut log.steps, &mut log.causes, sight, clause);
+        return step_of_clause(&mut log.steps, &mut log.causes, view, clause);
     }
-    make_clause(&mut log.clause, sight, helps, literal)?;
+    make_clause(&mut log.clause, view, helps, literal)?;
     let known = at(&log.forced, var(literal), NONE);
     if is_step(&log.steps, known, &log.clause) {
         return Ok(known);
     }
-    let why = Why::Cause(cause_of(sight, literal, ground));
+    let why = Why::Cause(cause_of(view, literal, ground));
     let number = add_step(&mut log.steps, &log.clause, why)?;
     set(&mut log.forced, var(literal), number);
     Ok(number)
 }
 
 /// Why the clash cannot be, if it is of no clause.
-fn cause_of_clash<A: Allocator + Copy>(sight: &Sight<'_, A>, clash: Clash) -> Cause {
+fn cause_of_clash<A: Allocator + Copy>(view: &View<'_, A>, clash: Clash) -> Cause {
     match clash {
         Clash::Clause(_) => Cause::Tried,
         Clash::Turn(row, from, to, other) => {
             Cause::Turn(short(row), short(from), short(to), short(other))
         }
         Clash::Between(source, writer) => Cause::Between(source, writer),
-        Clash::Sum(sum, _) => at(sight.sums, sum as usize, NO_SUM).cause,
+        Clash::Sum(sum, _) => at(view.sums, sum as usize, NO_SUM).cause,
     }
 }
 
 /// Notes the step of what cannot be. The literals are those that hold and cannot all do.
 pub(crate) fn log_clash<A: Allocator + Copy>(
     log: &mut Log<A>,
-    sight: &Sight<'_, A>,
+    view: &View<'_, A>,
     clash: Clash,
     literals: &[u32],
 ) -> Result<(), OutOfMemory> {
     if let Clash::Clause(clause) = clash {
-        log.last = step_of_clause(&mut log.steps, &mut log.causes, sight, clause)?;
+        log.last = step_of_clause(&mut log.steps, &mut log.causes, view, clause)?;
         return Ok(());
     }
     log.clause.clear();
     log.clause.extend_from_slice(literals)?;
     turn_all(&mut log.clause);
-    let why = Why::Cause(cause_of_clash(sight, clash));
+    let why = Why::Cause(cause_of_clash(view, clash));
     log.last = add_step(&mut log.steps, &log.clause, why)?;
     Ok(())
 }
@@ -261,7 +261,7 @@ fn forget_needed(needed: &[Placed], is_needed: &mut [bool]) {
 /// Finds what the literals need that hold in any case, themselves too, as far as no step gives it yet; in the order of the trail.
 fn find_needed<A: Allocator + Copy>(
     log: &mut Log<A>,
-    sight: &Sight<'_, A>,
+    view: &View<'_, A>,
     helps: &mut Vec<Help, A>,
     literals: &[u32],
 ) -> Result<(), OutOfMemory> {
@@ -272,10 +272,10 @@ fn find_needed<A: Allocator + Copy>(
         let Some(number) = take_needed(&mut log.todo, &mut log.is_needed) else {
             break;
         };
-        let place = at(sight.states, var(number), UNKNOWN).place;
+        let place = at(view.states, var(number), UNKNOWN).place;
         log.needed.push(Placed { place, number })?;
         if at(&log.units, var(number), NONE) == NONE {
-            add_grounds(sight, number, helps, &mut log.todo)?;
+            add_grounds(view, number, helps, &mut log.todo)?;
         }
     }
     log.needed.sort_unstable();
@@ -286,14 +286,14 @@ fn find_needed<A: Allocator + Copy>(
 /// Adds the step that the literal holds in any case, which follows from the step that forced it and from earlier such ones.
 fn log_unit<A: Allocator + Copy>(
     log: &mut Log<A>,
-    sight: &Sight<'_, A>,
+    view: &View<'_, A>,
     helps: &mut Vec<Help, A>,
     literal: u32,
 ) -> Result<(), OutOfMemory> {
-    let step = step_of(log, sight, helps, literal)?;
+    let step = step_of(log, view, helps, literal)?;
     let from = log.steps.hints.len();
     log.clause.clear();
-    add_grounds(sight, literal, helps, &mut log.clause)?;
+    add_grounds(view, literal, helps, &mut log.clause)?;
     for other in log.clause.iter() {
         log.steps.hints.push(at(&log.units, var(*other), NONE))?;
     }
@@ -310,15 +310,15 @@ fn log_unit<A: Allocator + Copy>(
 /// Adds the steps that the literals hold in any case.
 fn log_units<A: Allocator + Copy>(
     log: &mut Log<A>,
-    sight: &Sight<'_, A>,
+    view: &View<'_, A>,
     helps: &mut Vec<Help, A>,
     literals: &[u32],
 ) -> Result<(), OutOfMemory> {
-    find_needed(log, sight, helps, literals)?;
+    find_needed(log, view, helps, literals)?;
     for place in 0..log.needed.len() {
         let literal = at(&log.needed, place, NOT_PLACED).number;
         if at(&log.units, var(literal), NONE) == NONE {
-            log_unit(log, sight, helps, literal)?;
+            log_unit(log, view, helps, literal)?;
         }
     }
     Ok(())
@@ -341,14 +341,14 @@ fn push_units<A: Allocator + Copy>(log: &mut Log<A>, sure: &[u32]) -> Result<(),
 /// The steps that forced the literals, in the order of the trail.
 fn find_steps<A: Allocator + Copy>(
     log: &mut Log<A>,
-    sight: &Sight<'_, A>,
+    view: &View<'_, A>,
     helps: &mut Vec<Help, A>,
     literals: &[u32],
 ) -> Result<(), OutOfMemory> {
     log.needed.clear();
     for literal in literals {
-        let number = step_of(log, sight, helps, *literal)?;
-        let place = at(sight.states, var(*literal), UNKNOWN).place;
+        let number = step_of(log, view, helps, *literal)?;
+        let place = at(view.states, var(*literal), UNKNOWN).place;
         log.needed.push(Placed { place, number })?;
     }
     log.needed.sort_unstable();
@@ -359,11 +359,11 @@ fn find_steps<A: Allocator + Copy>(
 /// were used, and from the last clash.
 pub(crate) fn log_learned<A: Allocator + Copy>(
     log: &mut Log<A>,
-    sight: &Sight<'_, A>,
+    view: &View<'_, A>,
     analysis: &mut Analysis<A>,
 ) -> Result<u32, OutOfMemory> {
-    log_units(log, sight, &mut analysis.helps, &analysis.sure)?;
-    find_steps(log, sight, &mut analysis.helps, &analysis.used)?;
+    log_units(log, view, &mut analysis.helps, &analysis.sure)?;
+    find_steps(log, view, &mut analysis.helps, &analysis.used)?;
     let from = log.steps.hints.len();
     push_units(log, &analysis.sure)?;
     push_needed(&mut log.steps.hints, &log.needed)?;
@@ -375,14 +375,14 @@ pub(crate) fn log_learned<A: Allocator + Copy>(
 /// The steps that give or force the literals that are needed, in their place.
 fn find_last_steps<A: Allocator + Copy>(
     log: &mut Log<A>,
-    sight: &Sight<'_, A>,
+    view: &View<'_, A>,
     helps: &mut Vec<Help, A>,
 ) -> Result<(), OutOfMemory> {
     for place in 0..log.needed.len() {
         let mut found = at(&log.needed, place, NOT_PLACED);
         let unit = at(&log.units, var(found.number), NONE);
         if unit == NONE {
-            found.number = step_of(log, sight, helps, found.number)?;
+            found.number = step_of(log, view, helps, found.number)?;
         } else {
             found.number = unit;
         }
@@ -405,15 +405,15 @@ fn push_needed<A: Allocator + Copy>(
 /// Adds the step with no literal, where the last clash needs but what holds in any case.
 pub(crate) fn log_end<A: Allocator + Copy>(
     log: &mut Log<A>,
-    sight: &Sight<'_, A>,
+    view: &View<'_, A>,
     helps: &mut Vec<Help, A>,
     literals: &[u32],
 ) -> Result<(), OutOfMemory> {
     if is_step(&log.steps, log.last, &[]) {
         return Ok(());
     }
-    find_needed(log, sight, helps, literals)?;
-    find_last_steps(log, sight, helps)?;
+    find_needed(log, view, helps, literals)?;
+    find_last_steps(log, view, helps)?;
     let from = log.steps.hints.len();
     push_needed(&mut log.steps.hints, &log.needed)?;
     log.steps.hints.push(log.last)?;

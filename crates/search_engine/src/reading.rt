@@ -10,7 +10,7 @@ use crate::sums::{Beside, add_terms, end_sum, find_beside, sum_ended};
 use aud_event::{Answer, ObjDecl, ObjKind, Op, OutOfMemory};
 use aud_history::TxRow;
 use aud_order::Shape;
-use judge_clauses::Cell;
+use search_model::{Cell, added_item, asks, cell_of, count_change, count_told, puts, taken_item};
 use std::alloc::{Allocator, Global};
 
 /// What a history asks: an order, as a problem, or nothing, as one transaction contradicts itself on a cell, or more than there is room
@@ -41,24 +41,23 @@ struct Count {
     gain: i64,
 }
 
-/// What an execution tells of its cell: what it sees, and what it leaves.
+/// What an execution tells of its cell: what it sees, and what it leaves where it changes it.
 #[derive(Clone, Copy)]
-struct Told {
+struct Seen {
     sees: Option<Need>,
     leaves: Option<Option<i64>>,
 }
 
-/// The key of the cell that the operation is about.
+/// The element or the key that the operation is about.
 fn key_of(op: Op) -> i64 {
-    match op {
-        Op::Add(key) | Op::Remove(key) | Op::Contains(key) => key,
-        Op::Put(key, _) | Op::Look(key) | Op::Del(key) => key,
+    match cell_of(op) {
+        Some(Cell::Element(key)) | Some(Cell::Key(key)) => key,
         _ => 0,
     }
 }
 
 /// The part of the object that the operations of the key are about.
-pub(crate) fn cell_of(kind: ObjKind, key: i64) -> Cell {
+pub(crate) fn part_of(kind: ObjKind, key: i64) -> Cell {
     match kind {
         ObjKind::SetOf => Cell::Element(key),
         ObjKind::MapOf => Cell::Key(key),
@@ -87,42 +86,32 @@ fn read_uses<A: Allocator + Copy>(
     Ok(())
 }
 
-fn sees(value: Option<i64>) -> Option<Need> {
-    Some(Need {
-        value,
-        differs: false,
-    })
-}
-
-/// What it tells that an element is or was a member.
-fn member(is_member: bool) -> Option<i64> {
-    if is_member { Some(1) } else { None }
-}
-
-/// What the execution tells of its cell, if it is of one that can be.
-fn told_by(op: Op, answer: Answer) -> Option<Told> {
-    let (sees, leaves) = match (op, answer) {
-        (Op::Read, Answer::Int(value)) => (sees(Some(value)), None),
-        (Op::Write(value), _) => (None, Some(Some(value))),
-        (Op::Add(_), Answer::Flag(flag)) => (sees(member(!flag)), Some(Some(1))),
-        (Op::Remove(_), Answer::Flag(flag)) => (sees(member(flag)), Some(None)),
-        (Op::Contains(_), Answer::Flag(flag)) => (sees(member(flag)), None),
-        (Op::Put(_, value), _) => (None, Some(Some(value))),
-        (Op::Look(_), Answer::Int(value)) => (sees(Some(value)), None),
-        (Op::Look(_), Answer::Empty) => (sees(None), None),
-        (Op::Del(_), Answer::Flag(differs)) => {
-            let value = None;
-            (Some(Need { value, differs }), Some(None))
-        }
-        _ => return None,
+/// What the cell has to hold.
+fn need_of(need: search_model::Need) -> Need {
+    let (value, differs) = match need {
+        search_model::Need::Absent => (None, false),
+        search_model::Need::Present => (None, true),
+        search_model::Need::Holding(value) => (Some(value), false),
     };
-    Some(Told { sees, leaves })
+    Need { value, differs }
+}
+
+/// What the execution tells of the cell.
+fn seen_by(cell: Cell, op: Op, answer: Answer) -> Seen {
+    let sees = match asks(cell, op, answer) {
+        Some(need) => Some(need_of(need)),
+        None => None,
+    };
+    Seen {
+        sees,
+        leaves: puts(cell, op, answer),
+    }
 }
 
 /// Adds what the execution tells to what its transaction did before. False where it contradicts that. The value is what the transaction
 /// knows to be in the cell.
-fn add_told(touch: &mut Touch, value: &mut Option<Option<i64>>, told: Told) -> bool {
-    if let Some(need) = told.sees {
+fn add_seen(touch: &mut Touch, value: &mut Option<Option<i64>>, seen: Seen) -> bool {
+    if let Some(need) = seen.sees {
         match *value {
             Some(known) => {
                 if (known == need.value) == need.differs {
@@ -137,9 +126,9 @@ fn add_told(touch: &mut Touch, value: &mut Option<Option<i64>>, told: Told) -> b
             }
         }
     }
-    if told.leaves.is_some() {
-        touch.leaves = told.leaves;
-        *value = told.leaves;
+    if seen.leaves.is_some() {
+        touch.leaves = seen.leaves;
+        *value = seen.leaves;
     }
     true
 }
@@ -148,6 +137,7 @@ fn add_told(touch: &mut Touch, value: &mut Option<Option<i64>>, told: Told) -> b
 fn read_touches<A: Allocator + Copy>(
     touches: &mut Vec<Touch, A>,
     uses: &[Use],
+    kind: ObjKind,
 ) -> Result<Option<usize>, OutOfMemory> {
     let mut value = None;
     for found in uses {
@@ -163,12 +153,10 @@ fn read_touches<A: Allocator + Copy>(
             })?;
             value = None;
         }
-        let Some(told) = told_by(found.op, found.answer) else {
-            return Ok(Some(found.row));
-        };
+        let seen = seen_by(part_of(kind, found.key), found.op, found.answer);
         let last = touches.len().wrapping_sub(1);
         if let Some(touch) = touches.get_mut(last) {
-            if !add_told(touch, &mut value, told) {
+            if !add_seen(touch, &mut value, seen) {
                 return Ok(Some(found.row));
             }
         }
@@ -178,21 +166,16 @@ fn read_touches<A: Allocator + Copy>(
 
 /// Adds what the execution tells of the counter. False where it contradicts what its transaction did before.
 fn add_count(count: &mut Count, op: Op, answer: Answer) -> bool {
-    match (op, answer) {
-        (Op::Inc, _) => count.gain = count.gain.wrapping_add(1),
-        (Op::Dec, _) => count.gain = count.gain.wrapping_sub(1),
-        (Op::Plus(amount), _) => count.gain = count.gain.wrapping_add(amount),
-        (_, Answer::Int(value)) => {
-            let Some(need) = value.checked_sub(count.gain) else {
-                return false;
-            };
-            if let Some(known) = count.need {
-                return known == need;
-            }
-            count.need = Some(need);
+    if let Some(found) = count_told(op, answer) {
+        let Some(need) = found.checked_sub(count.gain) else {
+            return false;
+        };
+        match count.need {
+            Some(known) => return known == need,
+            None => count.need = Some(need),
         }
-        _ => return false,
     }
+    count.gain = count.gain.wrapping_add(count_change(op));
     true
 }
 
@@ -333,6 +316,17 @@ fn add_counts<A: Allocator + Copy>(
     add_all_sums(problem, beside, counts, named, opening, &tables)
 }
 
+/// What the execution does to its queue.
+fn deed_of(op: Op, answer: Answer) -> Deed {
+    if let Some(value) = added_item(op) {
+        return Deed::Adds(value);
+    }
+    match taken_item(op, answer) {
+        Some(value) => Deed::Takes(value),
+        None => Deed::SeesEmpty,
+    }
+}
+
 /// The moves of the rows on a queue, and the rows.
 fn read_queue_uses<A: Allocator + Copy>(
     moves: &mut Vec<Move, A>,
@@ -347,11 +341,7 @@ fn read_queue_uses<A: Allocator + Copy>(
         if !is_same {
             rows.push(found.row)?;
         }
-        let deed = match (found.op, found.answer) {
-            (Op::Enq(value), _) => Deed::Adds(value),
-            (_, Answer::Int(value)) => Deed::Takes(value),
-            _ => Deed::SeesEmpty,
-        };
+        let deed = deed_of(found.op, found.answer);
         moves.push(Move {
             place: rows.len().wrapping_sub(1),
             number: short(found.number),
@@ -400,7 +390,7 @@ fn add_values<A: Allocator + Copy>(
         ObjKind::Register => Some(declared.1),
         _ => None,
     };
-    let named = (named.0, cell_of(declared.0, named.1));
+    let named = (named.0, part_of(declared.0, named.1));
     add_cell(alloc, problem, touches, named, opening)
 }
 
@@ -414,7 +404,7 @@ fn add_cell_uses<A: Allocator + Copy>(
     declared: (ObjKind, i64),
 ) -> Result<Option<usize>, OutOfMemory> {
     let mut touches = Vec::new(alloc);
-    let refused = read_touches(&mut touches, uses)?;
+    let refused = read_touches(&mut touches, uses, declared.0)?;
     if refused.is_some() {
         return Ok(refused);
     }
@@ -522,7 +512,7 @@ pub(crate) fn read<A: Allocator + Copy>(
     if let Some(found) = refused {
         let tx = at(&problem.spans, found.row, NOBODY).tx;
         let (kind, _) = declared_as(shape.plan().objects(), found.object);
-        return Ok(Asked::Block(tx, found.object, cell_of(kind, found.key)));
+        return Ok(Asked::Block(tx, found.object, part_of(kind, found.key)));
     }
     if is_large(&problem) {
         return Ok(Asked::Large);

@@ -65,7 +65,7 @@ fn source_of<A: Allocator + Copy>(problem: &Problem<A>, source: u32) -> (Read, O
 fn atom_of<A: Allocator + Copy>(problem: &Problem<A>, variable: usize) -> Atom {
     match at(&problem.variables.roles, variable, Role::Nothing) {
         Role::Nothing => Atom::Kept(0),
-        Role::Pair(row, other) => {
+        Role::Precedence(row, other) => {
             let first = tx_of(problem, row as usize);
             Atom::Before(first, tx_of(problem, other as usize))
         }
@@ -112,6 +112,11 @@ fn law_of<A: Allocator + Copy>(problem: &Problem<A>, cause: Cause) -> Option<Obj
         Cause::Counter(row, object) => Some(ObjectLaw::Sum(SumLaw::Counter(
             tx_of(problem, row as usize),
             object,
+        ))),
+        Cause::Remainder(row, object, modulus) => Some(ObjectLaw::Sum(SumLaw::Remainder(
+            tx_of(problem, row as usize),
+            object,
+            modulus,
         ))),
         Cause::Element(row, object, element) => {
             Some(ObjectLaw::Sum(SumLaw::Element(tx_of(problem, row as usize), object, element)))

@@ -5,9 +5,9 @@ use crate::betweens::{judge_kept, judge_pair, judge_source};
 use crate::bounds::{count_terms, judge_waiting, let_wait, wake_guarded};
 use crate::closure::{Closure, close, close_spans, reopen};
 use crate::draft::{LITERALS, Role, append};
-use crate::grounds::{Sight, pair_of};
-use crate::heap::{Heap, insert, make_heap, take_heaviest};
-use crate::items::{NONE, at, between, neg, set, short, var};
+use crate::grounds::{View, pair_of};
+use crate::heap::{Heap, heaviest, insert, make_heap, take_heaviest};
+use crate::items::{NONE, TRUE, at, between, neg, set, short, var};
 use crate::known::{Clash, Ground, Known, assign, make_room, value};
 use crate::log::{Log, bytes_logged, log_clash, log_end, log_learned, make_log};
 use crate::problem::{Problem, bytes_of};
@@ -21,6 +21,16 @@ use std::alloc::{Allocator, Global};
 
 /// After how many conflicts learned clauses are let go.
 const REDUCED: u64 = 3000;
+
+/// So many levels are too far to go back at once.
+const FAR: u32 = 30;
+
+/// A learned clause that forces its first literal since a lower level than the one at which it was learned.
+#[derive(Clone, Copy)]
+struct Late {
+    clause: u32,
+    level: u32,
+}
 
 /// A search, as far as it is.
 #[derive(Drop)]
@@ -40,6 +50,12 @@ pub(crate) struct Solver<A: Allocator + Copy = Global> {
     best_count: usize,
     pub tries_best: bool,
     reduced: u64,
+    /// How many decisions were made, and how many before the last clash.
+    decisions: u64,
+    clashed: u64,
+    /// How many levels the search goes back, where more would be far.
+    stride: u32,
+    late: Vec<Late, A>,
 }
 
 /// What a search came to.
@@ -76,6 +92,10 @@ pub(crate) fn solver_of<A: Allocator + Copy>(
         best_count: 0,
         tries_best: false,
         reduced: REDUCED,
+        decisions: 0,
+        clashed: 0,
+        stride: 1,
+        late: Vec::new(alloc),
     })
 }
 
@@ -112,7 +132,7 @@ fn last_stamp(spans: &[Span]) -> u32 {
 fn weigh_pairs(roles: &[Role], spans: &[Span], phases: &mut [bool], weights: &mut [f64]) {
     let whole = f64::from(last_stamp(spans)) * 20.0 + 20.0;
     for variable in 1..roles.len() {
-        if let Role::Pair(row, other) = roles[variable] {
+        if let Role::Precedence(row, other) = roles[variable] {
             let one = instant(span_of(spans, row as usize), 15);
             let two = instant(span_of(spans, other as usize), 15);
             set(phases, variable, one < two);
@@ -261,6 +281,31 @@ pub(crate) fn go_back<A: Allocator + Copy>(solver: &mut Solver<A>, level: u32) {
     unassign_from(problem, known, &mut solver.closure, &mut solver.heap, to);
     known.levels.truncate(level as usize);
     let_wait(&mut problem.sums);
+    let kept = force_late(known, &problem.clauses.arena, &mut solver.late, level);
+    solver.late.truncate(kept);
+}
+
+/// What late clauses forced that are of this level or of lower ones they force again. It gives how many these are; they come first.
+fn force_late<A: Allocator + Copy>(
+    known: &mut Known<A>,
+    arena: &[u32],
+    late: &mut [Late],
+    level: u32,
+) -> usize {
+    let mut kept: usize = 0;
+    for place in 0..late.len() {
+        let found = late[place];
+        if found.level > level {
+            continue;
+        }
+        let first = at(arena, (found.clause as usize).wrapping_add(LITERALS), TRUE);
+        if value(&known.values, first) == 0 {
+            assign(known, first, Ground::Clause(found.clause));
+        }
+        set(late, kept, found);
+        kept = kept.wrapping_add(1);
+    }
+    kept
 }
 
 /// Notes the phases of the first literals of the trail, so many, if none longer was noted.
@@ -280,9 +325,9 @@ fn note_best<A: Allocator + Copy>(solver: &mut Solver<A>, count: usize) -> Resul
 }
 
 /// What grounds are read from.
-macro_rules! sight_of {
+macro_rules! view_of {
     ($solver:expr) => {
-        Sight {
+        View {
             values: &$solver.known.values,
             states: &$solver.known.states,
             arena: &$solver.problem.clauses.arena,
@@ -296,11 +341,12 @@ macro_rules! sight_of {
     };
 }
 
-/// Adds the learned clause, and what it forces.
+/// Adds the learned clause, and what it forces since the level.
 fn add_learned<A: Allocator + Copy>(
     solver: &mut Solver<A>,
     levels: u32,
     step: u32,
+    level: u32,
 ) -> Result<(), OutOfMemory> {
     let clauses = &mut solver.problem.clauses;
     let clause = append(
@@ -313,7 +359,12 @@ fn add_learned<A: Allocator + Copy>(
     clauses.learned.push(clause)?;
     watch_both(&mut clauses.arena, &mut clauses.heads, clause);
     let first = at(&solver.analysis.clause, 0, 0);
-    assign(&mut solver.known, first, Ground::Clause(clause));
+    if value(&solver.known.values, first) == 0 {
+        assign(&mut solver.known, first, Ground::Clause(clause));
+    }
+    if level < short(solver.known.levels.len()) {
+        solver.late.push(Late { clause, level })?;
+    }
     Ok(())
 }
 
@@ -323,25 +374,20 @@ fn note_clash<A: Allocator + Copy>(
     clash: Clash,
     is_end: bool,
 ) -> Result<(), OutOfMemory> {
-    let sight = sight_of!(solver);
+    let view = view_of!(solver);
     let literals = &solver.analysis.todo[..];
-    log_clash(&mut solver.log, &sight, clash, literals)?;
+    log_clash(&mut solver.log, &view, clash, literals)?;
     if is_end {
-        log_end(
-            &mut solver.log,
-            &sight,
-            &mut solver.analysis.helps,
-            literals,
-        )?;
+        log_end(&mut solver.log, &view, &mut solver.analysis.helps, literals)?;
     }
     Ok(())
 }
 
 /// Makes a clause of the clash, whose highest level is given; and gives the level at which the clause forces a literal.
 fn make_clause<A: Allocator + Copy>(solver: &mut Solver<A>, top: u32) -> Result<u32, OutOfMemory> {
-    let sight = sight_of!(solver);
+    let view = view_of!(solver);
     let trail = between(&solver.known.trail, 0, solver.known.count);
-    learn(&mut solver.analysis, &mut solver.heap, &sight, trail, top)
+    learn(&mut solver.analysis, &mut solver.heap, &view, trail, top)
 }
 
 /// Writes down what the clause follows from, if that is asked for, and gives the step.
@@ -349,8 +395,24 @@ fn write_clause<A: Allocator + Copy>(solver: &mut Solver<A>) -> Result<u32, OutO
     if !solver.log.is_on {
         return Ok(NONE);
     }
-    let sight = sight_of!(solver);
-    log_learned(&mut solver.log, &sight, &mut solver.analysis)
+    let view = view_of!(solver);
+    log_learned(&mut solver.log, &view, &mut solver.analysis)
+}
+
+/// The level to which the search goes back, where the clause forces a literal from that one on. Where that is far, it is one below the
+/// highest, and further with each clash since the last decision: what was decided between stays.
+fn level_back<A: Allocator + Copy>(solver: &mut Solver<A>, level: u32, top: u32) -> u32 {
+    if solver.decisions > solver.clashed {
+        solver.stride = 1;
+    } else {
+        solver.stride = solver.stride.saturating_mul(2);
+    }
+    solver.clashed = solver.decisions;
+    if top.saturating_sub(level) > FAR {
+        top.saturating_sub(solver.stride).max(level)
+    } else {
+        level
+    }
 }
 
 /// Learns a clause from the clash, whose highest level is given, and goes back to where the clause forces a literal.
@@ -358,14 +420,16 @@ fn learn_clause<A: Allocator + Copy>(solver: &mut Solver<A>, top: u32) -> Result
     let level = make_clause(solver, top)?;
     let levels = count_levels(&mut solver.analysis, &solver.known.states);
     let step = write_clause(solver)?;
-    go_back(solver, level);
-    add_learned(solver, levels, step)
+    let to = level_back(solver, level, top);
+    go_back(solver, to);
+    add_learned(solver, levels, step, level)
 }
 
 /// Lets go of learned clauses, if it is time.
 fn let_go<A: Allocator + Copy>(solver: &mut Solver<A>) -> Result<(), OutOfMemory> {
     if solver.conflicts >= solver.reduced {
         reduce(solver.alloc, &mut solver.problem.clauses, &mut solver.known)?;
+        solver.late.clear();
         solver.reduced = solver.conflicts.saturating_add(REDUCED);
     }
     Ok(())
@@ -373,8 +437,8 @@ fn let_go<A: Allocator + Copy>(solver: &mut Solver<A>) -> Result<(), OutOfMemory
 
 /// Reads what the clash needs, and notes it, if that is asked for or is the end. The highest level of it is given.
 fn read_top<A: Allocator + Copy>(solver: &mut Solver<A>, clash: Clash) -> Result<u32, OutOfMemory> {
-    let sight = sight_of!(solver);
-    let top = read_clash(&mut solver.analysis, &sight, clash)?;
+    let view = view_of!(solver);
+    let top = read_clash(&mut solver.analysis, &view, clash)?;
     if solver.log.is_on || (top == 0 && solver.problem.clauses.learned.is_empty()) {
         note_clash(solver, clash, top == 0)?;
     }
@@ -449,6 +513,7 @@ fn decide<A: Allocator + Copy>(solver: &mut Solver<A>) -> Result<bool, OutOfMemo
         };
         if value(&solver.known.values, variable.wrapping_mul(2)) == 0 {
             let literal = first_literal(solver, variable);
+            solver.decisions = solver.decisions.wrapping_add(1);
             solver.known.levels.push(solver.known.count)?;
             assign(&mut solver.known, literal, Ground::Choice);
             return Ok(true);
@@ -488,8 +553,8 @@ pub(crate) fn begin<A: Allocator + Copy>(solver: &mut Solver<A>) -> Result<bool,
     let Some(clash) = begin_clauses(solver) else {
         return Ok(true);
     };
-    let sight = sight_of!(solver);
-    read_clash(&mut solver.analysis, &sight, clash)?;
+    let view = view_of!(solver);
+    read_clash(&mut solver.analysis, &view, clash)?;
     note_clash(solver, clash, true)?;
     Ok(false)
 }
@@ -514,6 +579,43 @@ fn is_spent<A: Allocator + Copy>(solver: &Solver<A>, bounds: Bounds) -> bool {
         || bytes_held(solver) > bounds.bytes
 }
 
+/// The weight of the variable that would be decided next.
+fn next_weight<A: Allocator + Copy>(heap: &mut Heap<A>, values: &[i8]) -> f64 {
+    for _ in 0..values.len() {
+        let Some(variable) = heaviest(heap) else {
+            break;
+        };
+        if value(values, variable.wrapping_mul(2)) == 0 {
+            return at(&heap.weights, variable as usize, 0.0);
+        }
+        let _taken = take_heaviest(heap);
+    }
+    0.0
+}
+
+/// How many of the first levels would be decided again, as their variables weigh more than the next one.
+fn levels_kept(levels: &[usize], trail: &[u32], weights: &[f64], next: f64) -> u32 {
+    for level in 0..levels.len() {
+        let literal = at(trail, levels[level], TRUE);
+        if at(weights, var(literal), 0.0) < next {
+            return short(level);
+        }
+    }
+    short(levels.len())
+}
+
+/// Goes back to where other variables would be decided now.
+fn begin_again<A: Allocator + Copy>(solver: &mut Solver<A>) {
+    if !solver.assumed.is_empty() {
+        go_back(solver, 0);
+        return;
+    }
+    let next = next_weight(&mut solver.heap, &solver.known.values);
+    let (levels, trail) = (&solver.known.levels[..], &solver.known.trail[..]);
+    let level = levels_kept(levels, trail, &solver.heap.weights, next);
+    go_back(solver, level);
+}
+
 /// Searches within the bounds.
 pub(crate) fn search<A: Allocator + Copy>(
     solver: &mut Solver<A>,
@@ -530,7 +632,7 @@ pub(crate) fn search<A: Allocator + Copy>(
         if is_spent(solver, bounds) {
             let count = solver.known.count;
             note_best(solver, count)?;
-            go_back(solver, 0);
+            begin_again(solver);
             return Ok(Found::Spent);
         }
         if solver.known.levels.is_empty() && !solver.assumed.is_empty() {

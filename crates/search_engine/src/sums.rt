@@ -241,6 +241,46 @@ pub(crate) fn others_of<'a>(starts: &[usize], others: &'a [usize], place: usize)
 /// The greatest sum of amounts that is counted here. The trial of an order still asks for the others.
 const GREATEST: i64 = 1_099_511_627_776;
 
+/// More steps than Euclid's algorithm takes of two i64s.
+const STEPS: usize = 100;
+
+/// The greatest number that divides both, of two that are not negative.
+fn common(one: i64, other: i64) -> i64 {
+    let (mut whole, mut part) = (one, other);
+    for _ in 0..STEPS {
+        let Some(rest) = whole.checked_rem(part) else {
+            break;
+        };
+        whole = part;
+        part = rest;
+    }
+    whole
+}
+
+/// Of the terms the greatest number that divides what each of them adds. It is 0 where there are none.
+fn divisor(terms: &[Term]) -> i64 {
+    let mut divisor: i64 = 0;
+    for term in terms {
+        divisor = common(term.gain.saturating_abs(), divisor);
+    }
+    divisor
+}
+
+/// The cause and what is wanted of a sum of such terms; where they leave another remainder, a sum that is out of reach.
+fn sought(terms: &[Term], cause: Cause, wanted: i64, high: i64) -> (Cause, i64) {
+    let Cause::Counter(row, object) = cause else {
+        return (cause, wanted);
+    };
+    let modulus = divisor(terms);
+    match wanted.checked_rem(modulus) {
+        Some(0) | None => (cause, wanted),
+        Some(_) => (
+            Cause::Remainder(row, object, modulus),
+            high.saturating_add(1),
+        ),
+    }
+}
+
 /// Ends the sum of the terms from the place on. Where it cannot be reached, the bounds say so.
 pub(crate) fn end_sum<A: Allocator + Copy>(
     sums: &mut Sums<A>,
@@ -262,6 +302,8 @@ pub(crate) fn end_sum<A: Allocator + Copy>(
         sums.terms.truncate(from);
         return Ok(());
     }
+    let terms = crate::items::between(&sums.terms, from, sums.terms.len());
+    let (cause, wanted) = sought(terms, cause, wanted, high);
     sums.waiting.push(short(sums.sums.len()))?;
     let to = sums.terms.len();
     sums.sums.push(Sum {
