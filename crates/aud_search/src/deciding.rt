@@ -1,4 +1,4 @@
-//! Whether a history is opaque: by rounds, and then by a search of all prefixes.
+//! Whether a history is opaque: by stages, and then by a search of all prefixes.
 
 ghost use Rattle.std.specs.Prelude.{◌≡◌, IfOk, OnOk, MatchOption};
 ghost use Rattle.aud_order.specs.Shapes.{objects_of, history_of};
@@ -13,9 +13,9 @@ use search_memo::{BOUND, Memo, Order, Unnoted, Unrecorded};
 use search_prefix::{Decided, Outcome, search};
 use std::alloc::Allocator;
 
-/// What is tried for a decision before the search of all prefixes.
+/// A stage of `decide`, which may leave open whether the history is opaque.
 #[derive(Clone, Copy)]
-enum Round {
+enum Stage {
     /// A search by last events that hardly goes back.
     Straight,
     /// A search by last events of so many prefixes.
@@ -24,13 +24,13 @@ enum Round {
     Learning(Effort),
 }
 
-/// A run that is easy is decided by the first search; clause learning decides most others. What it does not decide in some seconds a longer
-/// search may, if the run is small.
-const ROUNDS: [Round; 4] = [
-    Round::Straight,
-    Round::Learning(SHORT),
-    Round::Soon(PREFIXES),
-    Round::Learning(LONG),
+/// The schedule of `decide`. A run that is easy is decided by the first search; clause learning decides most others. What it does not decide
+/// in some seconds a longer search may, if the run is small. After the last stage all prefixes are searched, which ends every question.
+const STAGES: [Stage; 4] = [
+    Stage::Straight,
+    Stage::Learning(SHORT),
+    Stage::Soon(PREFIXES),
+    Stage::Learning(LONG),
 ];
 
 /// Half of the memory is for what searches refute, and half for clauses.
@@ -43,7 +43,7 @@ const SHORT: Effort = Effort {
     bytes: HALF,
 };
 
-/// And of some minutes.
+/// Clause learning of some minutes.
 pub const LONG: Effort = Effort {
     conflicts: 2_000_000,
     looks: 1 << 38,
@@ -61,7 +61,7 @@ pub(crate) fn straight<A: Allocator + Copy>(shape: &Shape<A>) -> u64 {
     FIRST.saturating_add(shape.table().rows().len() as u64)
 }
 
-/// Whether the history is opaque, with a list that shows it where it is. That is so by lists of decisions, and by the letter of
+/// Whether the history is opaque, with an order that shows it where it is. That is so by orders with fates, and by the letter of
 /// Guerraoui and Kapałka (PPoPP 2008).
 pub fn decide<A: Allocator + Copy>(alloc: A, shape: &Shape<A>) -> Result<Decided<A>, OutOfMemory>
     ensures decides { IfOk result (Decides (objects_of shape.now) (history_of shape.now)) }
@@ -69,26 +69,26 @@ pub fn decide<A: Allocator + Copy>(alloc: A, shape: &Shape<A>) -> Result<Decided
 {
     letter_is_opaque();
     let _well_formed = shape.history();
-    decide_by_lists(alloc, shape)
+    decide_by_prefixes(alloc, shape)
 }
 
-/// The same by lists of decisions: by rounds, and then by a search of all prefixes. What a search refuted the next ones remember.
-fn decide_by_lists<A: Allocator + Copy>(
+/// Whether the history is opaque: by stages, and then by a search of all prefixes. What a search refuted the next ones remember.
+fn decide_by_prefixes<A: Allocator + Copy>(
     alloc: A,
     shape: &Shape<A>,
 ) -> Result<Decided<A>, OutOfMemory>
     ensures { IfOk result (Decides (objects_of shape.now) (history_of shape.now)) }
 {
     let mut memo = Memo::new(alloc, shape, Unrecorded, HALF);
-    let decided = decide_by_rounds(alloc, shape, &mut memo)?;
+    let decided = decide_by_stages(alloc, shape, &mut memo)?;
     match decided {
         Some(decided) => Ok(decided),
         None => decide_on(alloc, shape, &mut memo),
     }
 }
 
-/// The same, as far as one of the rounds tells.
-fn decide_by_rounds<'a, A: Allocator + Copy>(
+/// Decides the history, if one of the stages does.
+fn decide_by_stages<'a, A: Allocator + Copy>(
     alloc: A,
     shape: &'a Shape<A>,
     memo: &mut Memo<'a, Unnoted, Unrecorded, A>,
@@ -97,33 +97,33 @@ fn decide_by_rounds<'a, A: Allocator + Copy>(
     ensures decided { IfOk result (λ o. MatchOption o (Unit {0}) (Decides (objects_of shape.now) (history_of shape.now))) }
     ensures shape { OnOk result (memo.new.shape ≡ memo.old.shape) }
 {
-    for round in ROUNDS {
-        if let Some(decided) = decide_in(alloc, shape, round, memo)? {
+    for stage in STAGES {
+        if let Some(decided) = decide_in(alloc, shape, stage, memo)? {
             return Ok(Some(decided));
         }
     }
     Ok(None)
 }
 
-/// The same, as far as the round tells.
+/// Decides the history, if the stage does.
 fn decide_in<'a, A: Allocator + Copy>(
     alloc: A,
     shape: &'a Shape<A>,
-    round: Round,
+    stage: Stage,
     memo: &mut Memo<'a, Unnoted, Unrecorded, A>,
 ) -> Result<Option<Decided<A>>, OutOfMemory>
     requires memo { memo.old.shape ≡ shape.now }
     ensures decided { IfOk result (λ o. MatchOption o (Unit {0}) (Decides (objects_of shape.now) (history_of shape.now))) }
     ensures shape { OnOk result (memo.new.shape ≡ memo.old.shape) }
 {
-    match round {
-        Round::Straight => decide_soon(alloc, shape, straight(shape), memo),
-        Round::Soon(prefixes) => decide_soon(alloc, shape, prefixes, memo),
-        Round::Learning(effort) => decide_by_clauses(alloc, shape, effort),
+    match stage {
+        Stage::Straight => decide_soon(alloc, shape, straight(shape), memo),
+        Stage::Soon(prefixes) => decide_soon(alloc, shape, prefixes, memo),
+        Stage::Learning(effort) => decide_by_clauses(alloc, shape, effort),
     }
 }
 
-/// The same, as far as a search of so many prefixes tells.
+/// Decides the history, if a search of so many prefixes does.
 fn decide_soon<'a, A: Allocator + Copy>(
     alloc: A,
     shape: &'a Shape<A>,
@@ -150,7 +150,7 @@ fn decide_soon<'a, A: Allocator + Copy>(
     }
 }
 
-/// The same by a search of all prefixes, over what is remembered of the shape.
+/// Decides the history by a search of all prefixes, over what is remembered of the shape.
 fn decide_on<'a, A: Allocator + Copy>(
     alloc: A,
     shape: &'a Shape<A>,

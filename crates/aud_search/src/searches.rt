@@ -15,7 +15,7 @@ use search_prefix::{Decided, Outcome, search};
 use std::alloc::{Allocator, Global};
 use std::marker::Model;
 
-/// Where no list shows the history, none that begins with the prefix does.
+/// Where no prefix shows the history, none that begins with the prefix does.
 fn is_refuted_below<A: Allocator + Copy>(
     shape: &Shape<A>,
     prefix: &Prefix<A>,
@@ -41,7 +41,7 @@ fn shared_of<'a, J: Scene, A: Allocator + Copy>(
     }
 }
 
-/// Where the last transaction of the list did its last event.
+/// Where the last transaction of the prefix did its last event.
 fn last_of<A: Allocator + Copy>(shape: &Shape<A>, list: &[Decision]) -> u32 {
     let Some(decision) = list.last() else {
         return 0;
@@ -68,7 +68,7 @@ fn room_of<J: Scene, A: Allocator + Copy>(
 /// Where the prefix is empty, clause learning may take as long as a search of at least so many prefixes.
 const LEAST: u64 = 1 << 16;
 
-/// And where it is not: that was tried of all orders, mostly.
+/// And where it is not: mostly clauses were learned of all orders before.
 const LEAST_BELOW: u64 = 1 << 18;
 
 /// How many prefixes clause learning may at least take as long as.
@@ -94,11 +94,11 @@ fn forget_all<'a, J: Scene, A: Allocator + Copy>(
     *memo = Memo::new(alloc, shape, Sharing { shared }, room);
 }
 
-/// What searches of one history have refuted, for the searches that come after them: a list is not expanded where one of the same
+/// What searches of one history have refuted, for the searches that come after them: a prefix is not expanded where one of the same
 /// transactions and the same states was refuted before. It takes memory as it comes to know more, at most 1 GiB with all that search
 /// beside it and what they share: `shared` says how many these are, and where it is not there nobody else searches.
 #[derive(Drop)]
-pub struct Memory<'a, J: Scene, A: Allocator + Copy = Global> {
+pub struct Session<'a, J: Scene, A: Allocator + Copy = Global> {
     alloc: A,
     shape: &'a Shape<A>,
     shared: Option<&'a Shared<J, A>>,
@@ -108,7 +108,7 @@ pub struct Memory<'a, J: Scene, A: Allocator + Copy = Global> {
     is_refuted: bool,
 }
 
-impl<'a, J: Scene, A: Allocator + Copy> Model for Memory<'a, J, A> {
+impl<'a, J: Scene, A: Allocator + Copy> Model for Session<'a, J, A> {
     ghost use Rattle.std.specs.Prelude.{◌≡◌, true, []};
     ghost use Rattle.aud_witness.specs.Orders.{Refuted};
     ghost use Rattle.aud_order.specs.Shapes.{ShapeOf, objects_of, history_of};
@@ -121,15 +121,15 @@ impl<'a, J: Scene, A: Allocator + Copy> Model for Memory<'a, J, A> {
         × (m.is_refuted ≡ true → Refuted (objects_of m.shape.now) (history_of m.shape.now) []) };
 }
 
-impl<'a, J: Scene, A: Allocator + Copy> Memory<'a, J, A> {
+impl<'a, J: Scene, A: Allocator + Copy> Session<'a, J, A> {
     /// Of nothing. It does not allocate.
-    pub fn new(alloc: A, shape: &'a Shape<A>, shared: Option<&'a Shared<J, A>>) -> Memory<'a, J, A>
+    pub fn new(alloc: A, shape: &'a Shape<A>, shared: Option<&'a Shared<J, A>>) -> Session<'a, J, A>
         requires { shape.now ≡ J.shape }
         ensures { result ≡ shape.entry.now }
     {
         let own = shared_of(shape, shared);
         let room = room_of(shared, own.is_some());
-        Memory {
+        Session {
             alloc,
             shape,
             shared: own,
@@ -140,7 +140,7 @@ impl<'a, J: Scene, A: Allocator + Copy> Memory<'a, J, A> {
         }
     }
 
-    /// By last events. Where others search too, those come after the others that ended before the last of the list did.
+    /// By last events. Where others search too, those come after the others that ended before the last of the prefix did.
     fn by_last(&self, list: &[Decision]) -> Order {
         Order::Last(match self.shared {
             Some(_) => last_of(self.shape, list),
@@ -172,13 +172,13 @@ impl<'a, J: Scene, A: Allocator + Copy> Memory<'a, J, A> {
         }
     }
 
-    /// What a search tells that hardly goes back. There is none where it would take the budget.
+    /// What a search that hardly backtracks finds. It is not made where it would take the budget.
     fn explore_straight(
         &mut self,
         prefix: &Prefix<A>,
         budget: u64,
     ) -> Result<Option<Outcome<A>>, OutOfMemory>
-        ensures told { IfOk result (λ o. MatchOption o (Unit {0}) (Reports (objects_of self.old) (history_of self.old) prefix.now (Some budget))) }
+        ensures reported { IfOk result (λ o. MatchOption o (Unit {0}) (Reports (objects_of self.old) (history_of self.old) prefix.now (Some budget))) }
         ensures shape { self.new ≡ self.old }
     {
         let prefixes = straight(self.shape);
@@ -192,14 +192,14 @@ impl<'a, J: Scene, A: Allocator + Copy> Memory<'a, J, A> {
         }
     }
 
-    /// What clause learning tells of all orders within the budget, if that is more than it ever had: an order is of use where the prefix is empty,
-    /// and a refutation refutes each prefix.
+    /// What clause learning finds of all orders within the budget, if that is more than it ever had: an order is of use where the prefix is
+    /// empty, and a refutation refutes each prefix.
     fn explore_by_clauses(
         &mut self,
         prefix: &Prefix<A>,
         budget: u64,
     ) -> Result<Option<Outcome<A>>, OutOfMemory>
-        ensures told { IfOk result (λ o. MatchOption o (Unit {0}) (Reports (objects_of self.old) (history_of self.old) prefix.now (Some budget))) }
+        ensures reported { IfOk result (λ o. MatchOption o (Unit {0}) (Reports (objects_of self.old) (history_of self.old) prefix.now (Some budget))) }
         ensures shape { self.new ≡ self.old }
     {
         if budget <= self.learnt || budget < least_of(prefix) {
@@ -229,11 +229,11 @@ impl<'a, J: Scene, A: Allocator + Copy> Memory<'a, J, A> {
         if is_refuted_below(self.shape, prefix, self.is_refuted) {
             return Ok(Outcome::Refuted);
         }
-        if let Some(told) = self.explore_straight(prefix, budget)? {
-            return Ok(told);
+        if let Some(outcome) = self.explore_straight(prefix, budget)? {
+            return Ok(outcome);
         }
-        if let Some(told) = self.explore_by_clauses(prefix, budget)? {
-            return Ok(told);
+        if let Some(outcome) = self.explore_by_clauses(prefix, budget)? {
+            return Ok(outcome);
         }
         self.search_below(prefix, budget)
     }

@@ -18,13 +18,13 @@ use Rattle.aud_split.specs.Searched.{IsRefutedBy, HasShown, HasWitness, IsEndedB
 use Rattle.aud_split.specs.Ends.{faulted}
 use Rattle.aud_split.specs.Pools.{AreSettled}
 
--- a cover that has a beginning of each task below a list closes the list
+-- a cover that has a beginning of each task below a prefix closes the prefix
 abbrev pub TasksClose : Type 0
 TasksClose =
     (objects : List Declared) (h : History) (cover : List (List Decision)) (p : List Decision) (depth : ℕ) (tasks : List (List Decision)) →
     AreTasks objects h p depth tasks → ((t : List Decision) → Contains tasks t → IsCovered cover t) → IsClosed objects h cover p
 
--- the cover of the normal form has a beginning of a list exactly where an atom refutes one, and there is a witness in it
+-- the cover of the normal form has a beginning of a prefix exactly where an atom refutes one, and there is a witness in it
 -- exactly where an atom is a witness
 pub record AreKept (atoms : List KnownAtom) : Type 0 where
   pub refuted : (t : List Decision) → IsRefutedBy atoms t ↔ IsCovered (norm_of atoms).cover t

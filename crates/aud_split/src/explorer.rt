@@ -9,7 +9,7 @@ use aud_event::OutOfMemory;
 use aud_know::Item;
 use aud_node::{Fleet, OfferFault, Pass, Running};
 use aud_order::Shape;
-use aud_search::{Memory, Scene, Shared};
+use aud_search::{Scene, Session, Shared};
 use aud_witness::Prefix;
 use node_pool::Work;
 use node_task::find;
@@ -28,7 +28,7 @@ pub(crate) struct Explorer<'a, H: Scene, J: Fleet, S: Wait + Drop> {
     pub ghost named: { shape.now.value ≡ H.shape },
 }
 
-impl<'a, H: Scene, J: Fleet, S: Wait + Drop> Work<Prefix, Pass<J>, Memory<'a, H>>
+impl<'a, H: Scene, J: Fleet, S: Wait + Drop> Work<Prefix, Pass<J>, Session<'a, H>>
     for Explorer<'a, H, J, S> {
     ghost use Rattle.std.specs.Prelude.{◌≡◌};
     ghost use Rattle.aud_order.specs.Shapes.{plan_of};
@@ -36,7 +36,7 @@ impl<'a, H: Scene, J: Fleet, S: Wait + Drop> Work<Prefix, Pass<J>, Memory<'a, H>
     ghost use Rattle.aud_split.specs.Pools.{HasSearched, IsSettled};
     ghost use Rattle.aud_split.specs.Settling.{settled_later, still_at, searched_itself, searched_onward};
 
-    ghost fits = { λ w memory. memory ≡ w.shape.now.value };
+    ghost fits = { λ w session. session ≡ w.shape.now.value };
 
     ghost may_work = { λ w pass. IsAt w.node.now pass × (plan_of w.shape.now.value ≡ w.node.now.plan) };
 
@@ -45,8 +45,8 @@ impl<'a, H: Scene, J: Fleet, S: Wait + Drop> Work<Prefix, Pass<J>, Memory<'a, H>
     ghost grows = { λ w old new. HasSearched w.shape.now.value old new };
 
     // A worker remembers what it refuted below its earlier tasks.
-    fn begin(&self) -> Memory<'a, H> {
-        Memory::new(self.alloc, self.shape, self.shared)
+    fn begin(&self) -> Session<'a, H> {
+        Session::new(self.alloc, self.shape, self.shared)
     }
 
     // A task that the node knows to be refuted is not searched.
@@ -54,7 +54,7 @@ impl<'a, H: Scene, J: Fleet, S: Wait + Drop> Work<Prefix, Pass<J>, Memory<'a, H>
         &self,
         rt: &R,
         pass: &mut Pass<J>,
-        memory: &mut Memory<'a, H>,
+        session: &mut Session<'a, H>,
         task: &Prefix,
     ) -> Result<(), OutOfMemory> {
         let Ok(is_known) = self.node.knows(pass, task) else {
@@ -63,7 +63,7 @@ impl<'a, H: Scene, J: Fleet, S: Wait + Drop> Work<Prefix, Pass<J>, Memory<'a, H>
         if is_known {
             return Ok(());
         }
-        let Some(finding) = find(memory, self.shape, task, self.budget)? else {
+        let Some(finding) = find(session, self.shape, task, self.budget)? else {
             return Ok(());
         };
         match self

@@ -4,12 +4,12 @@ ghost use Rattle.aud_split.specs.Laws.{TasksClose, KnownIsKept, PoolEndsAll, Sea
 
 use std::alloc::Allocator;
 
-/// A cover that has a beginning of each task below a list closes the list.
+/// A cover that has a beginning of each task below a prefix closes the prefix.
 pub fn tasks_close()
     ensures { TasksClose }
 {}
 
-/// The cover of a normal form has a beginning of a list exactly where one of its atoms refutes a beginning of it, and it has a
+/// The cover of a normal form has a beginning of a prefix exactly where one of its atoms refutes a beginning of it, and it has a
 /// witness exactly where one of its atoms is a witness.
 pub fn known_is_kept()
     ensures { KnownIsKept }

@@ -1,4 +1,4 @@
-//! The search below a list of decisions, split into tasks.
+//! The search below a prefix, split into tasks.
 
 ghost use Rattle.std.specs.Prelude.{◌≡◌, [], IfOk, OnOk};
 ghost use Rattle.aud_witness.specs.Orders.{IsGood};
@@ -10,7 +10,7 @@ use aud_order::{Cursor, Shape};
 use aud_witness::{Decision, Prefix, add_copy};
 use std::alloc::Allocator;
 
-/// Adds the tasks below the cursor's list, the least first. The cursor comes back to it.
+/// Adds the tasks below the cursor's prefix, the least first. The cursor comes back to it.
 fn split_here<A: Allocator + Copy>(
     alloc: A,
     cursor: &mut Cursor<A>,
@@ -36,8 +36,8 @@ fn split_here<A: Allocator + Copy>(
     Ok(())
 }
 
-/// The good extensions of the list by `depth` decisions, or by fewer where the extension is full or has no kids, the least
-/// first: the tasks into which the search below the list falls. Of a list that is not good there is none.
+/// The good extensions of the prefix by `depth` decisions, or by fewer where the extension is full or has no kids, the least
+/// first: the tasks into which the search below the prefix falls. Of a prefix that is not good there is none.
 pub fn split<A: Allocator + Copy>(
     alloc: A,
     shape: &Shape<A>,

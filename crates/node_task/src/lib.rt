@@ -7,23 +7,23 @@ ghost use Rattle.node_task.specs.Found.{IsFound};
 use aud_event::{Dup, OutOfMemory};
 use aud_know::Finding;
 use aud_order::Shape;
-use aud_search::{Memory, Outcome, Scene};
+use aud_search::{Outcome, Scene, Session};
 use aud_witness::Prefix;
 use std::sync::Arc;
 
 /// What the search below the task finds of the shape's history: that the task is refuted, or an order that shows the history;
 /// nothing where the budget is spent before either is found. What is refuted on the way the memory keeps for later tasks.
 pub fn find<'a, H: Scene>(
-    memory: &mut Memory<'a, H>,
+    session: &mut Session<'a, H>,
     shape: &Arc<Shape>,
     task: &Prefix,
     budget: u64,
 ) -> Result<Option<Finding>, OutOfMemory>
-    requires { memory.old ≡ shape.now.value }
+    requires { session.old ≡ shape.now.value }
     ensures found { IfOk result (IsFound shape.now.value budget task.now) }
-    ensures memory { memory.new ≡ memory.old }
+    ensures session { session.new ≡ session.old }
 {
-    match memory.explore(task, budget)? {
+    match session.explore(task, budget)? {
         Outcome::Refuted => {
             let shared = Arc::try_clone(shape)?;
             let list = task.dup()?;

@@ -16,7 +16,7 @@ use Rattle.aud_history.proofs.Numbers.{tx-rows}
 use Rattle.aud_witness.specs.declared.decision.Fate.{Fate}
 use Rattle.aud_witness.specs.declared.decision.Fate.TheVariants.{C, A}
 use Rattle.aud_witness.specs.declared.decision.Decision.{Decision}
-use Rattle.aud_witness.specs.Spots.{status_allows}
+use Rattle.aud_witness.specs.Configurations.{status_allows}
 use Rattle.aud_witness.proofs.Bridge.{row-at, status-allowed}
 use Rattle.search_memo.specs.declared.choice.Choice.{Choice}
 use Rattle.aud_order.specs.Silent.{silent_fate}

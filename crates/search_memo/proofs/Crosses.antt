@@ -27,13 +27,13 @@ use denote.Struct.Field as Field
 use Rattle.aud_order.specs.contracts.shape.Shape as Shape
 use Rattle.search_memo.specs.contracts.kept.Finder as Finder
 use Rattle.search_memo.specs.contracts.index.Index as Index
-use Rattle.search_memo.specs.contracts.spots.Spots as Spots
-use Rattle.search_memo.specs.contracts.memo.Lead as Lead
+use Rattle.search_memo.specs.contracts.visited_set.VisitedSet as VisitedSet
+use Rattle.search_memo.specs.contracts.memo.Transition as Transition
 use Rattle.search_memo.proofs.kept.Finder.TheSendSync as finder
 use Rattle.search_memo.proofs.index.Index.TheSendSync as index
-use Rattle.search_memo.proofs.memo.Lead.TheSendSync as lead
+use Rattle.search_memo.proofs.memo.Transition.TheSendSync as transition
 use Rattle.search_memo.proofs.recorder.Unnoted.TheSendSync as unnoted
-use Rattle.search_memo.proofs.spots.Spots.TheSendSync as spots
+use Rattle.search_memo.proofs.visited_set.VisitedSet.TheSendSync as visited
 
 module _ (J A : RattleType) (s : scene.Ghosts J.Denot) (g : alloc.Ghosts A.Denot) where
   refutation_send : IsSend A → IsSync A → Frees g g.dealloc_token → IsSend (Refutation.the_row J A s g)
@@ -61,8 +61,8 @@ module _ (κ : NamedLft) (A : RattleType) (g : alloc.Ghosts A.Denot) (c : clone.
   index_send : IsSend A → IsSync A → Frees g g.dealloc_token → IsSend (Index.the_field A g).row
   index_send sa ya f = search (index.the_field_send, sendable) depth 60 fits 20000
 
-  spots_send : IsSend A → IsSync A → Frees g g.dealloc_token → IsSend (Spots.the_field A g).row
-  spots_send sa ya f = search (spots.the_send, sendable) depth 60 fits 20000
+  visited_send : IsSend A → IsSync A → Frees g g.dealloc_token → IsSend (VisitedSet.the_field A g).row
+  visited_send sa ya f = search (visited.the_send, sendable) depth 60 fits 20000
 
   pub shape_shared : IsSend A → IsSync A → Frees g g.dealloc_token → IsSend (Field.shr_ref_field κ (Shape.the_row A g c) tt).row
   shape_shared sa ya f = search (shape_sync, sendable) depth 60 fits 20000
@@ -78,9 +78,9 @@ module _ (κ : NamedLft) (A : RattleType) (g : alloc.Ghosts A.Denot) (c : clone.
       let shape = shape_shared sa ya f in
       let kept = vec_send (Kept.the_row A g) (kept_send sa ya f) sa ya f in
       let finder = finder_send sa ya f in
-      let leads = vec_send Lead.the_row lead.the_send sa ya f in
+      let transitions = vec_send Transition.the_row transition.the_send sa ya f in
       let index = index_send sa ya f in
-      let spots = spots_send sa ya f in
+      let visited = visited_send sa ya f in
       let notes = vec_send N sn sa ya f in
       let seen = vec_send (Option.the_row (Seen.the_row A g)) (seen_at_send sa ya f) sa ya f in
       search sendable depth 60 fits 20000

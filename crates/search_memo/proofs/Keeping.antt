@@ -103,13 +103,13 @@ way-back h ks at last d kept step cost way more inside is behind before grown kn
     known inside states (ap (λ l. run_way h l (reverse way)) own ∙ rest)
 
 -- where the blocks lead from whole states that a way begins with
-pub leads-way : {A : Type 0} (h : History) (ks : List (Kept A)) (first last : ℕ) (d kept : Kept A) (way : List ℕ) (states : List ObjState) → first < length ks → kept ≡ get_or ks first d → LeadsFrom h kept way states → IsWay h (states_of h ks) first way last →
+pub transitions-way : {A : Type 0} (h : History) (ks : List (Kept A)) (first last : ℕ) (d kept : Kept A) (way : List ℕ) (states : List ObjState) → first < length ks → kept ≡ get_or ks first d → LeadsFrom h kept way states → IsWay h (states_of h ks) first way last →
     slice_get (states_of h ks) last ≡ Some states
-leads-way h ks first last d (Whole s) way states inside is leads known =
+transitions-way h ks first last d (Whole s) way states inside is transitions known =
     let own : get_or (states_of h ks) first [] ≡ s.now =
     get_or_from_slice_get (states_of h ks) first s.now [] (states-at h ks first d inside ∙ ap (λ (x : Kept _). Some (state_from h (take first (states_of h ks)) x)) (sym is)) in
-    known states (ap (λ l. run_way h l way) own ∙ leads)
-leads-way h ks first last d (After step cost) way states inside is leads known = absurd leads
+    known states (ap (λ l. run_way h l way) own ∙ transitions)
+transitions-way h ks first last d (After step cost) way states inside is transitions known = absurd transitions
 
 -- an element is put where it was
 pub put-itself : {X : Type 0} (xs : List X) (i : ℕ) (x y : X) → x ≡ get_or xs i x → y ≡ x → set xs i y ≡ xs

@@ -25,12 +25,12 @@ use Rattle.aud_order.specs.Silent.{silent_fate}
 use Rattle.aud_order.proofs.Lists.{take-push}
 use Rattle.aud_order.proofs.Moves.{shown-same, step-states}
 use Rattle.search_memo.specs.declared.choice.Choice.{Choice}
-use Rattle.search_memo.specs.declared.memo.Lead.{Lead}
+use Rattle.search_memo.specs.declared.memo.Transition.{Transition}
 use Rattle.search_memo.specs.declared.memo.Seen.{Seen}
 use Rattle.search_memo.specs.Known.{IsKnown, IsKnownOf}
 use Rattle.search_memo.specs.Kept.{IsMoreOf, LeadsTo}
-use Rattle.search_memo.specs.Spots.{EntryOf, AreWith, IsKeptAs}
-use Rattle.search_memo.specs.Memos.{MemoOf, states_reached, Names, NameWay, IsDead, IsLead, IsTrueMemo, AreSeen, IsGrown, IsFurther, IsStep, IsNext, IsAfter}
+use Rattle.search_memo.specs.Visited.{EntryOf, AreWith, IsKeptAs}
+use Rattle.search_memo.specs.Memos.{MemoOf, states_reached, Names, NameWay, IsDead, IsTransition, IsTrueMemo, AreSeen, IsGrown, IsFurther, IsStep, IsNext, IsAfter}
 use Rattle.search_memo.specs.Recorders.{IsNotedAlike}
 use Rattle.search_memo.proofs.Refuting.{next-shown}
 
@@ -86,36 +86,36 @@ way-back shape all n last below less p way is =
 pub no-first : {X : Type 0} (k : ℕ) (x : X) → slice_get [] k ≡ Some x → ⊥
 no-first k x at = absurd (cc)
 
-pub true-none : {N : Type 0} (shape : ShapeOf) (all : List (List ObjState)) (noted : N → List Decision → Type 0) (entries : List EntryOf) (notes : List N) (leads : List Lead) → entries ≡ [] → notes ≡ [] → leads ≡ [] →
-    IsTrueMemo shape all noted entries notes leads
-true-none shape all noted entries notes leads none unnoted empty = record {
+pub true-none : {N : Type 0} (shape : ShapeOf) (all : List (List ObjState)) (noted : N → List Decision → Type 0) (entries : List EntryOf) (notes : List N) (transitions : List Transition) → entries ≡ [] → notes ≡ [] → transitions ≡ [] →
+    IsTrueMemo shape all noted entries notes transitions
+true-none shape all noted entries notes transitions none unnoted empty = record {
   even = ap length unnoted ∙ sym (ap length none);
   dead = λ k e there. let clash : slice_get [] k ≡ Some e = ap (λ (l : List EntryOf). slice_get l k) (sym none) ∙ there in absurd (no-first k e clash);
-  true_leads = λ e there. let (k, inside, is) = subst (λ (l : List Lead). Contains l e) empty there in absurd (omega arith);
+  true_transitions = λ e there. let (k, inside, is) = subst (λ (l : List Transition). Contains l e) empty there in absurd (omega arith);
 }
 
-true-more : {N : Type 0} (shape : ShapeOf) (all more : List (List ObjState)) (noted : N → List Decision → Type 0) (entries : List EntryOf) (notes : List N) (leads : List Lead) → IsTrueMemo shape all noted entries notes leads →
-    IsTrueMemo shape (all ++ more) noted entries notes leads
-true-more shape all more noted entries notes leads sound = record {
+true-more : {N : Type 0} (shape : ShapeOf) (all more : List (List ObjState)) (noted : N → List Decision → Type 0) (entries : List EntryOf) (notes : List N) (transitions : List Transition) → IsTrueMemo shape all noted entries notes transitions →
+    IsTrueMemo shape (all ++ more) noted entries notes transitions
+true-more shape all more noted entries notes transitions sound = record {
   even = sound.even;
   dead = λ k e there. let (note, (at, d)) = sound.dead k e there in
       (note, (at, record { path = d.path; good = d.good; refuted = d.refuted; placed = d.placed; states = get-front all more e.states (states_reached shape d.path) d.states; noted = d.noted }));
-  true_leads = λ l there. let t = sound.true_leads l there in record { before = t.before; after = t.after; from = get-front all more l.from t.before t.from; to = get-front all more l.to t.after t.to; runs = t.runs };
+  true_transitions = λ l there. let t = sound.true_transitions l there in record { before = t.before; after = t.after; from = get-front all more l.from t.before t.from; to = get-front all more l.to t.after t.to; runs = t.runs };
 }
 
 -- once states came after the others
-pub true-states : {N : Type 0} (shape : ShapeOf) (old new : List (List ObjState)) (noted : N → List Decision → Type 0) (entries : List EntryOf) (notes : List N) (leads : List Lead) → IsMoreOf old new → IsTrueMemo shape old noted entries notes leads →
-    IsTrueMemo shape new noted entries notes leads
-true-states shape old new noted entries notes leads (more, grown) sound = subst (λ l. IsTrueMemo shape l noted entries notes leads) (sym grown) (true-more shape old more noted entries notes leads sound)
+pub true-states : {N : Type 0} (shape : ShapeOf) (old new : List (List ObjState)) (noted : N → List Decision → Type 0) (entries : List EntryOf) (notes : List N) (transitions : List Transition) → IsMoreOf old new → IsTrueMemo shape old noted entries notes transitions →
+    IsTrueMemo shape new noted entries notes transitions
+true-states shape old new noted entries notes transitions (more, grown) sound = subst (λ l. IsTrueMemo shape l noted entries notes transitions) (sym grown) (true-more shape old more noted entries notes transitions sound)
 
 -- once the recorder heard of more
-pub true-noted : {N : Type 0} (shape : ShapeOf) (all : List (List ObjState)) (old new : N → List Decision → Type 0) (entries : List EntryOf) (notes : List N) (leads : List Lead) → ((note : N) (p : List Decision) → old note p → new note p) →
-    IsTrueMemo shape all old entries notes leads → IsTrueMemo shape all new entries notes leads
-true-noted shape all old new entries notes leads stays sound = record {
+pub true-noted : {N : Type 0} (shape : ShapeOf) (all : List (List ObjState)) (old new : N → List Decision → Type 0) (entries : List EntryOf) (notes : List N) (transitions : List Transition) → ((note : N) (p : List Decision) → old note p → new note p) →
+    IsTrueMemo shape all old entries notes transitions → IsTrueMemo shape all new entries notes transitions
+true-noted shape all old new entries notes transitions stays sound = record {
   even = sound.even;
   dead = λ k e there. let (note, (at, d)) = sound.dead k e there in
       (note, (at, record { path = d.path; good = d.good; refuted = d.refuted; placed = d.placed; states = d.states; noted = stays note d.path d.noted }));
-  true_leads = sound.true_leads;
+  true_transitions = sound.true_transitions;
 }
 
 -- what others may have stays right
@@ -135,11 +135,11 @@ pub grown-itself : {V : Type 0} (m : MemoOf V) → IsGrown m m
 grown-itself m = record { shape = refl; more = []; states = sym (append-nil m.states); recorder = refl }
 
 -- once the entries are forgotten
-pub true-forgotten : {N : Type 0} (shape : ShapeOf) (all : List (List ObjState)) (noted : N → List Decision → Type 0) (old new : List EntryOf) (notes left : List N) (leads : List Lead) → new ≡ [] → left ≡ [] → IsTrueMemo shape all noted old notes leads →
-    IsTrueMemo shape all noted new left leads
-true-forgotten shape all noted old new notes left leads none unnoted sound =
+pub true-forgotten : {N : Type 0} (shape : ShapeOf) (all : List (List ObjState)) (noted : N → List Decision → Type 0) (old new : List EntryOf) (notes left : List N) (transitions : List Transition) → new ≡ [] → left ≡ [] → IsTrueMemo shape all noted old notes transitions →
+    IsTrueMemo shape all noted new left transitions
+true-forgotten shape all noted old new notes left transitions none unnoted sound =
     let fresh = true-none shape all noted new left [] none unnoted refl in
-    record { even = fresh.even; dead = fresh.dead; true_leads = sound.true_leads }
+    record { even = fresh.even; dead = fresh.dead; true_transitions = sound.true_transitions }
 
 get-later : {X : Type 0} (xs : List X) (g k : ℕ) → slice_get (drop g xs) k ≡ slice_get xs (g + k)
 get-later xs zero k = let same : k ≡ 0 + k = omega arith in ap (slice_get xs) same
@@ -147,15 +147,15 @@ get-later [] (suc g) k = refl
 get-later (x ∷ xs) (suc g) k = let up : suc (g + k) ≡ suc g + k = omega arith in get-later xs g k ∙ ap (slice_get (x ∷ xs)) up
 
 -- once the first so many entries are forgotten with their notes
-pub true-fewer : {N : Type 0} (shape : ShapeOf) (all : List (List ObjState)) (noted : N → List Decision → Type 0) (old new : List EntryOf) (notes left : List N) (leads : List Lead) (g : ℕ) → new ≡ drop g old → left ≡ drop g notes →
-    IsTrueMemo shape all noted old notes leads → IsTrueMemo shape all noted new left leads
-true-fewer shape all noted old new notes left leads g fewer less sound = record {
+pub true-fewer : {N : Type 0} (shape : ShapeOf) (all : List (List ObjState)) (noted : N → List Decision → Type 0) (old new : List EntryOf) (notes left : List N) (transitions : List Transition) (g : ℕ) → new ≡ drop g old → left ≡ drop g notes →
+    IsTrueMemo shape all noted old notes transitions → IsTrueMemo shape all noted new left transitions
+true-fewer shape all noted old new notes left transitions g fewer less sound = record {
   even = ap length less ∙ length-drop g notes ∙ ap (λ n. n - g) sound.even ∙ sym (ap length fewer ∙ length-drop g old);
   dead = λ k e there.
       let at : slice_get old (g + k) ≡ Some e = sym (get-later old g k) ∙ ap (λ (l : List EntryOf). slice_get l k) (sym fewer) ∙ there in
       let (note, (known, dead)) = sound.dead (g + k) e at in
       (note, (ap (λ (l : List _). slice_get l k) less ∙ get-later notes g k ∙ known, dead));
-  true_leads = sound.true_leads;
+  true_transitions = sound.true_transitions;
 }
 
 -- what stands in a list with one after it
@@ -186,7 +186,7 @@ pub seen-push : {A : Type 0} (all : List (List ObjState)) (old new : List (Optio
 seen-push all old new last n states true is place named own sound = subst (λ l. AreSeen all l) (sym is) (seen-with all old last n states place named own sound)
 seen-push all old new last n states false is place named own sound = subst (λ l. AreSeen all l) (sym is) sound
 
--- the refuted list that the cursor stands at, as others may know of it
+-- the refuted prefix that the cursor stands at, as others may know of it
 pub known-here : {A : Type 0} (is_for : ShapeOf → Type 0) (P : List Decision → Type 0) (shape : ShapeOf) (all : List (List ObjState)) (seen : List (Option (Seen A))) (n : ℕ) (s : Seen A) (at : CursorOf) (placed : List Bool) → shape ≡ at.shape → is_for shape →
     AreSeen all seen → slice_get seen n ≡ Some (Some s) → IsGood (objects_of at.shape) (history_of at.shape) at.path → Refuted (objects_of at.shape) (history_of at.shape) at.path → placed ≡ map (is_named at.path) (transactions (history_of at.shape)) →
     Names all (Some n) (states_reached at.shape at.path) → P at.path → IsKnownOf is_for P s.states.value.now placed
@@ -198,7 +198,7 @@ known-here is_for P shape all seen n s at placed same own sound there good refut
   ),
 )
 
--- a refuted list that others know of is one of which an entry might be there
+-- a refuted prefix that others know of is one of which an entry might be there
 pub known-dead : {A : Type 0} (P : List Decision → Type 0) (shape : ShapeOf) (all : List (List ObjState)) (seen : List (Option (Seen A))) (n : ℕ) (s : Seen A) (placed : List Bool) → AreSeen all seen → slice_get seen n ≡ Some (Some s) →
     IsKnown shape P s.states.value.now placed → IsDead shape all P (record { placed = placed; states = n })
 known-dead P shape all seen n s placed sound there k =
@@ -209,9 +209,9 @@ last-there [] x = refl
 last-there (z ∷ xs) x = last-there xs x
 
 -- once an entry came, and its note
-pub true-entry : {N : Type 0} (shape : ShapeOf) (all : List (List ObjState)) (noted : N → List Decision → Type 0) (old new : List EntryOf) (notes more : List N) (leads : List Lead) (e : EntryOf) (note : N) → IsKeptAs old new e true → more ≡ notes ++ note ∷ [] →
-    IsDead shape all (noted note) e → IsTrueMemo shape all noted old notes leads → IsTrueMemo shape all noted new more leads
-true-entry shape all noted old new notes more leads e note kept grown dead sound = record {
+pub true-entry : {N : Type 0} (shape : ShapeOf) (all : List (List ObjState)) (noted : N → List Decision → Type 0) (old new : List EntryOf) (notes more : List N) (transitions : List Transition) (e : EntryOf) (note : N) → IsKeptAs old new e true → more ≡ notes ++ note ∷ [] →
+    IsDead shape all (noted note) e → IsTrueMemo shape all noted old notes transitions → IsTrueMemo shape all noted new more transitions
+true-entry shape all noted old new notes more transitions e note kept grown dead sound = record {
   even = ap length grown ∙ length-append notes (note ∷ []) ∙ ap (λ n. n + 1) sound.even ∙ sym (ap length kept ∙ length-append old (e ∷ []));
   dead = λ k x there. elim (last-at old e x k (ap (λ (l : List EntryOf). slice_get l k) (sym kept) ∙ there)) [
     | inl earlier ↦ let (n, (at, d)) = sound.dead k x earlier in (n, (ap (λ (l : List _). slice_get l k) grown ∙ get-front notes (note ∷ []) k n at, d))
@@ -223,37 +223,37 @@ true-entry shape all noted old new notes more leads e note kept grown dead sound
       ),
     )
   ];
-  true_leads = sound.true_leads;
+  true_transitions = sound.true_transitions;
 }
 
 -- once one was not kept
-pub true-unkept : {N : Type 0} (shape : ShapeOf) (all : List (List ObjState)) (noted : N → List Decision → Type 0) (old new : List EntryOf) (notes same : List N) (leads : List Lead) → new ≡ old → same ≡ notes → IsTrueMemo shape all noted old notes leads →
-    IsTrueMemo shape all noted new same leads
-true-unkept shape all noted old new notes same leads is stays sound =
-    subst (λ l. IsTrueMemo shape all noted l same leads) (sym is) (subst (λ l. IsTrueMemo shape all noted old l leads) (sym stays) sound)
+pub true-unkept : {N : Type 0} (shape : ShapeOf) (all : List (List ObjState)) (noted : N → List Decision → Type 0) (old new : List EntryOf) (notes same : List N) (transitions : List Transition) → new ≡ old → same ≡ notes → IsTrueMemo shape all noted old notes transitions →
+    IsTrueMemo shape all noted new same transitions
+true-unkept shape all noted old new notes same transitions is stays sound =
+    subst (λ l. IsTrueMemo shape all noted l same transitions) (sym is) (subst (λ l. IsTrueMemo shape all noted old l transitions) (sym stays) sound)
 
--- once a lead came
-pub true-lead : {N : Type 0} (shape : ShapeOf) (all : List (List ObjState)) (noted : N → List Decision → Type 0) (entries : List EntryOf) (notes : List N) (old new : List Lead) (l : Lead) → AreWith old new l → IsLead shape all l →
+-- once a transition came
+pub true-transition : {N : Type 0} (shape : ShapeOf) (all : List (List ObjState)) (noted : N → List Decision → Type 0) (entries : List EntryOf) (notes : List N) (old new : List Transition) (l : Transition) → AreWith old new l → IsTransition shape all l →
     IsTrueMemo shape all noted entries notes old → IsTrueMemo shape all noted entries notes new
-true-lead shape all noted entries notes old new l with lead sound = record {
+true-transition shape all noted entries notes old new l with transition sound = record {
   even = sound.even;
   dead = sound.dead;
-  true_leads = λ x there. elim (with x there) [ inl earlier ↦ sound.true_leads x earlier | inr same ↦ subst (λ (y : Lead). IsLead shape all y) (sym same) lead ];
+  true_transitions = λ x there. elim (with x there) [ inl earlier ↦ sound.true_transitions x earlier | inr same ↦ subst (λ (y : Transition). IsTransition shape all y) (sym same) transition ];
 }
 
 -- the note of an entry, where it is looked for
-pub note-of : {N : Type 0} (shape : ShapeOf) (all : List (List ObjState)) (noted : N → List Decision → Type 0) (entries : List EntryOf) (notes : List N) (leads : List Lead) (k : ℕ) (e : EntryOf) (o : Option N) (Q : N → Type 0) → IsTrueMemo shape all noted entries notes leads →
+pub note-of : {N : Type 0} (shape : ShapeOf) (all : List (List ObjState)) (noted : N → List Decision → Type 0) (entries : List EntryOf) (notes : List N) (transitions : List Transition) (k : ℕ) (e : EntryOf) (o : Option N) (Q : N → Type 0) → IsTrueMemo shape all noted entries notes transitions →
     slice_get entries k ≡ Some e → o ≡ slice_get notes k → ((note : N) → IsDead shape all (noted note) e → Q note) → IfSome o Q
-note-of shape all noted entries notes leads k e o Q sound there is each =
+note-of shape all noted entries notes transitions k e o Q sound there is each =
     let (note, (at, dead)) = sound.dead k e there in subst (λ (x : Option _). IfSome x Q) (sym (is ∙ at)) (each note dead)
 
 -- # Steps
 
 -- what the step's choice does to the states
-leads-on : {V : Type 0} (memo : MemoOf V) (n : ℕ) (c : Choice) (at : CursorOf) → IsWellFormed (history_of at.shape) → IsWithinLimits (plan_of at.shape) (history_of at.shape) → IsGood (objects_of at.shape) (history_of at.shape) at.path → (s : IsStep memo (Some n) c at) →
+transitions-on : {V : Type 0} (memo : MemoOf V) (n : ℕ) (c : Choice) (at : CursorOf) → IsWellFormed (history_of at.shape) → IsWithinLimits (plan_of at.shape) (history_of at.shape) → IsGood (objects_of at.shape) (history_of at.shape) at.path → (s : IsStep memo (Some n) c at) →
     (c.decision.fate ≡ C → replayed (states_reached at.shape s.path) (row_of (history_of at.shape) c.decision.tx).block ≡ Some (states_reached at.shape at.path))
     × ((c.decision.fate ≡ A) ⊎ (silent_fate (history_of at.shape) c.decision.tx ≡ Some c.decision.fate) → states_reached at.shape at.path ≡ states_reached at.shape s.path)
-leads-on memo n c at fine within good s =
+transitions-on memo n c at fine within good s =
     let both = step-states (plan_of at.shape) (history_of at.shape) s.path c.decision fine within (subst (λ l. IsGood (objects_of at.shape) (history_of at.shape) l) s.on good) in (
       (λ commits. both.0 commits ∙ ap (λ l. Some (states_reached at.shape l)) (sym s.on)),
       (λ leaves. ap (states_reached at.shape) s.on ∙ both.1 leaves),
@@ -262,23 +262,23 @@ leads-on memo n c at fine within good s =
 -- a choice that leaves the states leaves their number
 pub step-stays : {V : Type 0} (memo : MemoOf V) (n : ℕ) (c : Choice) (at : CursorOf) → IsWellFormed (history_of at.shape) → IsWithinLimits (plan_of at.shape) (history_of at.shape) → IsGood (objects_of at.shape) (history_of at.shape) at.path → (s : IsStep memo (Some n) c at) →
     (c.decision.fate ≡ A) ⊎ (silent_fate (history_of at.shape) c.decision.tx ≡ Some c.decision.fate) → Names memo.states (Some n) (states_reached at.shape at.path)
-step-stays memo n c at fine within good s leaves = s.names ∙ ap (λ l. Some l) (sym ((leads-on memo n c at fine within good s).1 leaves))
+step-stays memo n c at fine within good s leaves = s.names ∙ ap (λ l. Some l) (sym ((transitions-on memo n c at fine within good s).1 leaves))
 
--- a lead that is known leads there
+-- a transition that is known leads there
 pub step-known : {V : Type 0} (memo : MemoOf V) (n to : ℕ) (c : Choice) (at : CursorOf) → IsWellFormed (history_of at.shape) → IsWithinLimits (plan_of at.shape) (history_of at.shape) → IsGood (objects_of at.shape) (history_of at.shape) at.path → (s : IsStep memo (Some n) c at) →
-    c.decision.fate ≡ C → IsLead memo.shape memo.states (record { from = n; tx = c.decision.tx; to = to }) → Names memo.states (Some to) (states_reached at.shape at.path)
-step-known memo n to c at fine within good s commits lead =
-    let ran = (leads-on memo n c at fine within good s).0 commits in
-    let first : lead.before ≡ states_reached at.shape s.path = one-at lead.before (states_reached at.shape s.path) (slice_get memo.states n) lead.from s.names in
-    let own : replayed (states_reached at.shape s.path) (row_of (history_of at.shape) c.decision.tx).block ≡ Some lead.after =
-    ap (λ (x : ShapeOf). replayed (states_reached at.shape s.path) (row_of (history_of x) c.decision.tx).block) (sym s.shape) ∙ ap (λ l. replayed l (row_of (history_of memo.shape) c.decision.tx).block) (sym first) ∙ lead.runs in
-    lead.to ∙ ap (λ l. Some l) (one-at lead.after (states_reached at.shape at.path) (replayed (states_reached at.shape s.path) (row_of (history_of at.shape) c.decision.tx).block) own ran)
+    c.decision.fate ≡ C → IsTransition memo.shape memo.states (record { from = n; tx = c.decision.tx; to = to }) → Names memo.states (Some to) (states_reached at.shape at.path)
+step-known memo n to c at fine within good s commits transition =
+    let ran = (transitions-on memo n c at fine within good s).0 commits in
+    let first : transition.before ≡ states_reached at.shape s.path = one-at transition.before (states_reached at.shape s.path) (slice_get memo.states n) transition.from s.names in
+    let own : replayed (states_reached at.shape s.path) (row_of (history_of at.shape) c.decision.tx).block ≡ Some transition.after =
+    ap (λ (x : ShapeOf). replayed (states_reached at.shape s.path) (row_of (history_of x) c.decision.tx).block) (sym s.shape) ∙ ap (λ l. replayed l (row_of (history_of memo.shape) c.decision.tx).block) (sym first) ∙ transition.runs in
+    transition.to ∙ ap (λ l. Some l) (one-at transition.after (states_reached at.shape at.path) (replayed (states_reached at.shape s.path) (row_of (history_of at.shape) c.decision.tx).block) own ran)
 
--- a step makes a lead
-pub step-lead : {V : Type 0} (memo new : MemoOf V) (n to : ℕ) (c : Choice) (at : CursorOf) → IsWellFormed (history_of at.shape) → IsWithinLimits (plan_of at.shape) (history_of at.shape) → IsGood (objects_of at.shape) (history_of at.shape) at.path → (s : IsStep memo (Some n) c at) →
-    c.decision.fate ≡ C → IsGrown memo new → Names new.states (Some to) (states_reached at.shape at.path) → IsLead new.shape new.states (record { from = n; tx = c.decision.tx; to = to })
-step-lead memo new n to c at fine within good s commits grown names =
-    let ran = (leads-on memo n c at fine within good s).0 commits in
+-- a step makes a transition
+pub step-transition : {V : Type 0} (memo new : MemoOf V) (n to : ℕ) (c : Choice) (at : CursorOf) → IsWellFormed (history_of at.shape) → IsWithinLimits (plan_of at.shape) (history_of at.shape) → IsGood (objects_of at.shape) (history_of at.shape) at.path → (s : IsStep memo (Some n) c at) →
+    c.decision.fate ≡ C → IsGrown memo new → Names new.states (Some to) (states_reached at.shape at.path) → IsTransition new.shape new.states (record { from = n; tx = c.decision.tx; to = to })
+step-transition memo new n to c at fine within good s commits grown names =
+    let ran = (transitions-on memo n c at fine within good s).0 commits in
     let same : at.shape ≡ new.shape = sym (grown.shape ∙ s.shape) in record {
       before = states_reached at.shape s.path;
       after = states_reached at.shape at.path;
@@ -292,22 +292,22 @@ pub after-names : {V : Type 0} (memo : MemoOf V) (n to : ℕ) (c : Choice) (at :
     IsAfter memo n c to → Names memo.states (Some to) (states_reached at.shape at.path)
 after-names memo n to c at fine within good s (inl (inl aborts, same)) = subst (λ m. Names memo.states (Some m) (states_reached at.shape at.path)) (sym same) (step-stays memo n c at fine within good s (inl aborts))
 after-names memo n to c at fine within good s (inl (inr quiet, same)) = subst (λ m. Names memo.states (Some m) (states_reached at.shape at.path)) (sym same) (step-stays memo n c at fine within good s (inr (s.silent quiet)))
-after-names memo n to c at fine within good s (inr (commits, lead)) = step-known memo n to c at fine within good s commits lead
+after-names memo n to c at fine within good s (inr (commits, transition)) = step-known memo n to c at fine within good s commits transition
 
 -- the block of a step leads to the states there
-pub step-leads : {V : Type 0} (memo : MemoOf V) (n : ℕ) (c : Choice) (at : CursorOf) → IsWellFormed (history_of at.shape) → IsWithinLimits (plan_of at.shape) (history_of at.shape) → IsGood (objects_of at.shape) (history_of at.shape) at.path → (s : IsStep memo (Some n) c at) →
+pub step-transitions : {V : Type 0} (memo : MemoOf V) (n : ℕ) (c : Choice) (at : CursorOf) → IsWellFormed (history_of at.shape) → IsWithinLimits (plan_of at.shape) (history_of at.shape) → IsGood (objects_of at.shape) (history_of at.shape) at.path → (s : IsStep memo (Some n) c at) →
     c.decision.fate ≡ C → LeadsTo (history_of memo.shape) memo.states (Some (record { from = n; tx = c.decision.tx })) (states_reached at.shape at.path)
-step-leads memo n c at fine within good s commits = (
+step-transitions memo n c at fine within good s commits = (
   states_reached at.shape s.path,
   (
     s.names,
-    ap (λ (x : ShapeOf). replayed (states_reached at.shape s.path) (row_of (history_of x) c.decision.tx).block) s.shape ∙ (leads-on memo n c at fine within good s).0 commits,
+    ap (λ (x : ShapeOf). replayed (states_reached at.shape s.path) (row_of (history_of x) c.decision.tx).block) s.shape ∙ (transitions-on memo n c at fine within good s).0 commits,
   ),
 )
 
 -- # Refuted lists
 
--- the entry of a refuted list
+-- the entry of a refuted prefix
 pub dead-here : (shape : ShapeOf) (all : List (List ObjState)) (P : List Decision → Type 0) (placed : List Bool) (n : ℕ) (at : CursorOf) → shape ≡ at.shape → IsGood (objects_of at.shape) (history_of at.shape) at.path → Refuted (objects_of at.shape) (history_of at.shape) at.path →
     placed ≡ map (is_named at.path) (transactions (history_of at.shape)) → Names all (Some n) (states_reached at.shape at.path) → P at.path → IsDead shape all P (record { placed = placed; states = n })
 dead-here shape all P placed n at same good refuted is names noted =
@@ -372,26 +372,26 @@ further at d = record { shape = at.shape; path = at.path ++ d ∷ [] }
 -- where a choice leads that is good
 next-names : {V : Type 0} (memo : MemoOf V) (n after : ℕ) (c : Choice) (at : CursorOf) → IsWellFormed (history_of at.shape) → IsWithinLimits (plan_of at.shape) (history_of at.shape) → IsGood (objects_of at.shape) (history_of at.shape) (at.path ++ c.decision ∷ []) →
     IsNext memo (Some n) c at → IsAfter memo n c after → Names memo.states (Some after) (states_reached at.shape (at.path ++ c.decision ∷ []))
-next-names memo n after c at fine within longer next leads =
-    after-names memo n after c (further at c.decision) fine within longer (record { shape = next.shape; path = at.path; on = refl; names = next.names; silent = next.silent }) leads
+next-names memo n after c at fine within longer next transitions =
+    after-names memo n after c (further at c.decision) fine within longer (record { shape = next.shape; path = at.path; on = refl; names = next.names; silent = next.silent }) transitions
 
--- a choice that leads to a spot that is known is refuted
+-- a choice that leads to a configuration that is known is refuted
 pub known-after : {V : Type 0} (memo : MemoOf V) (P : List Decision → Type 0) (n after : ℕ) (c : Choice) (at : CursorOf) (placed : List Bool) → IsWellFormed (history_of at.shape) → IsWithinLimits (plan_of at.shape) (history_of at.shape) → IsGood (objects_of at.shape) (history_of at.shape) at.path →
     IsNext memo (Some n) c at → placed ≡ map (is_named at.path) (transactions (history_of at.shape)) → IsAfter memo n c after →
     IsDead memo.shape memo.states P (record { placed = set placed c.place true; states = after }) → Refuted (objects_of at.shape) (history_of at.shape) (at.path ++ c.decision ∷ [])
-known-after memo P n after c at placed fine within good next is leads dead rest shown =
+known-after memo P n after c at placed fine within good next is transitions dead rest shown =
     let longer : IsGood (objects_of at.shape) (history_of at.shape) (at.path ++ c.decision ∷ []) =
     IsGood-push (objects_of at.shape) (history_of at.shape) at.path c.decision good (next-shown (objects_of at.shape) (history_of at.shape) at.path c.decision rest shown) in
     dead-refuted memo.shape memo.states P (set placed c.place true) after (further at c.decision) next.shape fine within longer
     (ap (λ l. set l c.place true) is ∙ placed-with (history_of at.shape) at.path c next.row.0 next.row.1.0 next.row.1.1)
-    (next-names memo n after c at fine within longer next leads) dead rest shown
+    (next-names memo n after c at fine within longer next transitions) dead rest shown
 
 -- and where it is good it is the same to what comes after it
 pub alike-after : {V : Type 0} (memo : MemoOf V) (P : List Decision → Type 0) (n after : ℕ) (c : Choice) (at : CursorOf) (placed : List Bool) → IsWellFormed (history_of at.shape) → IsWithinLimits (plan_of at.shape) (history_of at.shape) → IsGood (objects_of at.shape) (history_of at.shape) at.path →
     IsNext memo (Some n) c at → placed ≡ map (is_named at.path) (transactions (history_of at.shape)) → IsAfter memo n c after →
     IsDead memo.shape memo.states P (record { placed = set placed c.place true; states = after }) → IsGoodAt at c.decision → IsNotedAlike at.shape P (at.path ++ c.decision ∷ [])
-alike-after memo P n after c at placed fine within good next is leads dead next_good =
+alike-after memo P n after c at placed fine within good next is transitions dead next_good =
     let longer : IsGood (objects_of at.shape) (history_of at.shape) (at.path ++ c.decision ∷ []) = IsGood-push (objects_of at.shape) (history_of at.shape) at.path c.decision good next_good in
     dead-alike memo.shape memo.states P (set placed c.place true) after (further at c.decision) next.shape
     (ap (λ l. set l c.place true) is ∙ placed-with (history_of at.shape) at.path c next.row.0 next.row.1.0 next.row.1.1)
-    (next-names memo n after c at fine within longer next leads) dead
+    (next-names memo n after c at fine within longer next transitions) dead

@@ -7,8 +7,8 @@ use Rattle.aud_object.specs.Objects.{ObjState}
 use Rattle.aud_history.specs.Table.{transactions}
 use Rattle.aud_order.specs.Shapes.{ShapeOf, history_of}
 use Rattle.search_memo.specs.Known.{IsMarkedBy, IsRefutedTo, IsRefutedBy}
-use Rattle.search_memo.specs.Spots.{WithPlace, with_place}
-use Rattle.search_memo.proofs.Spotting.{marks-with}
+use Rattle.search_memo.specs.Visited.{WithPlace, with_place}
+use Rattle.search_memo.proofs.Visiting.{marks-with}
 
 -- a mark in the only word
 pub with-only : (word own place : ℕ) → place / 64 ≡ 0 → IsBitWritten word own (place % 64) true → WithPlace (word ∷ []) (own ∷ []) place

@@ -7,7 +7,7 @@ use Rattle.aud_witness.specs.declared.decision.Fate.{Fate}
 use Rattle.aud_witness.specs.declared.decision.Fate.TheVariants.{C, A}
 use Rattle.aud_witness.specs.declared.decision.Decision.{Decision}
 use Rattle.aud_witness.specs.Orders.{is_allowed}
-use Rattle.aud_witness.specs.Spots.{status_allows}
+use Rattle.aud_witness.specs.Configurations.{status_allows}
 use Rattle.aud_order.specs.Silent.{silent_fate}
 use Rattle.search_memo.specs.declared.choice.Effect.TheVariants.{Silent}
 use Rattle.search_memo.specs.declared.choice.Choice.{Choice}

@@ -8,12 +8,12 @@ use Rattle.aud_witness.specs.Orders.{is_named, IsGood, Refuted}
 use Rattle.aud_order.specs.Shapes.{ShapeOf, objects_of, history_of}
 use Rattle.search_memo.specs.Memos.{states_reached}
 
--- how contracts see a refuted list that threads share: the word that marks what is placed, and the states
+-- how contracts see a refuted prefix that threads share: the word that marks what is placed, and the states
 pub record RefutationOf : Type 0 where
   pub word : ℕ
   pub states : List ObjState
 
--- a good list that is refuted, and of which P holds, places the transactions that are marked, and leaves the states
+-- a good prefix that is refuted, and of which P holds, places the transactions that are marked, and leaves the states
 pub record IsKnown (shape : ShapeOf) (P : List Decision → Type 0) (states : List ObjState) (placed : List Bool) : Type 0 where
   pub path : List Decision
   pub good : IsGood (objects_of shape) (history_of shape) path
@@ -22,7 +22,7 @@ pub record IsKnown (shape : ShapeOf) (P : List Decision → Type 0) (states : Li
   pub left : states ≡ states_reached shape path
   pub noted : P path
 
--- the same of lists of which nothing else is asked
+-- the same of prefixes of which nothing else is asked
 abbrev pub IsRefutedTo : ShapeOf → List ObjState → List Bool → Type 0
 IsRefutedTo shape states placed = IsKnown shape (λ p. Unit {0}) states placed
 

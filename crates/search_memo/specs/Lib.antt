@@ -1,5 +1,5 @@
 pub mod Choices
-pub mod Spots
+pub mod Visited
 pub mod Memos
 pub mod Kept
 pub mod Recorders

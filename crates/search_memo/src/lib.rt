@@ -10,7 +10,7 @@ mod memo;
 mod recorder;
 mod room;
 mod shared;
-mod spots;
+mod visited_set;
 
 pub use choice::{Choice, Effect, Order, choices_of};
 pub use memo::{LARGEST_SEEN, Memo, Reason};

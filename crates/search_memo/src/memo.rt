@@ -1,5 +1,5 @@
-//! What a search remembers of the lists that it refuted: which transactions were placed, and the states of all objects.
-//! After two lists of which these are the same, the same shows.
+//! What a search remembers of the prefixes that it refuted: which transactions were placed, and the states of all objects.
+//! After two prefixes of which these are the same, the same shows.
 
 ghost use Rattle.std.specs.Prelude.{◌≡◌, ◌<◌, [], Some, List, IsTrue, IfSome, IfOk, MatchOption, length, slice_get};
 ghost use Rattle.aud_witness.specs.declared.decision.Decision.{Decision};
@@ -9,16 +9,16 @@ ghost use Rattle.aud_witness.specs.Orders.{Refuted};
 ghost use Rattle.aud_history.specs.Table.{transactions};
 ghost use Rattle.aud_order.specs.Shapes.{history_of};
 ghost use Rattle.search_memo.specs.Kept.{LeadsTo};
-ghost use Rattle.search_memo.specs.Memos.{states_reached, Names, IsLead, IsGrown, IsReported, IsStep, IsNext, IsAfter, LeavesStates, IsDead, IsRefutedAt, IsRefutedAfter};
+ghost use Rattle.search_memo.specs.Memos.{states_reached, Names, IsTransition, IsGrown, IsReported, IsStep, IsNext, IsAfter, LeavesStates, IsDead, IsRefutedAt, IsRefutedAfter};
 ghost use Rattle.search_memo.specs.Recorders.{IsReason, IsNotedAlike, HasNote, IsNotedAfter};
-ghost use Rattle.search_memo.specs.Spots.{AreWith, entry, with_place};
+ghost use Rattle.search_memo.specs.Visited.{AreWith, entry, with_place};
 
 use crate::choice::{Choice, Effect};
 use crate::index::{Index, Look, hash_of};
 use crate::kept::{Finder, Kept, Step, keep_states, size_of_shared};
 use crate::recorder::Recorder;
 use crate::room::{gives, reserves, takes};
-use crate::spots::{Spots, forget_first};
+use crate::visited_set::{VisitedSet, forget_first};
 use aud_event::OutOfMemory;
 use aud_object::Store;
 use aud_order::{Cursor, Shape};
@@ -31,7 +31,7 @@ use std::sync::Arc;
 
 /// The block of the transaction leads from the states of one number to those of another.
 #[derive(Clone, Copy)]
-pub struct Lead {
+pub struct Transition {
     pub from: usize,
     pub tx: u32,
     pub to: usize,
@@ -44,24 +44,24 @@ pub struct Seen<A: Allocator> {
     digest: u64,
 }
 
-/// Why a list is refuted.
+/// Why a prefix is refuted.
 #[derive(Clone, Copy)]
 pub enum Reason<N> {
-    /// It is not full, and each good list that is one decision longer was noted.
+    /// It is not full, and each good prefix that is one decision longer was noted.
     Kids,
-    /// The decision is of a silent transaction and good after the list, and the list after it was noted.
+    /// The decision is of a silent transaction and good after the prefix, and the prefix after it was noted.
     Silent(Decision),
-    /// The note is of a good list that places the same transactions and leaves the same states.
+    /// The note is of a good prefix that places the same transactions and leaves the same states.
     Same(N),
 }
 
-/// Spots of refuted lists of one shape, and where blocks lead. States that many spots share are kept once, under a number.
+/// Configurations of refuted prefixes of one shape, and where blocks lead. States that many of them share are kept once, under a number.
 ///
-/// A spot is kept as words: the number of the states, then the marks of the rows that were placed. Each spot has the note of its
-/// list, and what notes the lists is kept here too.
+/// A configuration is which transactions a prefix placed, and the states that it leaves. It is kept as words: the number of the states,
+/// then the marks of the rows that were placed. Each has the note of its prefix, and what notes the prefixes is kept here too.
 ///
-/// A part of the room is for spots: when it is used up the older half of them is forgotten. The other part is for states, with their
-/// numbers, and for leads: when it is used up the leads are forgotten, and when states take it up alone the memo is full. It
+/// A part of the room is for configurations: when it is used up the older half of them is forgotten. The other part is for states, with their
+/// numbers, and for transitions: when it is used up the transitions are forgotten, and when states take it up alone the memo is full. It
 /// then waits to be begun anew, as searches hold numbers of states; until then new states get none. Where memory is refused the
 /// same is forgotten.
 #[derive(Drop)]
@@ -70,15 +70,15 @@ pub struct Memo<'a, N: Copy, R: Recorder<N, A>, A: Allocator + Copy = Global> {
     shape: &'a Shape<A>,
     kept: Vec<Kept<A>, A>,
     finder: Finder<A>,
-    leads: Vec<Lead, A>,
-    leads_by_hash: Index<A>,
-    spots: Spots<A>,
+    transitions: Vec<Transition, A>,
+    transitions_by_hash: Index<A>,
+    visited: VisitedSet<A>,
     notes: Vec<N, A>,
     seen: Vec<Option<Seen<A>>, A>,
     recorder: R,
     room: usize,
     states_room: usize,
-    spots_room: usize,
+    visited_room: usize,
     is_short: bool,
     is_full: bool,
 }
@@ -93,7 +93,7 @@ impl<'a, N: Copy, R: Recorder<N, A>, A: Allocator + Copy> Model for Memo<'a, N, 
     ghost view = { λ m. record { shape = m.shape.now; states = states_of (history_of m.shape.now) m.kept.items; recorder = m.recorder } };
 
     ghost invariant = { λ m. IsTrueMemo m.shape.now (states_of (history_of m.shape.now) m.kept.items)
-        (R.noted m.recorder) (entries_of (history_of m.shape.now) m.spots) m.notes.items m.leads.items
+        (R.noted m.recorder) (entries_of (history_of m.shape.now) m.visited) m.notes.items m.transitions.items
         × R.is_for m.recorder m.shape.now
         × AreSeen (states_of (history_of m.shape.now) m.kept.items) m.seen.items };
 }
@@ -101,31 +101,33 @@ impl<'a, N: Copy, R: Recorder<N, A>, A: Allocator + Copy> Model for Memo<'a, N, 
 /// How many numbers states keep that others may have: the most.
 pub const LARGEST_SEEN: usize = 32;
 
-/// How many bytes a lead takes, states as others may have them, beside these, and the note of a recorder that is not deaf.
-const LEAD: usize = size_of::<Lead>();
+/// How many bytes a transition takes.
+const TRANSITION: usize = size_of::<Transition>();
 
+/// How many bytes states take as others may have them, beside these.
 const SEEN: usize = size_of::<Option<Seen<Global>>>();
 
+/// How many bytes the note of a recorder takes that keeps notes.
 const NOTE: usize = size_of::<usize>();
 
 /// How many slots are looked at before something counts as not found.
 const LOOKS: usize = 64;
 
-/// How much of the room is for states and leads, and how much for spots: where others know of what is refuted, few spots are left to
-/// keep here.
+/// How much of the room is for states and transitions, and how much for configurations: where others know of what is refuted, few are
+/// left to keep here.
 fn parts_of(room: usize, is_sharing: bool) -> (usize, usize) {
-    let spots = if is_sharing { room / 4 } else { room / 2 };
-    (room.saturating_sub(spots), spots)
+    let visited = if is_sharing { room / 4 } else { room / 2 };
+    (room.saturating_sub(visited), visited)
 }
 
 /// Where the transaction's block leads from the states of the number, if that is known.
-fn find_lead<A: Allocator + Copy>(
-    leads: &[Lead],
+fn find_transition<A: Allocator + Copy>(
+    transitions: &[Transition],
     by_hash: &Index<A>,
     from: usize,
     tx: u32,
 ) -> Option<usize>
-    ensures { MatchOption result (Unit {0}) (λ to. Contains leads.now (record { from = from; tx = tx; to = to })) }
+    ensures { MatchOption result (Unit {0}) (λ to. Contains transitions.now (record { from = from; tx = tx; to = to })) }
 {
     let hash = hash_of(from as u64, tx as u64);
     for step in 0..LOOKS {
@@ -133,8 +135,11 @@ fn find_lead<A: Allocator + Copy>(
             Look::Free => return None,
             Look::Other => {}
             Look::At(place) => {
-                if place < leads.len() && leads[place].from == from && leads[place].tx == tx {
-                    return Some(leads[place].to);
+                if place < transitions.len()
+                    && transitions[place].from == from
+                    && transitions[place].tx == tx
+                {
+                    return Some(transitions[place].to);
                 }
             }
         }
@@ -202,20 +207,24 @@ fn leaves_states(choice: &Choice) -> bool
     }
 }
 
-/// A lead comes after the others, if there is room and memory for it.
-fn keep_lead<A: Allocator + Copy>(
-    leads: &mut Vec<Lead, A>,
+/// A transition comes after the others, if there is room and memory for it.
+fn keep_transition<A: Allocator + Copy>(
+    transitions: &mut Vec<Transition, A>,
     by_hash: &mut Index<A>,
     room: &mut usize,
-    lead: Lead,
+    transition: Transition,
 ) -> Result<(), OutOfMemory>
-    ensures { AreWith leads.old.items leads.new.items lead }
+    ensures { AreWith transitions.old.items transitions.new.items transition }
 {
-    if !reserves(room, leads, 1, LEAD) {
+    if !reserves(room, transitions, 1, TRANSITION) {
         return Err(OutOfMemory);
     }
-    by_hash.put(hash_of(lead.from as u64, lead.tx as u64), leads.len(), room)?;
-    leads.push(lead)?;
+    by_hash.put(
+        hash_of(transition.from as u64, transition.tx as u64),
+        transitions.len(),
+        room,
+    )?;
+    transitions.push(transition)?;
     Ok(())
 }
 
@@ -225,27 +234,27 @@ impl<'a, N: Copy, R: Recorder<N, A>, A: Allocator + Copy> Memo<'a, N, R, A> {
         requires { R.is_for recorder shape.now }
         ensures { result ≡ record { shape = shape.entry.now; states = []; recorder = recorder } }
     {
-        let (states_room, spots_room) = parts_of(room, recorder.is_sharing());
+        let (states_room, visited_room) = parts_of(room, recorder.is_sharing());
         Memo {
             alloc,
             shape,
             kept: Vec::new(alloc),
             finder: Finder::new(alloc),
-            leads: Vec::new(alloc),
-            leads_by_hash: Index::new(alloc),
-            spots: Spots::new(alloc),
+            transitions: Vec::new(alloc),
+            transitions_by_hash: Index::new(alloc),
+            visited: VisitedSet::new(alloc),
             notes: Vec::new(alloc),
             seen: Vec::new(alloc),
             recorder,
             room,
             states_room,
-            spots_room,
+            visited_room,
             is_short: false,
             is_full: false,
         }
     }
 
-    /// What noted the lists.
+    /// What noted the prefixes.
     pub fn into_recorder(self) -> R
         ensures recorder { result ≡ self.entry.recorder }
         ensures own { R.is_for result self.entry.shape }
@@ -253,7 +262,7 @@ impl<'a, N: Copy, R: Recorder<N, A>, A: Allocator + Copy> Memo<'a, N, R, A> {
         self.recorder
     }
 
-    /// Notes the cursor's list, which is refuted for the reason.
+    /// Notes the cursor's prefix, which is refuted for the reason.
     pub fn note(&mut self, cursor: &Cursor<A>, reason: Reason<N>) -> Result<N, OutOfMemory>
         requires shape { self.old.shape ≡ cursor.now.shape }
         requires reason { IsReason (R.noted self.old.recorder) cursor.now.shape cursor.now.path reason }
@@ -269,10 +278,10 @@ impl<'a, N: Copy, R: Recorder<N, A>, A: Allocator + Copy> Memo<'a, N, R, A> {
     }
 
     /// Whether nothing needs to be noted.
-    pub fn is_deaf(&self) -> bool
+    pub fn records_nothing(&self) -> bool
         ensures { IsTrue result → ((p : List Decision) → HasNote (R.noted self.now.recorder) p) }
     {
-        self.recorder.is_deaf()
+        self.recorder.records_nothing()
     }
 
     /// The number of the states where the cursor stands, which may be a new one, if there is room and memory for it.
@@ -300,7 +309,7 @@ impl<'a, N: Copy, R: Recorder<N, A>, A: Allocator + Copy> Memo<'a, N, R, A> {
         number
     }
 
-    /// Notes that there was no room for states: the leads are forgotten, or where they were since the last new states the memo
+    /// Notes that there was no room for states: the transitions are forgotten, or where they were since the last new states the memo
     /// is full.
     fn run_short(&mut self)
         ensures { self.new ≡ self.old }
@@ -313,17 +322,17 @@ impl<'a, N: Copy, R: Recorder<N, A>, A: Allocator + Copy> Memo<'a, N, R, A> {
         self.forget_leads();
     }
 
-    /// Forgets the leads, and has their room again.
+    /// Forgets the transitions, and has their room again.
     fn forget_leads(&mut self)
         ensures { self.new ≡ self.old }
     {
-        let size = self.leads.capacity().saturating_mul(LEAD);
+        let size = self.transitions.capacity().saturating_mul(TRANSITION);
         gives(
             &mut self.states_room,
-            size.saturating_add(self.leads_by_hash.size()),
+            size.saturating_add(self.transitions_by_hash.size()),
         );
-        self.leads = Vec::new(self.alloc);
-        self.leads_by_hash = Index::new(self.alloc);
+        self.transitions = Vec::new(self.alloc);
+        self.transitions_by_hash = Index::new(self.alloc);
     }
 
     /// Whether there is no room for new states.
@@ -335,16 +344,16 @@ impl<'a, N: Copy, R: Recorder<N, A>, A: Allocator + Copy> Memo<'a, N, R, A> {
     pub fn begin_anew(&mut self)
         ensures { self.new ≡ record { shape = self.old.shape; states = []; recorder = self.old.recorder } }
     {
-        self.spots = Spots::new(self.alloc);
+        self.visited = VisitedSet::new(self.alloc);
         self.notes = Vec::new(self.alloc);
-        self.leads = Vec::new(self.alloc);
-        self.leads_by_hash = Index::new(self.alloc);
+        self.transitions = Vec::new(self.alloc);
+        self.transitions_by_hash = Index::new(self.alloc);
         self.seen = Vec::new(self.alloc);
         self.kept = Vec::new(self.alloc);
         self.finder.forget(self.alloc);
-        let (states_room, spots_room) = parts_of(self.room, self.recorder.is_sharing());
+        let (states_room, visited_room) = parts_of(self.room, self.recorder.is_sharing());
         self.states_room = states_room;
-        self.spots_room = spots_room;
+        self.visited_room = visited_room;
         self.is_short = false;
         self.is_full = false;
     }
@@ -369,7 +378,7 @@ impl<'a, N: Copy, R: Recorder<N, A>, A: Allocator + Copy> Memo<'a, N, R, A> {
         }
     }
 
-    /// The note of a refuted list that others know of, which leaves the states of the number and places the rows that are marked,
+    /// The note of a refuted prefix that others know of, which leaves the states of the number and places the rows that are marked,
     /// with one further where there is one. It does not allocate.
     fn find_shared(&self, number: usize, placed: &Marks<A>, further: Option<usize>) -> Option<N>
         requires rows { length placed.now ≡ length (transactions (history_of self.now.shape)) }
@@ -382,7 +391,7 @@ impl<'a, N: Copy, R: Recorder<N, A>, A: Allocator + Copy> Memo<'a, N, R, A> {
             .find(seen.digest, &seen.states, placed, further)
     }
 
-    /// The note of a refuted list that is remembered here or that others know of, which leaves the states of the number and places
+    /// The note of a refuted prefix that is remembered here or that others know of, which leaves the states of the number and places
     /// the rows that are marked, with one further where there is one. It does not allocate.
     fn find_dead(&self, number: usize, placed: &Marks<A>, further: Option<usize>) -> Option<N>
         requires rows { length placed.now ≡ length (transactions (history_of self.now.shape)) }
@@ -393,11 +402,11 @@ impl<'a, N: Copy, R: Recorder<N, A>, A: Allocator + Copy> Memo<'a, N, R, A> {
         if let Some(note) = self.find_shared(number, placed, further) {
             return Some(note);
         }
-        let place = self.spots.find(number, placed, further)?;
+        let place = self.visited.find(number, placed, further)?;
         note_at(&self.notes, place)
     }
 
-    /// The search begins at another list. What is remembered stays.
+    /// The search begins at another prefix. What is remembered stays.
     pub fn move_away(&mut self)
         ensures { self.new ≡ self.old }
     {
@@ -415,10 +424,10 @@ impl<'a, N: Copy, R: Recorder<N, A>, A: Allocator + Copy> Memo<'a, N, R, A> {
     }
 
     /// Where the transaction's block leads from the states of the number, if that is known.
-    fn lead(&self, from: usize, tx: u32) -> Option<usize>
-        ensures { MatchOption result (Unit {0}) (λ to. IsLead self.now.shape self.now.states (record { from = from; tx = tx; to = to })) }
+    fn transition(&self, from: usize, tx: u32) -> Option<usize>
+        ensures { MatchOption result (Unit {0}) (λ to. IsTransition self.now.shape self.now.states (record { from = from; tx = tx; to = to })) }
     {
-        find_lead(&self.leads, &self.leads_by_hash, from, tx)
+        find_transition(&self.transitions, &self.transitions_by_hash, from, tx)
     }
 
     /// The number of the states after a choice that is good where the states have the number, if that is known.
@@ -428,20 +437,20 @@ impl<'a, N: Copy, R: Recorder<N, A>, A: Allocator + Copy> Memo<'a, N, R, A> {
         if leaves_states(choice) {
             Some(before)
         } else {
-            self.lead(before, choice.decision.tx)
+            self.transition(before, choice.decision.tx)
         }
     }
 
     /// Remembers where a block leads, if there is room and memory for it.
-    fn remember_lead(&mut self, lead: Lead)
-        requires { IsLead self.old.shape self.old.states lead }
+    fn remember_transition(&mut self, transition: Transition)
+        requires { IsTransition self.old.shape self.old.states transition }
         ensures { self.new ≡ self.old }
     {
-        let _ = keep_lead(
-            &mut self.leads,
-            &mut self.leads_by_hash,
+        let _ = keep_transition(
+            &mut self.transitions,
+            &mut self.transitions_by_hash,
             &mut self.states_room,
-            lead,
+            transition,
         );
     }
 
@@ -460,7 +469,7 @@ impl<'a, N: Copy, R: Recorder<N, A>, A: Allocator + Copy> Memo<'a, N, R, A> {
         let _sound = self.shape.history();
         let _within = self.shape.plan();
         let _good = cursor.prefix();
-        if self.spots.is_empty() && !self.recorder.is_sharing() {
+        if self.visited.is_empty() && !self.recorder.is_sharing() {
             return None;
         }
         let Some(before) = from else {
@@ -474,7 +483,7 @@ impl<'a, N: Copy, R: Recorder<N, A>, A: Allocator + Copy> Memo<'a, N, R, A> {
         let to = self.number(Some(Step { from: before, tx }), cursor)?;
         // To states that are met for the first time few ways lead.
         if to < known {
-            self.remember_lead(Lead {
+            self.remember_transition(Transition {
                 from: before,
                 tx,
                 to,
@@ -483,7 +492,7 @@ impl<'a, N: Copy, R: Recorder<N, A>, A: Allocator + Copy> Memo<'a, N, R, A> {
         Some(to)
     }
 
-    /// The note of a refuted list that placed the transactions that the cursor's list places, and left the same states, which
+    /// The note of a refuted prefix that placed the transactions that the cursor's prefix places, and left the same states, which
     /// have the number. It does not allocate.
     pub fn knows(&self, states: Option<usize>, cursor: &Cursor<A>) -> Option<N>
         requires shape { self.now.shape ≡ cursor.now.shape }
@@ -500,7 +509,7 @@ impl<'a, N: Copy, R: Recorder<N, A>, A: Allocator + Copy> Memo<'a, N, R, A> {
         self.find_dead(number, cursor.placed(), None)
     }
 
-    /// The note of a refuted list that is the same as the cursor's with the choice after it, if one is known by where the
+    /// The note of a refuted prefix that is the same as the cursor's with the choice after it, if one is known by where the
     /// choice's block leads. No block runs, and it does not allocate.
     pub fn knows_after(
         &self,
@@ -524,7 +533,7 @@ impl<'a, N: Copy, R: Recorder<N, A>, A: Allocator + Copy> Memo<'a, N, R, A> {
         self.find_dead(after, cursor.placed(), Some(choice.place))
     }
 
-    /// Remembers the cursor's list, which is refuted, with its note, if memory is there for it.
+    /// Remembers the cursor's prefix, which is refuted, with its note, if memory is there for it.
     pub fn learn(&mut self, states: Option<usize>, note: N, cursor: &Cursor<A>)
         requires shape { self.old.shape ≡ cursor.now.shape }
         requires named { Names self.old.states states (states_reached cursor.now.shape cursor.now.path) }
@@ -543,7 +552,7 @@ impl<'a, N: Copy, R: Recorder<N, A>, A: Allocator + Copy> Memo<'a, N, R, A> {
         }
     }
 
-    /// Has others know of the cursor's list, which is refuted, and whose states have the number, if they may.
+    /// Has others know of the cursor's prefix, which is refuted, and whose states have the number, if they may.
     fn share_refuted(&self, states: usize, note: N, cursor: &Cursor<A>) -> bool
         requires shape { self.now.shape ≡ cursor.now.shape }
         requires named { Names self.now.states (Some states) (states_reached cursor.now.shape cursor.now.path) }
@@ -558,15 +567,15 @@ impl<'a, N: Copy, R: Recorder<N, A>, A: Allocator + Copy> Memo<'a, N, R, A> {
         }
     }
 
-    /// Forgets the older half of the spots.
+    /// Forgets the older half of the configurations.
     fn forget_older(&mut self)
         ensures { self.new ≡ self.old }
     {
-        let gone = self.spots.forget_older();
+        let gone = self.visited.forget_older();
         forget_first(&mut self.notes, gone);
     }
 
-    /// Keeps the spot of the cursor's list, which is refuted, and whose states have the number.
+    /// Keeps the configuration of the cursor's prefix, which is refuted, and whose states have the number.
     fn keep_refuted(&mut self, states: usize, note: N, cursor: &Cursor<A>)
         requires shape { self.old.shape ≡ cursor.now.shape }
         requires named { Names self.old.states (Some states) (states_reached cursor.now.shape cursor.now.path) }
@@ -576,12 +585,16 @@ impl<'a, N: Copy, R: Recorder<N, A>, A: Allocator + Copy> Memo<'a, N, R, A> {
     {
         let _good = cursor.prefix();
         let placed = cursor.placed();
-        let size = if self.recorder.is_deaf() { 0 } else { NOTE };
-        if !reserves(&mut self.spots_room, &mut self.notes, 1, size) {
+        let size = if self.recorder.records_nothing() {
+            0
+        } else {
+            NOTE
+        };
+        if !reserves(&mut self.visited_room, &mut self.notes, 1, size) {
             self.forget_older();
             return;
         }
-        if self.spots.keep(states, placed, &mut self.spots_room) {
+        if self.visited.keep(states, placed, &mut self.visited_room) {
             let Ok(()) = self.notes.push(note) else {
                 unreachable!()
             };

@@ -1,10 +1,10 @@
-//! What hears of the lists that a search refutes, and why each is.
+//! What hears of the prefixes that a search refutes, and why each is.
 
 ghost use Rattle.std.specs.Prelude.{◌<◌, List, length, IfOk, IfSome, IsTrue, MatchOption};
 ghost use Rattle.aud_witness.specs.declared.decision.Decision.{Decision};
 ghost use Rattle.aud_order.specs.Shapes.{ShapeOf};
 ghost use Rattle.search_memo.specs.Known.{MarksRows, IsKnownFor, IsKnownOf};
-ghost use Rattle.search_memo.specs.Spots.{with_place};
+ghost use Rattle.search_memo.specs.Visited.{with_place};
 ghost use Rattle.search_memo.specs.Recorders.{IsHearable, HasNote, HasKids, HasSilent, IsNotedAlike};
 
 use aud_event::OutOfMemory;
@@ -14,28 +14,28 @@ use base_bits::Marks;
 use std::alloc::Allocator;
 use std::sync::Arc;
 
-/// What hears of each good list that a search refutes, in the order in which they are refuted. A list that it noted is named by
+/// What hears of each good prefix that a search refutes, in the order in which they are refuted. A prefix that it noted is named by
 /// its note.
 pub trait Recorder<N: Copy, A: Allocator>: Drop {
     // It is for searches of the shape.
     ghost is_for: { Self → ShapeOf → Type 0 };
 
-    // The note is of the list.
+    // The note is of the prefix.
     ghost noted: { Self → N → List Decision → Type 0 };
 
     // The second knows what the first one did.
     ghost grows: { Self → Self → Type 0 };
 
     /// Whether it needs to hear of nothing.
-    fn is_deaf(&self) -> bool
+    fn records_nothing(&self) -> bool
         ensures { IsTrue result → ((p : List Decision) → HasNote (noted self.now) p) };
 
-    /// Whether it may know of lists that others refuted, and have others know of those that it hears of.
+    /// Whether it may know of prefixes that others refuted, and have others know of those that it hears of.
     fn is_sharing(&self) -> bool {
         false
     }
 
-    /// The note of a refuted list that places the rows that are marked, with one further where there is one, and leaves the states,
+    /// The note of a refuted prefix that places the rows that are marked, with one further where there is one, and leaves the states,
     /// which have the digest, if it knows of one. It does not allocate.
     fn find(
         &self,
@@ -52,7 +52,7 @@ pub trait Recorder<N: Copy, A: Allocator>: Drop {
         None
     }
 
-    /// Others may know of the refuted list of the note, which places the rows that are marked and leaves the states. It answers
+    /// Others may know of the refuted prefix of the note, which places the rows that are marked and leaves the states. It answers
     /// whether `find` comes to know of it, and so need not be remembered elsewhere.
     fn keep(&self, digest: u64, states: &Arc<Store<A>, A>, placed: &Marks<A>, note: N) -> bool
         requires { IsKnownOf (is_for self.now) (noted self.now note) states.now.value.now placed.now }
@@ -60,19 +60,19 @@ pub trait Recorder<N: Copy, A: Allocator>: Drop {
         false
     }
 
-    /// Notes the good list: it is not full, and each good list that is one decision longer was noted.
+    /// Notes the good prefix: it is not full, and each good prefix that is one decision longer was noted.
     fn note_kids(&mut self, list: &[Decision]) -> Result<N, OutOfMemory>
         requires { IsHearable (is_for self.old) list.now (λ shape. HasKids shape (HasNote (noted self.old)) list.now) }
         ensures noted { IfOk result (λ note. noted self.new note list.now) }
         ensures grows { grows self.old self.new };
 
-    /// Notes the good list: the decision is of a silent transaction and good after it, and the list after it was noted.
+    /// Notes the good prefix: the decision is of a silent transaction and good after it, and the prefix after it was noted.
     fn note_silent(&mut self, list: &[Decision], decision: Decision) -> Result<N, OutOfMemory>
         requires { IsHearable (is_for self.old) list.now (λ shape. HasSilent shape (HasNote (noted self.old)) list.now decision) }
         ensures noted { IfOk result (λ note. noted self.new note list.now) }
         ensures grows { grows self.old self.new };
 
-    /// Notes the good list: the note is of a good list that places the same transactions and leaves the same states.
+    /// Notes the good prefix: the note is of a good prefix that places the same transactions and leaves the same states.
     fn note_same(&mut self, list: &[Decision], note: N) -> Result<N, OutOfMemory>
         requires { IsHearable (is_for self.old) list.now (λ shape. IsNotedAlike shape (noted self.old note) list.now) }
         ensures noted { IfOk result (λ own. noted self.new own list.now) }
@@ -87,7 +87,7 @@ pub trait Recorder<N: Copy, A: Allocator>: Drop {
     ghost grows_onward: { (r s t : Self) → grows r s → grows s t → grows r t };
 }
 
-/// What names a list where none is noted.
+/// What names a prefix where none is noted.
 #[derive(Clone, Copy)]
 pub struct Unnoted;
 
@@ -102,7 +102,7 @@ impl<A: Allocator> Recorder<Unnoted, A> for Unrecorded {
 
     ghost grows = { λ r s. Unit {0} };
 
-    fn is_deaf(&self) -> bool {
+    fn records_nothing(&self) -> bool {
         true
     }
 

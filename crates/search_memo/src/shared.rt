@@ -5,13 +5,13 @@ ghost use Rattle.std.specs.Prelude.{◌≡◌, ◌<◌, IfSome, IsTrue, MatchOpt
 ghost use Rattle.aud_history.specs.Table.{transactions};
 ghost use Rattle.aud_order.specs.Shapes.{history_of};
 ghost use Rattle.search_memo.specs.Known.{IsMarkedBy, IsRefutedBy, IsRefutedTo};
-ghost use Rattle.search_memo.specs.Spots.{with_place};
+ghost use Rattle.search_memo.specs.Visited.{with_place};
 
 use crate::index::{hash_of, spread};
 use crate::kept::size_of_shared;
 use crate::recorder::{Recorder, Unnoted};
 use crate::room::BOUND;
-use crate::spots::with_further;
+use crate::visited_set::with_further;
 use aud_event::OutOfMemory;
 use aud_object::Store;
 use aud_witness::Decision;
@@ -46,7 +46,7 @@ impl<T> SlotRule<T> for Any {
     ghost holds = { λ tag value. Unit {0} };
 }
 
-/// A list that was refuted: the one word that marks the rows that it placed, and the states after it.
+/// A prefix that was refuted: the one word that marks the rows that it placed, and the states after it.
 #[derive(Drop)]
 pub struct Refutation<J: Scene, A: Allocator> {
     word: u64,
@@ -81,7 +81,7 @@ const PARTS: usize = 1 << 12;
 /// Among how many of the first slots those lie that are anywhere: a power of two, so small that few parts are made for them.
 const ANYWHERE: usize = 1 << 20;
 
-/// How many slots are looked at for a list, and how many of these are near those of lists that place almost the same rows.
+/// How many slots are looked at for a prefix, and how many of these are near those of prefixes that place almost the same rows.
 const LOOKS: usize = 12;
 
 const NEAR: usize = 4;
@@ -92,7 +92,7 @@ const ROOM: usize = BOUND / 4 * 3;
 /// How many bytes the slots of a part take.
 const SLOTS: usize = PART * size_of::<OnceSlot<Refutation<Brand, Global>, Any>>();
 
-/// Refuted lists of one history of at most 63 transactions, of which all threads know that search it. Each stands in a slot that is
+/// Refuted prefixes of one history of at most 63 transactions, of which all threads know that search it. Each stands in a slot that is
 /// written once, so nobody waits for another. It takes memory as more is known. The memos of the searches and what they share here
 /// take at most 1 GiB together.
 #[derive(Drop)]
@@ -105,7 +105,7 @@ pub struct Shared<J: Scene, A: Allocator + Copy = Global> {
 
 /// The word of the marks that is looked for, and where its slots are.
 #[derive(Clone, Copy)]
-pub struct Spot {
+pub struct Probe {
     word: u64,
     near: usize,
     far: usize,
@@ -121,16 +121,16 @@ fn mirrored(word: u64) -> u64 {
     (halves >> 32) | (halves << 32)
 }
 
-/// Where lists stand that leave states of the digest and place the rows, of so many, that the word marks.
+/// Where prefixes stand that leave states of the digest and place the rows, of so many, that the word marks.
 ///
-/// A search comes from a list mostly to those that differ in the last rows, so these are the lowest bits of a place: what is asked
+/// A search comes from a prefix mostly to those that differ in the last rows, so these are the lowest bits of a place: what is asked
 /// for one after the other lies side by side in memory.
-fn spot_of(digest: u64, word: u64, rows: usize) -> Spot
+fn probe_of(digest: u64, word: u64, rows: usize) -> Probe
     ensures { result.word ≡ word }
 {
     let last_first = mirrored(word).rotate_left((rows % 64) as u32);
     let near = last_first ^ (last_first >> 24) ^ (last_first >> 48);
-    Spot {
+    Probe {
         word,
         near: near as usize,
         far: spread(hash_of(digest, word)) as usize % ANYWHERE,
@@ -138,11 +138,11 @@ fn spot_of(digest: u64, word: u64, rows: usize) -> Spot
 }
 
 /// The place of the slot that is looked at in the step.
-fn place_at(spot: Spot, step: usize) -> usize {
+fn place_at(configuration: Probe, step: usize) -> usize {
     if step < NEAR {
-        spot.near ^ step
+        configuration.near ^ step
     } else {
-        spot.far ^ step
+        configuration.far ^ step
     }
 }
 
@@ -260,27 +260,27 @@ impl<J: Scene, A: Allocator + Copy> Shared<J, A> {
     }
 
     /// What stands where a step looks.
-    fn at(&self, spot: Spot, step: usize) -> Option<&Refutation<J, A>> {
-        let place = place_at(spot, step);
+    fn at(&self, configuration: Probe, step: usize) -> Option<&Refutation<J, A>> {
+        let place = place_at(configuration, step);
         self.part(place)?.slot(place)?.get()
     }
 
-    /// Whether a refuted list is known that places the rows that the word marks, and leaves the states.
-    fn has(&self, spot: Spot, states: &Store<A>) -> bool
-        ensures { IsTrue result → IsRefutedBy J.shape states.now.now spot.word }
+    /// Whether a refuted prefix is known that places the rows that the word marks, and leaves the states.
+    fn has(&self, configuration: Probe, states: &Store<A>) -> bool
+        ensures { IsTrue result → IsRefutedBy J.shape states.now.now configuration.word }
     {
         for step in 0..LOOKS {
-            let Some(known) = self.at(spot, step) else {
+            let Some(known) = self.at(configuration, step) else {
                 return false;
             };
-            if known.is_of(spot.word, states) {
+            if known.is_of(configuration.word, states) {
                 return true;
             }
         }
         false
     }
 
-    /// Whether a refuted list is known that places the rows that are marked, with one further where there is one, and leaves the
+    /// Whether a refuted prefix is known that places the rows that are marked, with one further where there is one, and leaves the
     /// states, which have the digest. It does not allocate.
     fn knows(
         &self,
@@ -296,7 +296,7 @@ impl<J: Scene, A: Allocator + Copy> Shared<J, A> {
         let Some(word) = word_of(placed, further) else {
             return false;
         };
-        self.has(spot_of(digest, word, placed.len()), states)
+        self.has(probe_of(digest, word, placed.len()), states)
     }
 
     /// Makes the slots of the part, unless they are there, if there is room and memory for them.
@@ -309,11 +309,11 @@ impl<J: Scene, A: Allocator + Copy> Shared<J, A> {
         }
     }
 
-    /// Puts the refuted list where a search looks for it, if there is a free slot and memory for it.
-    fn put(&self, spot: Spot, refutation: Refutation<J, A>) -> bool {
+    /// Puts the refuted prefix where a search looks for it, if there is a free slot and memory for it.
+    fn put(&self, configuration: Probe, refutation: Refutation<J, A>) -> bool {
         let mut left = refutation;
         for step in 0..LOOKS {
-            let place = place_at(spot, step);
+            let place = place_at(configuration, step);
             let Some(part) = self.part(place) else {
                 return false;
             };
@@ -331,23 +331,23 @@ impl<J: Scene, A: Allocator + Copy> Shared<J, A> {
         false
     }
 
-    /// Has all threads know of the refuted list, which places the rows that the word marks, if there is a free slot and memory for
+    /// Has all threads know of the refuted prefix, which places the rows that the word marks, if there is a free slot and memory for
     /// it.
-    fn keep_at(&self, spot: Spot, states: &Arc<Store<A>, A>) -> bool
-        requires { IsRefutedBy J.shape states.now.value.now spot.word }
+    fn keep_at(&self, configuration: Probe, states: &Arc<Store<A>, A>) -> bool
+        requires { IsRefutedBy J.shape states.now.value.now configuration.word }
     {
         let Ok(states) = Arc::try_clone(states) else {
             return false;
         };
         let refutation = Refutation {
-            word: spot.word,
+            word: configuration.word,
             states,
             scene: PhantomData,
         };
-        self.put(spot, refutation)
+        self.put(configuration, refutation)
     }
 
-    /// Has all threads know of the refuted list, if there is room and memory for it. Room is taken for its states where they stand
+    /// Has all threads know of the refuted prefix, if there is room and memory for it. Room is taken for its states where they stand
     /// in no slot yet.
     fn keep(&self, digest: u64, states: &Arc<Store<A>, A>, placed: &Marks<A>) -> bool
         requires { IsRefutedTo J.shape states.now.value.now placed.now }
@@ -355,15 +355,15 @@ impl<J: Scene, A: Allocator + Copy> Shared<J, A> {
         let Some(word) = word_of(placed, None) else {
             return false;
         };
-        let spot = spot_of(digest, word, placed.len());
+        let configuration = probe_of(digest, word, placed.len());
         if Arc::strong_count(states) > 1 {
-            return self.keep_at(spot, states);
+            return self.keep_at(configuration, states);
         }
         let size = size_of_shared(states) as u64;
         if !self.takes(size) {
             return false;
         }
-        let is_kept = self.keep_at(spot, states);
+        let is_kept = self.keep_at(configuration, states);
         if !is_kept {
             self.gives(size);
         }
@@ -386,7 +386,7 @@ impl<'a, J: Scene, A: Allocator + Copy> Recorder<Unnoted, A> for Sharing<'a, J, 
 
     ghost grows = { λ r s. Unit {0} };
 
-    fn is_deaf(&self) -> bool {
+    fn records_nothing(&self) -> bool {
         true
     }
 

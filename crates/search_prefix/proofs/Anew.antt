@@ -6,9 +6,9 @@ use Rattle.aud_object.specs.Objects.{ObjState}
 use Rattle.aud_witness.specs.declared.decision.Decision.{Decision}
 use Rattle.aud_order.specs.Shapes.{ShapeOf}
 use Rattle.search_memo.specs.declared.choice.Choice.{Choice}
-use Rattle.search_prefix.specs.declared.searching.Turn.{Turn}
+use Rattle.search_prefix.specs.declared.searching.Frame.{Frame}
 use Rattle.search_memo.specs.Memos.{MemoOf, NameWay}
-use Rattle.search_prefix.specs.Turns.{unnumbered, HasRoomMade}
+use Rattle.search_prefix.specs.Frames.{unnumbered, HasRoomMade}
 use Rattle.search_prefix.proofs.Recording.{AreOpen}
 use Rattle.search_prefix.proofs.Steps.{next_of, states_of}
 
@@ -23,17 +23,17 @@ get-any [] i d e inside = absurd (omega arith)
 get-any (x ∷ xs) zero d e inside = refl
 get-any (x ∷ xs) (suc i) d e inside = get-any xs i d e (omega arith)
 
--- # Turns whose states have no number
+-- # Frames whose states have no number
 
-nexts-same : (ts : List Turn) → map next_of (map unnumbered ts) ≡ map next_of ts
+nexts-same : (ts : List Frame) → map next_of (map unnumbered ts) ≡ map next_of ts
 nexts-same [] = refl
 nexts-same (t ∷ ts) = ap (λ l. t.next ∷ l) (nexts-same ts)
 
-way-none : (shape : ShapeOf) (all : List (List ObjState)) (ts : List Turn) (p : List Decision) → NameWay shape all (map states_of (map unnumbered ts)) p
+way-none : (shape : ShapeOf) (all : List (List ObjState)) (ts : List Frame) (p : List Decision) → NameWay shape all (map states_of (map unnumbered ts)) p
 way-none shape all [] p = tt
 way-none shape all (t ∷ ts) p = (tt, way-none shape all ts (take (length p - 1) p))
 
-opens-same : (P : List Decision → Type 0) (shape : ShapeOf) (cs : List Choice) (ts : List Turn) (p : List Decision) → AreOpen P shape cs ts p → AreOpen P shape cs (map unnumbered ts) p
+opens-same : (P : List Decision → Type 0) (shape : ShapeOf) (cs : List Choice) (ts : List Frame) (p : List Decision) → AreOpen P shape cs ts p → AreOpen P shape cs (map unnumbered ts) p
 opens-same P shape cs [] p opens = tt
 opens-same P shape cs (t ∷ ts) p (q, (d, (is, o, rest))) = (
   q,
@@ -42,32 +42,32 @@ opens-same P shape cs (t ∷ ts) p (q, (d, (is, o, rest))) = (
 
 -- # What stays
 
-module _ {V : Type 0} (old new : MemoOf V) (turns later : List Turn) (here now : Turn) (made : HasRoomMade old new turns later here now) where
+module _ {V : Type 0} (old new : MemoOf V) (frames later : List Frame) (here now : Frame) (made : HasRoomMade old new frames later here now) where
   pub room-next : now.next ≡ here.next
-  room-next = elim made.numbers [ inl (states, same, own) ↦ ap (λ (t : Turn). t.next) own | inr (same, own) ↦ ap (λ (t : Turn). t.next) own ]
+  room-next = elim made.numbers [ inl (states, same, own) ↦ ap (λ (t : Frame). t.next) own | inr (same, own) ↦ ap (λ (t : Frame). t.next) own ]
 
   pub room-silent : now.silent ≡ here.silent
-  room-silent = elim made.numbers [ inl (states, same, own) ↦ ap (λ (t : Turn). t.silent) own | inr (same, own) ↦ ap (λ (t : Turn). t.silent) own ]
+  room-silent = elim made.numbers [ inl (states, same, own) ↦ ap (λ (t : Frame). t.silent) own | inr (same, own) ↦ ap (λ (t : Frame). t.silent) own ]
 
-  pub room-nexts : map next_of later ≡ map next_of turns
-  room-nexts = elim made.numbers [ inl (states, same, own) ↦ ap (map next_of) same | inr (same, own) ↦ ap (map next_of) same ∙ nexts-same turns ]
+  pub room-nexts : map next_of later ≡ map next_of frames
+  room-nexts = elim made.numbers [ inl (states, same, own) ↦ ap (map next_of) same | inr (same, own) ↦ ap (map next_of) same ∙ nexts-same frames ]
 
-  pub room-way : (shape : ShapeOf) (p : List Decision) → NameWay shape old.states (here.states ∷ reverse (map states_of turns)) p → NameWay shape new.states (now.states ∷ reverse (map states_of later)) p
+  pub room-way : (shape : ShapeOf) (p : List Decision) → NameWay shape old.states (here.states ∷ reverse (map states_of frames)) p → NameWay shape new.states (now.states ∷ reverse (map states_of later)) p
   room-way shape p way = elim made.numbers [
     | inl (states, same, own) ↦ subst (λ l. NameWay shape l (now.states ∷ reverse (map states_of later)) p) (sym states)
-        (subst (λ (ts : List Turn). NameWay shape old.states (now.states ∷ reverse (map states_of ts)) p) (sym same)
-        (subst (λ (t : Turn). NameWay shape old.states (t.states ∷ reverse (map states_of turns)) p) (sym own) way))
-    | inr (same, own) ↦ subst (λ (ts : List Turn). NameWay shape new.states (now.states ∷ reverse (map states_of ts)) p) (sym same)
-        (subst (λ (t : Turn). NameWay shape new.states (t.states ∷ reverse (map states_of (map unnumbered turns))) p) (sym own) (
+        (subst (λ (ts : List Frame). NameWay shape old.states (now.states ∷ reverse (map states_of ts)) p) (sym same)
+        (subst (λ (t : Frame). NameWay shape old.states (t.states ∷ reverse (map states_of frames)) p) (sym own) way))
+    | inr (same, own) ↦ subst (λ (ts : List Frame). NameWay shape new.states (now.states ∷ reverse (map states_of ts)) p) (sym same)
+        (subst (λ (t : Frame). NameWay shape new.states (t.states ∷ reverse (map states_of (map unnumbered frames))) p) (sym own) (
           tt,
-          subst (λ l. NameWay shape new.states l (take (length p - 1) p)) (sym (reverse-map states_of (map unnumbered turns) ∙ ap (map states_of) (reverse-map unnumbered turns)))
-              (way-none shape new.states (reverse turns) (take (length p - 1) p)),
+          subst (λ l. NameWay shape new.states l (take (length p - 1) p)) (sym (reverse-map states_of (map unnumbered frames) ∙ ap (map states_of) (reverse-map unnumbered frames)))
+              (way-none shape new.states (reverse frames) (take (length p - 1) p)),
         ))
   ]
 
-  pub room-opens : (P : List Decision → Type 0) (shape : ShapeOf) (cs : List Choice) (p : List Decision) → AreOpen P shape cs (reverse turns) p → AreOpen P shape cs (reverse later) p
+  pub room-opens : (P : List Decision → Type 0) (shape : ShapeOf) (cs : List Choice) (p : List Decision) → AreOpen P shape cs (reverse frames) p → AreOpen P shape cs (reverse later) p
   room-opens P shape cs p opens = elim made.numbers [
-    | inl (states, same, own) ↦ subst (λ (ts : List Turn). AreOpen P shape cs (reverse ts) p) (sym same) opens
-    | inr (same, own) ↦ subst (λ (ts : List Turn). AreOpen P shape cs (reverse ts) p) (sym same)
-        (subst (λ (ts : List Turn). AreOpen P shape cs ts p) (sym (reverse-map unnumbered turns)) (opens-same P shape cs (reverse turns) p opens))
+    | inl (states, same, own) ↦ subst (λ (ts : List Frame). AreOpen P shape cs (reverse ts) p) (sym same) opens
+    | inr (same, own) ↦ subst (λ (ts : List Frame). AreOpen P shape cs (reverse ts) p) (sym same)
+        (subst (λ (ts : List Frame). AreOpen P shape cs ts p) (sym (reverse-map unnumbered frames)) (opens-same P shape cs (reverse frames) p opens))
   ]

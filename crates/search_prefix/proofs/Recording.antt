@@ -12,7 +12,7 @@ use Rattle.aud_order.specs.Silent.{silent_fate}
 use Rattle.aud_order.proofs.Lists.{take-push}
 use Rattle.search_memo.specs.declared.choice.Choice.{Choice}
 use Rattle.search_memo.specs.declared.memo.Reason.{Reason}
-use Rattle.search_prefix.specs.declared.searching.Turn.{Turn}
+use Rattle.search_prefix.specs.declared.searching.Frame.{Frame}
 use Rattle.search_memo.specs.Choices.{AreChoices}
 use Rattle.search_prefix.specs.Levels.{IsSearching}
 use Rattle.search_memo.specs.Memos.{MemoOf, NameWay, IsGrown, IsReported, IsFurther}
@@ -32,7 +32,7 @@ IsHeard P shape cs p next None = AreKept P shape cs p 0 next
 IsHeard P shape cs p next (Some d) = HasSilent shape P p d × (length cs ≤ next)
 
 -- the list behind a choice is searched, and P holds of what was tried before it
-pub record IsOpen (P : List Decision → Type 0) (shape : ShapeOf) (cs : List Choice) (p : List Decision) (d : Decision) (t : Turn) : Type 0 where
+pub record IsOpen (P : List Decision → Type 0) (shape : ShapeOf) (cs : List Choice) (p : List Decision) (d : Decision) (t : Frame) : Type 0 where
   pub place : ℕ
   pub choice : Choice
   pub at : slice_get cs place ≡ Some choice
@@ -42,7 +42,7 @@ pub record IsOpen (P : List Decision → Type 0) (shape : ShapeOf) (cs : List Ch
   pub next : ((t.silent ≡ None) × (t.next ≡ place + 1)) ⊎ ((t.silent ≡ Some d) × (silent_fate (history_of shape) d.tx ≡ Some d.fate) × (length cs ≤ t.next))
 
 -- the same of each beginning of a list, the longest first
-abbrev pub AreOpen : (List Decision → Type 0) → ShapeOf → List Choice → List Turn → List Decision → Type 0
+abbrev pub AreOpen : (List Decision → Type 0) → ShapeOf → List Choice → List Frame → List Decision → Type 0
 AreOpen P shape cs [] path = Unit {0}
 AreOpen P shape cs (t ∷ ts) path = (q : List Decision) × ((d : Decision) × ((path ≡ q ++ d ∷ []) × IsOpen P shape cs q d t × AreOpen P shape cs ts q))
 
@@ -56,7 +56,7 @@ module _ (P Q : List Decision → Type 0) (shape : ShapeOf) (cs : List Choice) (
   heard-on p next None heard = kept-on p 0 next heard
   heard-on p next (Some d) (has, over) = (record { silent = has.silent; good = has.good; noted = on (p ++ d ∷ []) has.noted }, over)
 
-  pub opens-on : (ts : List Turn) (path : List Decision) → AreOpen P shape cs ts path → AreOpen Q shape cs ts path
+  pub opens-on : (ts : List Frame) (path : List Decision) → AreOpen P shape cs ts path → AreOpen Q shape cs ts path
   opens-on [] path opens = tt
   opens-on (t ∷ ts) path (q, (d, (is, o, rest))) = (
     q,
@@ -99,7 +99,7 @@ module _ (P : List Decision → Type 0) (shape : ShapeOf) (cs : List Choice) whe
   heard-follows p from k (Some d) past inside (has, over) bad = absurd (omega arith)
 
   -- a good choice is followed
-  pub open-next : (p : List Decision) (k g : ℕ) (c : Choice) (t : Turn) (silent : Option Decision) → AreChoices (history_of shape) cs → slice_get cs k ≡ Some c → AreKept P shape cs p 0 k → IsGoodNext (objects_of shape) (history_of shape) p c.decision →
+  pub open-next : (p : List Decision) (k g : ℕ) (c : Choice) (t : Frame) (silent : Option Decision) → AreChoices (history_of shape) cs → slice_get cs k ≡ Some c → AreKept P shape cs p 0 k → IsGoodNext (objects_of shape) (history_of shape) p c.decision →
       IsNextPlace cs k g → IsSilentAt cs k silent → t.next ≡ g → t.silent ≡ silent → IsOpen P shape cs p c.decision t
   open-next p k g c t None choices at kept good behind quiet next is = record {
     place = k;
@@ -124,7 +124,7 @@ module _ (P : List Decision → Type 0) (shape : ShapeOf) (cs : List Choice) whe
   }
 
   -- and its list is refuted
-  pub open-done : (p : List Decision) (d : Decision) (t : Turn) → IsOpen P shape cs p d t → P (p ++ d ∷ []) → IsHeard P shape cs p t.next t.silent
+  pub open-done : (p : List Decision) (d : Decision) (t : Frame) → IsOpen P shape cs p d t → P (p ++ d ∷ []) → IsHeard P shape cs p t.next t.silent
   open-done p d t o noted = elim o.next [
     | inl (none, one) ↦ subst (λ n. IsHeard P shape cs p n t.silent) (sym one) (subst (λ (s : Option Decision). IsHeard P shape cs p (o.place + 1) s) (sym none)
         (kept-join p 0 o.place (o.place + 1) o.kept (kept-one p o.place o.choice o.at (λ good. subst (λ (x : Decision). P (p ++ x ∷ [])) (sym o.is) noted))))
@@ -204,31 +204,31 @@ module _ {V : Type 0} (grows : V → V → Type 0) where
 -- # The loop
 
 -- once known choices are passed over: where the search stands, and what the recorder heard
-pub record Round {V N : Type 0} (noted : V → N → List Decision → Type 0) (start cur : CursorOf) (memo : MemoOf V) (cs : List Choice) (used from : ℕ) (here : Turn) (turns : List Turn) : Type 0 where
+pub record Round {V N : Type 0} (noted : V → N → List Decision → Type 0) (start cur : CursorOf) (memo : MemoOf V) (cs : List Choice) (used from : ℕ) (here : Frame) (frames : List Frame) : Type 0 where
   pub same : cur.shape ≡ start.shape
   pub memo_same : memo.shape ≡ start.shape
-  pub way : NameWay start.shape memo.states (here.states ∷ reverse (map states_of turns)) cur.path
-  pub before : IsSearching (objects_of start.shape) (history_of start.shape) start.path cs used cur.path here.next (reverse (map next_of turns))
+  pub way : NameWay start.shape memo.states (here.states ∷ reverse (map states_of frames)) cur.path
+  pub before : IsSearching (objects_of start.shape) (history_of start.shape) start.path cs used cur.path here.next (reverse (map next_of frames))
   pub passed : ArePassed cur cs here.next from
-  pub searching : IsSearching (objects_of start.shape) (history_of start.shape) start.path cs used cur.path from (reverse (map next_of turns))
+  pub searching : IsSearching (objects_of start.shape) (history_of start.shape) start.path cs used cur.path from (reverse (map next_of frames))
   pub heard : IsHeard (HasNote (noted memo.recorder)) start.shape cs cur.path from here.silent
-  pub opens : AreOpen (HasNote (noted memo.recorder)) start.shape cs (reverse turns) cur.path
+  pub opens : AreOpen (HasNote (noted memo.recorder)) start.shape cs (reverse frames) cur.path
 
 pub round : {V N : Type 0} (noted : V → N → List Decision → Type 0) (grows : V → V → Type 0) (stays : (r s : V) (note : N) (p : List Decision) → grows r s → noted r note p → noted s note p) (start at cur : CursorOf) (was memo : MemoOf V) (cs : List Choice)
-    (used from : ℕ) (here : Turn) (turns : List Turn) → cur ≡ at → IsReported grows was memo → at.shape ≡ start.shape → was.shape ≡ start.shape → NameWay start.shape was.states (here.states ∷ reverse (map states_of turns)) at.path →
-    IsSearching (objects_of start.shape) (history_of start.shape) start.path cs used at.path here.next (reverse (map next_of turns)) → IsHeard (HasNote (noted was.recorder)) start.shape cs at.path here.next here.silent →
-    AreOpen (HasNote (noted was.recorder)) start.shape cs (reverse turns) at.path → ArePassed at cs here.next from → AreKept (HasNote (noted memo.recorder)) at.shape cs at.path here.next from → Round noted start cur memo cs used from here turns
-round noted grows stays start at cur was memo cs used from here turns is reported same shape way searching heard opens passed kept =
-    subst (λ (v : CursorOf). Round noted start v memo cs used from here turns) (sym is) (record {
+    (used from : ℕ) (here : Frame) (frames : List Frame) → cur ≡ at → IsReported grows was memo → at.shape ≡ start.shape → was.shape ≡ start.shape → NameWay start.shape was.states (here.states ∷ reverse (map states_of frames)) at.path →
+    IsSearching (objects_of start.shape) (history_of start.shape) start.path cs used at.path here.next (reverse (map next_of frames)) → IsHeard (HasNote (noted was.recorder)) start.shape cs at.path here.next here.silent →
+    AreOpen (HasNote (noted was.recorder)) start.shape cs (reverse frames) at.path → ArePassed at cs here.next from → AreKept (HasNote (noted memo.recorder)) at.shape cs at.path here.next from → Round noted start cur memo cs used from here frames
+round noted grows stays start at cur was memo cs used from here frames is reported same shape way searching heard opens passed kept =
+    subst (λ (v : CursorOf). Round noted start v memo cs used from here frames) (sym is) (record {
       same = same;
       memo_same = reported.shape ∙ shape;
-      way = subst (λ l. NameWay start.shape l (here.states ∷ reverse (map states_of turns)) at.path) (sym reported.states) way;
+      way = subst (λ l. NameWay start.shape l (here.states ∷ reverse (map states_of frames)) at.path) (sym reported.states) way;
       before = searching;
       passed = passed;
-      searching = passed-search start at cs used here.next from (reverse (map next_of turns)) same searching passed;
+      searching = passed-search start at cs used here.next from (reverse (map next_of frames)) same searching passed;
       heard = heard-passed (HasNote (noted memo.recorder)) start.shape cs at.path here.next from here.silent passed.0 (heard-on (HasNote (noted was.recorder)) (HasNote (noted memo.recorder)) start.shape cs on at.path here.next here.silent heard)
           (subst (λ (s : ShapeOf). AreKept (HasNote (noted memo.recorder)) s cs at.path here.next from) same kept);
-      opens = opens-on (HasNote (noted was.recorder)) (HasNote (noted memo.recorder)) start.shape cs on (reverse turns) at.path opens;
+      opens = opens-on (HasNote (noted was.recorder)) (HasNote (noted memo.recorder)) start.shape cs on (reverse frames) at.path opens;
     })
   where
     on : (p : List Decision) → HasNote (noted was.recorder) p → HasNote (noted memo.recorder) p
@@ -237,7 +237,7 @@ round noted grows stays start at cur was memo cs used from here turns is reporte
 reverse-push : {X : Type 0} (xs : List X) (x : X) → reverse (xs ++ x ∷ []) ≡ x ∷ reverse xs
 reverse-push xs x = reverse-append xs (x ∷ [])
 
-module _ {V N : Type 0} {noted : V → N → List Decision → Type 0} {start cur : CursorOf} {memo : MemoOf V} {cs : List Choice} {used from : ℕ} {here : Turn} {turns : List Turn} (r : Round noted start cur memo cs used from here turns) where
+module _ {V N : Type 0} {noted : V → N → List Decision → Type 0} {start cur : CursorOf} {memo : MemoOf V} {cs : List Choice} {used from : ℕ} {here : Frame} {frames : List Frame} (r : Round noted start cur memo cs used from here frames) where
   good-there : (d : Decision) → IsGoodAt cur d → IsGoodNext (objects_of start.shape) (history_of start.shape) cur.path d
   good-there d good = subst (λ (s : ShapeOf). IsGoodNext (objects_of s) (history_of s) cur.path d) r.same good
 
@@ -245,7 +245,7 @@ module _ {V N : Type 0} {noted : V → N → List Decision → Type 0} {start cu
   there-good d good = subst (λ (s : ShapeOf). IsGoodNext (objects_of s) (history_of s) cur.path d) (sym r.same) good
 
   pub round-follows : (new : CursorOf) (k : ℕ) → IsFound cur new cs from (Some k) → Follows start cur new cs here.next k
-  round-follows new k found = passed-follows start cur new cs used here.next from k (reverse (map next_of turns)) r.same r.before r.passed found
+  round-follows new k found = passed-follows start cur new cs used here.next from k (reverse (map next_of frames)) r.same r.before r.passed found
 
   -- why the list is refuted after which nothing is left
   pub round-reason : (new : CursorOf) (reason : Reason N) → AreChoices (history_of start.shape) cs → IsFound cur new cs from None → reason ≡ reason_by here.silent → IsReason (noted memo.recorder) new.shape new.path reason
@@ -256,25 +256,25 @@ module _ {V N : Type 0} {noted : V → N → List Decision → Type 0} {start cu
       (heard-reason (noted memo.recorder) start.shape cs cur.path from here.silent choices (r.searching.opens cur.path r.searching.here).1 r.heard (λ j c after below there good. bad j c after there (there-good c.decision good)))))
 
   -- the first list is refuted
-  pub round-over : (new : CursorOf) (recorder : V) (note : N) → IsFound cur new cs from None → turns ≡ [] → noted recorder note new.path → noted recorder note start.path
+  pub round-over : (new : CursorOf) (recorder : V) (note : N) → IsFound cur new cs from None → frames ≡ [] → noted recorder note new.path → noted recorder note start.path
   round-over new recorder note (stays, bad) none holds =
-      let last = subst (λ (l : List Turn). IsSearching (objects_of start.shape) (history_of start.shape) start.path cs used cur.path from (reverse (map next_of l))) none r.searching in
+      let last = subst (λ (l : List Frame). IsSearching (objects_of start.shape) (history_of start.shape) start.path cs used cur.path from (reverse (map next_of l))) none r.searching in
       subst (λ (l : List Decision). noted recorder note l) (ap (λ (v : CursorOf). v.path) stays ∙ last.levels) holds
 
   module _ (recorder : V) (on : (p : List Decision) → HasNote (noted memo.recorder) p → HasNote (noted recorder) p) where
     -- a list is refuted, and the search goes back
-    pub round-back : (new : CursorOf) (p : List Decision) (less : List Turn) (t : Turn) (note : N) → IsFound cur new cs from None → turns ≡ less ++ t ∷ [] → noted recorder note new.path → p ≡ take (length cur.path - 1) cur.path →
+    pub round-back : (new : CursorOf) (p : List Decision) (less : List Frame) (t : Frame) (note : N) → IsFound cur new cs from None → frames ≡ less ++ t ∷ [] → noted recorder note new.path → p ≡ take (length cur.path - 1) cur.path →
         IsHeard (HasNote (noted recorder)) start.shape cs p t.next t.silent × AreOpen (HasNote (noted recorder)) start.shape cs (reverse less) p
     round-back new p less t note (stays, bad) shorter holds back =
-        let all = opens-on (HasNote (noted memo.recorder)) (HasNote (noted recorder)) start.shape cs on (reverse turns) cur.path r.opens in
-        let (q, (d, (is, o, rest))) = subst (λ (l : List Turn). AreOpen (HasNote (noted recorder)) start.shape cs l cur.path) (ap reverse shorter ∙ reverse-push less t) all in
+        let all = opens-on (HasNote (noted memo.recorder)) (HasNote (noted recorder)) start.shape cs on (reverse frames) cur.path r.opens in
+        let (q, (d, (is, o, rest))) = subst (λ (l : List Frame). AreOpen (HasNote (noted recorder)) start.shape cs l cur.path) (ap reverse shorter ∙ reverse-push less t) all in
         let own : p ≡ q = back ∙ ap (λ l. take (length l - 1) l) is ∙ take-push q d in
         let here_noted : HasNote (noted recorder) (q ++ d ∷ []) = (note, subst (λ (l : List Decision). noted recorder note l) (ap (λ (v : CursorOf). v.path) stays ∙ is) holds) in
         subst (λ l. IsHeard (HasNote (noted recorder)) start.shape cs l t.next t.silent × AreOpen (HasNote (noted recorder)) start.shape cs (reverse less) l) (sym own)
         (open-done (HasNote (noted recorder)) start.shape cs q d t o here_noted, rest)
 
     -- a good choice was followed
-    round-open : (new : CursorOf) (k g : ℕ) (silent : Option Decision) (t : Turn) → AreChoices (history_of start.shape) cs → (f : IsFound cur new cs from (Some k)) → IsNextPlace cs k g → IsSilentAt cs k silent → t.next ≡ g → t.silent ≡ silent →
+    round-open : (new : CursorOf) (k g : ℕ) (silent : Option Decision) (t : Frame) → AreChoices (history_of start.shape) cs → (f : IsFound cur new cs from (Some k)) → IsNextPlace cs k g → IsSilentAt cs k silent → t.next ≡ g → t.silent ≡ silent →
         IsOpen (HasNote (noted recorder)) start.shape cs cur.path f.0.decision t
     round-open new k g silent t choices (c, (past, inside, at, good, is, bad)) behind quiet next own =
         open-next (HasNote (noted recorder)) start.shape cs cur.path k g c t silent choices at
@@ -285,27 +285,27 @@ module _ {V N : Type 0} {noted : V → N → List Decision → Type 0} {start cu
 
     -- its list is known to be refuted, and was noted
     pub round-known : (new : CursorOf) (p : List Decision) (k g : ℕ) (silent : Option Decision) (note : N) → AreChoices (history_of start.shape) cs → IsFound cur new cs from (Some k) → IsNextPlace cs k g → IsSilentAt cs k silent → noted recorder note new.path → p ≡ cur.path →
-        IsHeard (HasNote (noted recorder)) start.shape cs p g silent × AreOpen (HasNote (noted recorder)) start.shape cs (reverse turns) p
+        IsHeard (HasNote (noted recorder)) start.shape cs p g silent × AreOpen (HasNote (noted recorder)) start.shape cs (reverse frames) p
     round-known new p k g silent note choices found behind quiet holds back =
         let path : new.path ≡ cur.path ++ found.0.decision ∷ [] = ap (λ (v : CursorOf). v.path) found.1.4 in
-        subst (λ l. IsHeard (HasNote (noted recorder)) start.shape cs l g silent × AreOpen (HasNote (noted recorder)) start.shape cs (reverse turns) l) (sym back) (
+        subst (λ l. IsHeard (HasNote (noted recorder)) start.shape cs l g silent × AreOpen (HasNote (noted recorder)) start.shape cs (reverse frames) l) (sym back) (
           open-done (HasNote (noted recorder)) start.shape cs cur.path found.0.decision (record { next = g; states = None; silent = silent })
               (round-open new k g silent (record { next = g; states = None; silent = silent }) choices found behind quiet refl refl) (note, subst (λ (l : List Decision). noted recorder note l) path holds),
-          opens-on (HasNote (noted memo.recorder)) (HasNote (noted recorder)) start.shape cs on (reverse turns) cur.path r.opens,
+          opens-on (HasNote (noted memo.recorder)) (HasNote (noted recorder)) start.shape cs on (reverse frames) cur.path r.opens,
         )
 
     -- its list is searched
-    pub round-deeper : (new : CursorOf) (k g : ℕ) (silent : Option Decision) (t : Turn) (more : List Turn) → AreChoices (history_of start.shape) cs → IsFound cur new cs from (Some k) → IsNextPlace cs k g → IsSilentAt cs k silent → t.next ≡ g → t.silent ≡ silent → more ≡ turns ++ t ∷ [] →
+    pub round-deeper : (new : CursorOf) (k g : ℕ) (silent : Option Decision) (t : Frame) (more : List Frame) → AreChoices (history_of start.shape) cs → IsFound cur new cs from (Some k) → IsNextPlace cs k g → IsSilentAt cs k silent → t.next ≡ g → t.silent ≡ silent → more ≡ frames ++ t ∷ [] →
         AreOpen (HasNote (noted recorder)) start.shape cs (reverse more) new.path
     round-deeper new k g silent t more choices found behind quiet next own grown =
-        subst (λ (l : List Turn). AreOpen (HasNote (noted recorder)) start.shape cs l new.path) (sym (ap reverse grown ∙ reverse-push turns t)) (
+        subst (λ (l : List Frame). AreOpen (HasNote (noted recorder)) start.shape cs l new.path) (sym (ap reverse grown ∙ reverse-push frames t)) (
           cur.path,
           (
             found.0.decision,
             (
               ap (λ (v : CursorOf). v.path) found.1.4,
               round-open new k g silent t choices found behind quiet next own,
-              opens-on (HasNote (noted memo.recorder)) (HasNote (noted recorder)) start.shape cs on (reverse turns) cur.path r.opens,
+              opens-on (HasNote (noted memo.recorder)) (HasNote (noted recorder)) start.shape cs on (reverse frames) cur.path r.opens,
             ),
           ),
         )

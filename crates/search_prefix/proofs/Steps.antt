@@ -25,7 +25,7 @@ use Rattle.aud_order.proofs.Lengths.{length-good}
 use Rattle.search_memo.specs.declared.choice.Effect.TheVariants.{Silent}
 use Rattle.search_memo.specs.declared.choice.Choice.{Choice}
 use Rattle.search_prefix.specs.declared.outcome.Outcome.{Outcome}
-use Rattle.search_prefix.specs.declared.searching.Turn.{Turn}
+use Rattle.search_prefix.specs.declared.searching.Frame.{Frame}
 use Rattle.search_prefix.specs.declared.outcome.Outcome.TheVariants as outcome
 use Rattle.search_prefix.specs.declared.outcome.Ended.{Ended}
 use Rattle.search_prefix.specs.declared.outcome.Ended.TheVariants as ended
@@ -139,14 +139,14 @@ reports-from N X noted objects h p (Some whole) None ended.Spent less reported =
 
 -- # The loop
 
-abbrev pub next_of : Turn → ℕ
+abbrev pub next_of : Frame → ℕ
 next_of t = t.next
 
-abbrev pub states_of : Turn → Option ℕ
+abbrev pub states_of : Frame → Option ℕ
 states_of t = t.states
 
-pub more-turns : {X : Type 0} (f : Turn → X) (old new : List Turn) (t : Turn) → new ≡ old ++ t ∷ [] → map f new ≡ map f old ++ f t ∷ []
-more-turns f old new t is = ap (map f) is ∙ map-append f old (t ∷ [])
+pub more-frames : {X : Type 0} (f : Frame → X) (old new : List Frame) (t : Frame) → new ≡ old ++ t ∷ [] → map f new ≡ map f old ++ f t ∷ []
+more-frames f old new t is = ap (map f) is ∙ map-append f old (t ∷ [])
 
 -- the choice that was followed
 pub record Follows (start cur new : CursorOf) (cs : List Choice) (next k : ℕ) : Type 0 where

@@ -1,4 +1,4 @@
--- Where a search stands: what was tried after the list of its cursor and after each beginning of it.
+-- Where a search stands: what was tried after the prefix of its cursor and after each beginning of it.
 use Rattle.std.specs.Prelude.{◌≡◌, ℕ, ◌<◌, ◌≤◌, List, [], ◌∷◌, ◌++◌, length, Some, slice_get, ◌⊎◌}
 use Rattle.std.specs.List.{Contains}
 use Rattle.aud_event.specs.Meanings.{Declared}
@@ -8,21 +8,21 @@ use Rattle.aud_witness.specs.Orders.{IsFull, IsGood, Refuted}
 use Rattle.search_memo.specs.declared.choice.Choice.{Choice}
 use Rattle.search_prefix.specs.Searches.{IsExpandable, AreDifferent}
 
--- after the list the first choices are refuted
+-- after the prefix the first choices are refuted
 abbrev pub AreTried : List Declared → History → List Choice → List Decision → ℕ → Type 0
 AreTried objects h cs path count = (k : ℕ) (c : Choice) → k < count → slice_get cs k ≡ Some c → Refuted objects h (path ++ c.decision ∷ [])
 
--- after the list none of the other choices was expanded
+-- after the prefix none of the other choices was expanded
 abbrev pub AreFresh : List Choice → List (List Decision) → List Decision → ℕ → Type 0
 AreFresh cs es path count = (k : ℕ) (c : Choice) → count ≤ k → slice_get cs k ≡ Some c → Contains es (path ++ c.decision ∷ []) → ⊥
 
--- the same of each beginning of the list from p on, the longest first, once the list itself is refuted
+-- the same of each beginning of the prefix from p on, the longest first, once the prefix itself is refuted
 abbrev pub AreBelow : List Declared → History → List Decision → List Choice → List (List Decision) → List ℕ → List Decision → Type 0
 AreBelow objects h p cs es [] path = path ≡ p
 AreBelow objects h p cs es (g ∷ gs) path =
     (q : List Decision) × ((d : Decision) × ((path ≡ q ++ d ∷ []) × (Refuted objects h path → AreTried objects h cs q g) × AreFresh cs es q g × AreBelow objects h p cs es gs q))
 
--- a search of the lists that begin with p, its cursor at path, where some choices were tried and so many prefixes expanded
+-- a search of the prefixes that begin with p, its cursor at path, where some choices were tried and so many prefixes expanded
 pub record IsSearching (objects : List Declared) (h : History) (p : List Decision) (cs : List Choice) (used : ℕ) (path : List Decision) (next : ℕ) (below : List ℕ) : Type 0 where
   pub es : List (List Decision)
   pub count : length es ≡ used

@@ -2,4 +2,4 @@ pub mod Searches
 pub mod Levels
 pub mod Tried
 pub mod Readiness
-pub mod Turns
+pub mod Frames

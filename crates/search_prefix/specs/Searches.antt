@@ -43,14 +43,14 @@ abbrev pub SpentBy : List Declared → History → List Decision → ℕ → Typ
 SpentBy objects h p b =
     (es : List (List Decision)) × ((length es ≡ b) × AreExpanded objects h p es × ((next : List Decision) × IsLeft objects h p es next))
 
--- what an outcome says of the lists that begin with p, where there is a budget and where there is none
+-- what an outcome says of the prefixes that begin with p, where there is a budget and where there is none
 abbrev pub Reports : {X : Type 0} → List Declared → History → List Decision → Option ℕ → Outcome X → Type 0
 Reports objects h p budget outcome.Refuted = Refuted objects h p
 Reports objects h p budget (outcome.Witness q) = BeginsWith p q × Shows objects h q
 Reports objects h p (Some b) outcome.Spent = SpentBy objects h p b
 Reports objects h p None outcome.Spent = ⊥
 
--- what is said of a history: a list shows it, or none does
+-- what is said of a history: a prefix shows it, or none does
 abbrev pub Decides : {X : Type 0} → List Declared → History → Decided X → Type 0
 Decides objects h (decided.Opaque q) = Shows objects h q
 Decides objects h decided.NotOpaque = orders.Opaque objects h → ⊥
@@ -60,7 +60,7 @@ abbrev pub DecidesByLetter : {X : Type 0} → List Declared → History → Deci
 DecidesByLetter objects h (decided.Opaque q) = Letter objects h
 DecidesByLetter objects h decided.NotOpaque = Letter objects h → ⊥
 
--- the same of a search over a recorder, which has a note of the empty list where no list shows the history
+-- the same of a search over a recorder, which has a note of the empty prefix where no prefix shows the history
 abbrev pub ReportsWith : {R N X : Type 0} → List Declared → History → (R → N → List Decision → Type 0) → Searched R N X → Type 0
 ReportsWith objects h noted (searched.Opaque q) = Shows objects h q
 ReportsWith objects h noted (searched.NotOpaque r note) = (orders.Opaque objects h → ⊥) × noted r note []

@@ -45,14 +45,14 @@ Spends (Some whole) used (Some left) = used + left ≡ whole + 1
 Spends None used (Some left) = ⊥
 Spends (Some whole) used None = ⊥
 
--- what is reported of the lists that begin with one that was expanded, where so much of the budget is left
+-- what is reported of the prefixes that begin with one that was expanded, where so much of the budget is left
 abbrev pub ReportsFrom : {N X : Type 0} → List Declared → History → (N → List Decision → Type 0) → List Decision → Option ℕ → Ended N X → Type 0
 ReportsFrom objects h noted p left (ended.Refuted note) = Refuted objects h p × noted note p
 ReportsFrom objects h noted p left (ended.Witness q) = BeginsWith p q × Shows objects h q
 ReportsFrom objects h noted p (Some left) ended.Spent = SpentBy objects h p (left + 1)
 ReportsFrom objects h noted p None ended.Spent = ⊥
 
--- the search ended with the list
+-- the search ended with the prefix
 abbrev pub IsWitnessOf : {N X : Type 0} → List Decision → Ended N X → Type 0
 IsWitnessOf p (ended.Refuted note) = ⊥
 IsWitnessOf p (ended.Witness q) = q ≡ p
@@ -64,6 +64,6 @@ outcome_of (ended.Refuted note) = outcome.Refuted
 outcome_of (ended.Witness q) = outcome.Witness q
 outcome_of ended.Spent = outcome.Spent
 
--- the same of the lists that begin with the cursor's
+-- the same of the prefixes that begin with the cursor's
 abbrev pub ReportsAt : {N X : Type 0} → CursorOf → (N → List Decision → Type 0) → Option ℕ → Ended N X → Type 0
 ReportsAt at noted left e = ReportsFrom (objects_of at.shape) (history_of at.shape) noted at.path left e

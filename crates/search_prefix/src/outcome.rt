@@ -6,7 +6,7 @@ ghost use Rattle.search_prefix.specs.Tried.{outcome_of};
 use aud_witness::Prefix;
 use std::alloc::{Allocator, Global};
 
-/// What a search with a budget found out about the lists that begin with a prefix.
+/// What a search with a budget found out about the prefixes that begin with a prefix.
 #[derive(Debug, Drop)]
 pub enum Outcome<A: Allocator = Global> {
     /// None of them shows the history.
@@ -20,16 +20,16 @@ pub enum Outcome<A: Allocator = Global> {
 /// Whether a history is opaque.
 #[derive(Debug, Drop)]
 pub enum Decided<A: Allocator = Global> {
-    /// It is: the list shows it.
+    /// It is: the prefix shows it.
     Opaque(Prefix<A>),
-    /// It is not: no list shows it.
+    /// It is not: no prefix shows it.
     NotOpaque,
 }
 
 /// How a search over a recorder ended.
 #[derive(Drop)]
 pub enum Ended<N: Copy, A: Allocator = Global> {
-    /// No list that begins with the one that it began at shows the history, and this is its note.
+    /// No prefix that begins with the one that it began at shows the history, and this is its note.
     Refuted(N),
     /// This one does.
     Witness(Prefix<A>),
@@ -53,8 +53,8 @@ impl<N: Copy, A: Allocator> Ended<N, A> {
 /// Whether a history is opaque, by a search over a recorder.
 #[derive(Drop)]
 pub enum Searched<R: Drop, N: Copy, A: Allocator = Global> {
-    /// It is: the list shows it.
+    /// It is: the prefix shows it.
     Opaque(Prefix<A>),
-    /// It is not: no list shows it. The recorder has the note of the empty list.
+    /// It is not: no prefix shows it. The recorder has the note of the empty prefix.
     NotOpaque(R, N),
 }

@@ -1,4 +1,4 @@
-//! The search over one cursor: each good list of decisions is expanded at most once, and so is each spot, which is the
+//! The search over one cursor: each good prefix is expanded at most once, and so is each configuration, which is the
 //! transactions placed and the states of all objects. Where a silent transaction is good, only its choice is followed.
 
 ghost use Rattle.std.specs.Prelude.{◌≡◌, ◌<◌, Some, None, length, map, IfOk, OnOk, MatchOption, []};
@@ -13,7 +13,7 @@ ghost use Rattle.aud_order.specs.Cursors.{cursor_back, cursor_with};
 ghost use Rattle.search_prefix.specs.Tried.{IsTried, IsFound, IsNextPlace, ArePassed, IsWitnessOf, ReportsAt};
 ghost use Rattle.search_memo.specs.Memos.{Names, states_reached, IsReported, IsFurther, IsStep, IsRefutedAt};
 ghost use Rattle.search_memo.specs.Recorders.{HasNote, IsNotedFor, IsReason, AreKept, IsSilentAt, reason_by, IsNotedAfter, HasNoteAfter};
-ghost use Rattle.search_prefix.specs.Turns.{IsSought, IsArrived, IsClosed, unnumbered, HasRoomMade};
+ghost use Rattle.search_prefix.specs.Frames.{IsSought, IsArrived, IsClosed, unnumbered, HasRoomMade};
 
 use crate::outcome::{Ended, Outcome, Searched};
 use crate::ready::Ready;
@@ -59,7 +59,7 @@ fn try_from<A: Allocator + Copy>(
     Ok(None)
 }
 
-/// Notes the cursor's list with the decision after it, if that is good: the note is of a list that is the same to what comes
+/// Notes the cursor's prefix with the decision after it, if that is good: the note is of a prefix that is the same to what comes
 /// after them. The cursor comes back.
 fn pass<N: Copy, R: Recorder<N, A>, A: Allocator + Copy>(
     memo: &mut Memo<N, R, A>,
@@ -73,7 +73,7 @@ fn pass<N: Copy, R: Recorder<N, A>, A: Allocator + Copy>(
     ensures stays { OnOk result (cursor.new ≡ cursor.old) }
     ensures reported { OnOk result (IsReported R.grows memo.old memo.new) }
 {
-    if memo.is_deaf() {
+    if memo.records_nothing() {
         return Ok(());
     }
     if !try_decision(cursor, decision)? {
@@ -91,7 +91,7 @@ fn pass_known<N: Copy, R: Recorder<N, A>, A: Allocator + Copy>(
     cursor: &mut Cursor<A>,
     choices: &[Choice],
     ready: &Ready<A>,
-    here: Turn,
+    here: Frame,
 ) -> Result<usize, OutOfMemory>
     requires choices { AreChoices (history_of cursor.old.shape) choices.now }
     requires same { ready.now.choices ≡ choices.now }
@@ -169,7 +169,7 @@ fn silent_at(choices: &[Choice], place: usize) -> Option<Decision>
     }
 }
 
-/// Why a list is refuted, once all its choices are, or once the one of a silent transaction is.
+/// Why a prefix is refuted, once all its choices are, or once the one of a silent transaction is.
 fn reason_of<N>(silent: Option<Decision>) -> Reason<N>
     ensures { result ≡ reason_by silent }
 {
@@ -179,21 +179,21 @@ fn reason_of<N>(silent: Option<Decision>) -> Reason<N>
     }
 }
 
-/// Which choice after a list is tried next, the number of the states there, if they have one, and the choice of a silent
+/// Which choice after a prefix is tried next, the number of the states there, if they have one, and the choice of a silent
 /// transaction that was followed, if one was.
 #[derive(Clone, Copy)]
-struct Turn {
+struct Frame {
     next: usize,
     states: Option<usize>,
     silent: Option<Decision>,
 }
 
-impl Turn {
-    /// After a list that was just expanded.
-    fn new(states: Option<usize>) -> Turn
+impl Frame {
+    /// After a prefix that was just expanded.
+    fn new(states: Option<usize>) -> Frame
         ensures { result ≡ record { next = 0; states = states; silent = None } }
     {
-        Turn {
+        Frame {
             next: 0,
             states,
             silent: None,
@@ -201,10 +201,10 @@ impl Turn {
     }
 
     /// The same, but the states have no number.
-    fn unnumbered(self) -> Turn
+    fn unnumbered(self) -> Frame
         ensures { result ≡ unnumbered self }
     {
-        Turn {
+        Frame {
             next: self.next,
             states: None,
             silent: self.silent,
@@ -213,25 +213,25 @@ impl Turn {
 }
 
 /// Takes the numbers of all states away.
-fn forget_numbers(turns: &mut [Turn])
-    ensures { turns.new ≡ map unnumbered turns.old }
+fn forget_numbers(frames: &mut [Frame])
+    ensures { frames.new ≡ map unnumbered frames.old }
 {
-    for place in 0..turns.len() {
-        turns[place] = turns[place].unnumbered();
+    for place in 0..frames.len() {
+        frames[place] = frames[place].unnumbered();
     }
 }
 
-/// Begins the memo anew if it is full. Then the states of no turn have a number.
+/// Begins the memo anew if it is full. Then the states of no frame have a number.
 fn make_room<N: Copy, R: Recorder<N, A>, A: Allocator + Copy>(
     memo: &mut Memo<N, R, A>,
-    turns: &mut Vec<Turn, A>,
-    here: &mut Turn,
+    frames: &mut Vec<Frame, A>,
+    here: &mut Frame,
 )
-    ensures { HasRoomMade memo.old memo.new turns.old.items turns.new.items here.old here.new }
+    ensures { HasRoomMade memo.old memo.new frames.old.items frames.new.items here.old here.new }
 {
     if memo.is_full() {
         memo.begin_anew();
-        forget_numbers(turns);
+        forget_numbers(frames);
         *here = here.unnumbered();
     }
 }
@@ -242,7 +242,7 @@ fn seek<N: Copy, R: Recorder<N, A>, A: Allocator + Copy>(
     cursor: &mut Cursor<A>,
     choices: &[Choice],
     ready: &Ready<A>,
-    here: Turn,
+    here: Frame,
 ) -> Result<Option<usize>, OutOfMemory>
     requires choices { AreChoices (history_of cursor.old.shape) choices.now }
     requires same { ready.now.choices ≡ choices.now }
@@ -256,7 +256,7 @@ fn seek<N: Copy, R: Recorder<N, A>, A: Allocator + Copy>(
     try_from(cursor, choices, ready, from)
 }
 
-/// What became of a list that the search went on to.
+/// What became of a prefix that the search went on to.
 #[derive(Drop)]
 enum Arrival {
     /// It is known to be refuted, and the search went back.
@@ -265,7 +265,7 @@ enum Arrival {
     Fresh(Option<usize>),
 }
 
-/// Says what is known of the cursor's list, to which the search just went by the choice, from states with a number.
+/// Says what is known of the cursor's prefix, to which the search just went by the choice, from states with a number.
 fn arrive<N: Copy, R: Recorder<N, A>, A: Allocator + Copy>(
     memo: &mut Memo<N, R, A>,
     cursor: &mut Cursor<A>,
@@ -286,36 +286,36 @@ fn arrive<N: Copy, R: Recorder<N, A>, A: Allocator + Copy>(
     Ok(Arrival::Known)
 }
 
-/// Notes that the cursor's list is refuted, and goes back to the list before it, whose turn is then the last one. Where no list
+/// Notes that the cursor's prefix is refuted, and goes back to the prefix before it, whose frame is then the last one. Where no prefix
 /// is left to go back to, it answers the note.
 fn close<N: Copy, R: Recorder<N, A>, A: Allocator + Copy>(
     memo: &mut Memo<N, R, A>,
     cursor: &mut Cursor<A>,
     ready: &mut Ready<A>,
-    turns: &mut Vec<Turn, A>,
-    here: &mut Turn,
+    frames: &mut Vec<Frame, A>,
+    here: &mut Frame,
 ) -> Result<Option<N>, OutOfMemory>
     requires shape { memo.old.shape ≡ cursor.old.shape }
     requires reason { IsReason (R.noted memo.old.recorder) cursor.old.shape cursor.old.path (reason_by here.old.silent) }
     requires named { Names memo.old.states here.old.states (states_reached cursor.old.shape cursor.old.path) }
     requires refuted { IsRefutedAt cursor.old }
     requires ready { IsReady ready.old cursor.old }
-    ensures closed { IfOk result (IsClosed (R.noted memo.new.recorder) cursor.old cursor.new turns.old.items turns.new.items here.new) }
+    ensures closed { IfOk result (IsClosed (R.noted memo.new.recorder) cursor.old cursor.new frames.old.items frames.new.items here.new) }
     ensures further { OnOk result (IsFurther R.grows memo.old memo.new) }
     ensures ready { OnOk result (IsReady ready.new cursor.new) }
     ensures choices { ready.new.choices ≡ ready.old.choices }
 {
     let note = memo.note(cursor, reason_of(here.silent))?;
-    let Some(turn) = turns.pop() else {
+    let Some(frame) = frames.pop() else {
         return Ok(Some(note));
     };
     memo.learn(here.states, note, cursor);
     go_back(cursor, ready, memo);
-    *here = turn;
+    *here = frame;
     Ok(None)
 }
 
-/// The cursor's list, with which a search ends.
+/// The cursor's prefix, with which a search ends.
 fn witness_at<N: Copy, A: Allocator + Copy>(
     alloc: A,
     cursor: &Cursor<A>,
@@ -326,7 +326,7 @@ fn witness_at<N: Copy, A: Allocator + Copy>(
     Ok(Ended::Witness(witness))
 }
 
-/// Searches the lists that begin with the cursor's, which was just expanded. The turns are those of the lists before the cursor's.
+/// Searches the prefixes that begin with the cursor's, which was just expanded. The frames are those of the prefixes before the cursor's.
 fn search_on<N: Copy, R: Recorder<N, A>, A: Allocator + Copy>(
     alloc: A,
     cursor: &mut Cursor<A>,
@@ -334,7 +334,7 @@ fn search_on<N: Copy, R: Recorder<N, A>, A: Allocator + Copy>(
     budget: Option<u64>,
     memo: &mut Memo<N, R, A>,
     ready: &mut Ready<A>,
-    turns: &mut Vec<Turn, A>,
+    frames: &mut Vec<Frame, A>,
 ) -> Result<Ended<N, A>, OutOfMemory>
     requires memo { memo.old.shape ≡ cursor.old.shape }
     requires choices { AreChoices (history_of cursor.old.shape) choices.now }
@@ -343,16 +343,16 @@ fn search_on<N: Copy, R: Recorder<N, A>, A: Allocator + Copy>(
     requires within { IsWithinLimits (plan_of cursor.old.shape) (history_of cursor.old.shape) }
     requires same { ready.old.choices ≡ choices.now }
     requires ready { IsReady ready.old cursor.old }
-    requires first { turns.old.items ≡ [] }
+    requires first { frames.old.items ≡ [] }
     ensures reported { IfOk result (ReportsAt cursor.old (R.noted memo.new.recorder) budget) }
     ensures shape { OnOk result (memo.new.shape ≡ memo.old.shape) }
 {
     let mut left = budget;
-    let mut here = Turn::new(None);
+    let mut here = Frame::new(None);
     let _good = cursor.prefix();
     'search: loop {
         let Some(place) = seek(memo, cursor, choices, ready, here)? else {
-            match close(memo, cursor, ready, turns, &mut here)? {
+            match close(memo, cursor, ready, frames, &mut here)? {
                 Some(note) => return Ok(Ended::Refuted(note)),
                 None => continue,
             }
@@ -370,13 +370,13 @@ fn search_on<N: Copy, R: Recorder<N, A>, A: Allocator + Copy>(
         };
         left = rest;
         ready.go_on(choices[place].decision, cursor);
-        turns.push(here)?;
-        here = Turn::new(states);
-        make_room(memo, turns, &mut here);
+        frames.push(here)?;
+        here = Frame::new(states);
+        make_room(memo, frames, &mut here);
     }
 }
 
-/// Searches the lists that begin with the cursor's, which is expanded first. What is refuted is remembered.
+/// Searches the prefixes that begin with the cursor's, which is expanded first. What is refuted is remembered.
 fn search_from<'a, N: Copy, R: Recorder<N, A>, A: Allocator + Copy>(
     alloc: A,
     shape: &'a Shape<A>,
@@ -395,11 +395,19 @@ fn search_from<'a, N: Copy, R: Recorder<N, A>, A: Allocator + Copy>(
     ensures shape { OnOk result (memo.new.shape ≡ memo.old.shape) }
 {
     let mut ready = Ready::at(alloc, shape, choices, cursor)?;
-    let mut turns = Vec::new(alloc);
-    search_on(alloc, cursor, choices, budget, memo, &mut ready, &mut turns)
+    let mut frames = Vec::new(alloc);
+    search_on(
+        alloc,
+        cursor,
+        choices,
+        budget,
+        memo,
+        &mut ready,
+        &mut frames,
+    )
 }
 
-/// Searches the lists that begin with the cursor's, with a budget or without, over what is remembered of the shape. After each list
+/// Searches the prefixes that begin with the cursor's, with a budget or without, over what is remembered of the shape. After each prefix
 /// it tries transactions in the order.
 fn search_under<'a, R: Recorder<Unnoted, A>, A: Allocator + Copy>(
     alloc: A,
@@ -429,7 +437,7 @@ fn search_under<'a, R: Recorder<Unnoted, A>, A: Allocator + Copy>(
     Ok(ended.outcome())
 }
 
-/// Searches the lists that begin with the prefix, with a budget or without, over what is remembered of the shape, as
+/// Searches the prefixes that begin with the prefix, with a budget or without, over what is remembered of the shape, as
 /// `search_under` says it.
 pub fn search<'a, R: Recorder<Unnoted, A>, A: Allocator + Copy>(
     alloc: A,
@@ -449,7 +457,7 @@ pub fn search<'a, R: Recorder<Unnoted, A>, A: Allocator + Copy>(
     search_under(alloc, shape, order, &mut cursor, budget, memo)
 }
 
-/// Whether some list that begins with the prefix shows the history, as far as the budget goes: exactly so many prefixes
+/// Whether some prefix that begins with the prefix shows the history, as far as the budget goes: exactly so many prefixes
 /// are expanded before it is reported as spent. A prefix is expanded when the choices after it are tried for the first time;
 /// one that is not good is refuted, and a full one is the witness, without an expansion.
 pub fn explore<A: Allocator + Copy>(
@@ -471,7 +479,7 @@ pub fn explore<A: Allocator + Copy>(
     )
 }
 
-/// Searches all lists, of which the empty one is not full. It is expanded first.
+/// Searches all prefixes, of which the empty one is not full. It is expanded first.
 fn search_all<'a, N: Copy, R: Recorder<N, A>, A: Allocator + Copy>(
     alloc: A,
     shape: &'a Shape<A>,
@@ -497,7 +505,7 @@ fn search_all<'a, N: Copy, R: Recorder<N, A>, A: Allocator + Copy>(
     }
 }
 
-/// Searches all lists, where the cursor's is the empty one.
+/// Searches all prefixes, where the cursor's is the empty one.
 fn search_at_root<'a, N: Copy, R: Recorder<N, A>, A: Allocator + Copy>(
     alloc: A,
     shape: &'a Shape<A>,
@@ -516,8 +524,8 @@ fn search_at_root<'a, N: Copy, R: Recorder<N, A>, A: Allocator + Copy>(
     search_all(alloc, shape, cursor, recorder)
 }
 
-/// Whether the history is opaque, as `decide` says, over a recorder that hears of each good list that is refuted, with the reason.
-/// It is handed back with its note of the empty list.
+/// Whether the history is opaque, as `decide` says, over a recorder that hears of each good prefix that is refuted, with the reason.
+/// It is handed back with its note of the empty prefix.
 pub fn search_with<N: Copy, R: Recorder<N, A>, A: Allocator + Copy>(
     alloc: A,
     shape: &Shape<A>,

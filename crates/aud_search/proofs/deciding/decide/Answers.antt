@@ -6,4 +6,4 @@ pub returns-clause-letter : goal.returns-clause-letter
 returns-clause-letter g c =
     let objects = objects_of c.args.shape.now in
     let h = history_of c.args.shape.now in
-    by-letter objects h c.decide_by_lists.result (c.letter_is_opaque.ensures objects h) c.history-well_formed.ensures.sound c.decide_by_lists.ensures
+    by-letter objects h c.decide_by_prefixes.result (c.letter_is_opaque.ensures objects h) c.history-well_formed.ensures.sound c.decide_by_prefixes.ensures

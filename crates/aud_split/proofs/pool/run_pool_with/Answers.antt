@@ -6,7 +6,7 @@ use denote.Param.Send.{sendable}
 use Rattle.aud_witness.specs.declared.decision.Decision.{Decision}
 use Rattle.aud_node.specs.Meanings.{PassOf}
 use Rattle.aud_node.proofs.Crosses.{pass_send}
-use Rattle.aud_search.proofs.Crosses.{memory_send}
+use Rattle.aud_search.proofs.Crosses.{session_send}
 use Rattle.std.proofs.Crossing as heap
 use Rattle.std.proofs.alloc.Global.TheSendSync as global
 use Rattle.node_pool.specs.Workers.{all_drawn, AreWorked}
@@ -26,7 +26,7 @@ pub run-requires-send-S : goal.run-requires-send-S
 run-requires-send-S g c κs within = search (pass_send, sendable)
 
 pub run-requires-send-Own : goal.run-requires-send-Own
-run-requires-send-Own g c κs within = search (memory_send, global.the_send, global.the_sync, heap.frees, sendable) depth 60 fits 20000
+run-requires-send-Own g c κs within = search (session_send, global.the_send, global.the_sync, heap.frees, sendable) depth 60 fits 20000
 
 pub run-requires-sync-W : goal.run-requires-sync-W
 run-requires-sync-W g c κs within = search (explorer_sync, sendable)

@@ -14,9 +14,9 @@ note-requires-clause-reason g c =
 
 pub returns-in_default-clause-closed : goal.returns-in_default-clause-closed
 returns-in_default-clause-closed g c =
-    let turns = c.args.turns.now in
+    let frames = c.args.frames.now in
     let empty = rw c.in_default.is at c.pop.ensures.cases in
-    let none : turns.items ≡ [] = nil_from_length turns.items (omega (arith, empty.0, turns.ok.0)) in
+    let none : frames.items ≡ [] = nil_from_length frames.items (omega (arith, empty.0, frames.ok.0)) in
     (none, c.in_ok-note.ensures.noted, refl)
 
 pub returns-in_default-clause-further : goal.returns-in_default-clause-further

@@ -2,7 +2,7 @@ use Rattle.std.proofs.Common.{subst}
 use Rattle.std.proofs.lemmas.Result.{IfOk-weaker}
 use Rattle.aud_order.specs.Cursors.{CursorOf}
 use Rattle.search_prefix.specs.Tried.{IsFound}
-use Rattle.search_prefix.specs.Turns.{IsSought}
+use Rattle.search_prefix.specs.Frames.{IsSought}
 use Rattle.search_prefix.proofs.searching.seek.Goals as goal
 
 pub returns-clause-sought : goal.returns-clause-sought

@@ -3,7 +3,7 @@ use Rattle.std.proofs.Common.{sym, ◌∙◌, ap, subst}
 use Rattle.std.proofs.lemmas.Option.{IfSome_then}
 use Rattle.search_memo.specs.Known.{IsKnown}
 use Rattle.search_memo.specs.Memos.{MemoOf, IsDead}
-use Rattle.search_memo.specs.Spots.{entry, with_place}
+use Rattle.search_memo.specs.Visited.{entry, with_place}
 use Rattle.search_memo.proofs.MemoLemmas.{known-dead}
 use Rattle.search_memo.proofs.memo.Memo.find_shared.Goals as goal
 
