@@ -1,5 +1,15 @@
 #![tactic(auto)]
 //! Certificates that no order shows a history: made, read and written, and what an accepted one finds.
+//!
+//! For whoever wants evidence that he can hand on, or judges some. `make_cert` makes one, if no order shows the history; `write_cert` and
+//! `read_cert` are its text; `check_cert` judges it, and `finding_of` turns it into what a node may be offered.
+//!
+//! ```
+//! if let Some(cert) = make_cert(alloc, &shape)? {
+//!     let text = write_cert(alloc, &cert)?;
+//!     assert!(check_cert(alloc, &shape, &read_cert(alloc, &text)?)?);
+//! }
+//! ```
 
 mod fault;
 mod finding;

@@ -88,7 +88,7 @@ impl<'a, A: Allocator + Copy> Recorder<usize, A> for Lines<'a, A> {
 
     ghost grows = { λ r s. IsLonger r s };
 
-    fn is_deaf(&self) -> bool {
+    fn records_nothing(&self) -> bool {
         false
     }
 

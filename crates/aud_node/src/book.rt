@@ -14,15 +14,15 @@ use std::sync::Arc;
 
 /// An item, and the seat that offered it, as the history has them. It has no bytes of the item.
 #[derive(Drop)]
-pub struct Pair {
+pub struct OfferedItem {
     pub seat: u32,
     pub item: Snapshot<Item>,
 }
 
 /// The rule of the history: the shared word is its length.
-pub struct Law;
+pub struct LengthRule;
 
-impl Rule<Pair, u64> for Law {
+impl Rule<OfferedItem, u64> for LengthRule {
     ghost use Rattle.std.specs.Prelude.{[]};
     ghost use base.Fml.{ftrue};
     ghost use Rattle.aud_node.specs.Rules.{IsKept};
@@ -43,7 +43,7 @@ impl Rule<Pair, u64> for Law {
 /// Callers trade nothing for a step.
 pub struct Nothing;
 
-impl Gain<Pair, u64> for Nothing {
+impl Gain<OfferedItem, u64> for Nothing {
     ghost use base.Fml.{ftrue};
 
     ghost after = { λ names about answer. ftrue };
@@ -52,14 +52,14 @@ impl Gain<Pair, u64> for Nothing {
 /// A step that adds a pair.
 pub struct Add;
 
-impl Play<Pair, u64> for Add {
+impl Play<OfferedItem, u64> for Add {
     ghost use Rattle.aud_node.specs.Rules.{Adds};
 
     ghost then = { Adds };
 }
 
 /// What a step asks for: the pair.
-impl Plain<Pair, Pair, u64> for Add {
+impl Plain<OfferedItem, OfferedItem, u64> for Add {
     ghost use Rattle.std.specs.Prelude.{None};
 
     ghost ask = { λ pair. pair };
@@ -92,7 +92,7 @@ impl Fleet for Brand {
 #[derive(Drop)]
 pub struct Head {
     pub number: u32,
-    pub word: Word<Pair, u64, Law>,
+    pub word: Word<OfferedItem, u64, LengthRule>,
     ghost word_is: { word ≡ head_of word.book },
 }
 
@@ -101,7 +101,7 @@ pub struct Head {
 pub struct Front {
     number: u32,
     len: u64,
-    seen: Seen<Pair, u64, Law>,
+    seen: Seen<OfferedItem, u64, LengthRule>,
 }
 
 impl Model for Front {
@@ -133,11 +133,11 @@ pub fn open(number: u32) -> (Head, Front)
 }
 
 // What the history says of an offer.
-fn said(seat: u32, item: &Arc<Item>) -> Pair
+fn said(seat: u32, item: &Arc<Item>) -> OfferedItem
     ensures { (result.seat ≡ seat) × (result.item.value ≡ arc_value item.now) }
 {
     let item: &Item = item;
-    Pair {
+    OfferedItem {
         seat,
         item: Snapshot::of(item),
     }
@@ -183,9 +183,9 @@ impl Front {
         ensures added { result ≡ true → self.new.log ≡ self.old.log ++ (seat, arc_value item.now) ∷ [] }
     {
         let pair = said(seat, item);
-        let mut offer: Offer<Pair, u64, Law, Nothing> = self
+        let mut offer: Offer<OfferedItem, u64, LengthRule, Nothing> = self
             .seen
-            .plain::<Nothing, Pair, Add>(&pair);
+            .plain::<Nothing, OfferedItem, Add>(&pair);
         let mut pen = self.seen.no_pen();
         let len = self.len;
         let found = head

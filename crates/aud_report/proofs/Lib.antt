@@ -1,2 +1,1 @@
-pub mod OneByte
 pub mod WorkedLines

@@ -1,6 +1,6 @@
 //! Sources and sinks of bytes, and whole texts from the ones and into the others.
 
-ghost use Rattle.std.specs.Prelude.{◌≡◌, ◌<◌, ◌+◌, ◌++◌, ℕ, List, [], length, Ok, Err, OnOk, OnErr, IfOk, MatchOption, take};
+ghost use Rattle.std.specs.Prelude.{◌≡◌, ◌<◌, ◌+◌, ◌++◌, ℕ, List, [], length, Ok, Err, OnOk, OnErr, IfOk, take};
 ghost use Rattle.aud_report.specs.Devices.{Reads, Writes, BeginsOnly, nothing_taken};
 
 use std::alloc::{AllocError, Allocator, Global};
@@ -30,16 +30,6 @@ pub trait Source {
         ensures kept { OnOk result (failures self.new ≡ failures self.old) }
         ensures err { OnErr result (left self.new ≡ left self.old) }
         ensures failed { OnErr result (failures self.new ≡ failures self.old + 1) };
-
-    /// Hands out all bytes that are left, where they stand in memory as they are; then none are left. It does not allocate.
-    fn hand_out(&mut self) -> Option<Vec<u8>>
-        requires { ready self.old }
-        ensures ready { ready self.new }
-        ensures bytes { MatchOption result (left self.new ≡ left self.old) (λ bytes. (bytes.items ≡ left self.old) × (left self.new ≡ [])) }
-        ensures kept { failures self.new ≡ failures self.old }
-    {
-        None
-    }
 }
 
 /// What takes bytes. It says which bytes it holds, and counts its failures.
@@ -107,20 +97,6 @@ pub fn read_all<A: Allocator + Drop, R: Source>(
         if bytes.extend_from_slice(&chunk[..count]).is_err() {
             return Err(ReadFault::OutOfMemory);
         }
-    }
-}
-
-/// The same, without a copy where the source hands its bytes out.
-pub fn take_all<R: Source>(alloc: Global, source: &mut R) -> Result<Vec<u8>, ReadFault>
-    requires { R.ready source.old }
-    ensures ok { IfOk result (λ bytes. bytes.items ≡ R.left source.old) }
-    ensures kept { OnOk result (R.failures source.new ≡ R.failures source.old) }
-    ensures failed { result ≡ Err ReadFault.Failed → R.failures source.new ≡ R.failures source.old + 1 }
-    ensures memory { result ≡ Err ReadFault.OutOfMemory → R.failures source.new ≡ R.failures source.old }
-{
-    match source.hand_out() {
-        Some(bytes) => Ok(bytes),
-        None => read_all(alloc, source),
     }
 }
 

@@ -5,9 +5,8 @@ ghost use Rattle.std.specs.Prelude.{◌≡◌, [], false};
 use crate::device::{Sink, SinkFault, Source, SourceFault};
 use std::alloc::{Allocator, Global};
 use std::marker::Model;
-use std::mem::replace;
 
-/// Bytes in memory, given in as few reads as the buffers allow, or handed out if nothing was read. It never fails.
+/// Bytes in memory, given in as few reads as the buffers allow. It never fails.
 #[derive(Drop)]
 pub struct MemorySource {
     bytes: Vec<u8>,
@@ -47,14 +46,6 @@ impl Source for MemorySource {
         buf[..count].copy_from_slice(&self.bytes[self.at..end]);
         self.at = end;
         Ok(count)
-    }
-
-    fn hand_out(&mut self) -> Option<Vec<u8>> {
-        if self.at > 0 {
-            return None;
-        }
-        let alloc = *self.bytes.allocator();
-        Some(replace(&mut self.bytes, Vec::new(alloc)))
     }
 }
 

@@ -3,4 +3,3 @@ pub mod Doings
 pub mod Meshes
 pub mod Searches
 pub mod Lines
-pub mod Commands

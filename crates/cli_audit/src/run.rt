@@ -17,7 +17,7 @@ use crate::room::with_room;
 use aud_event::OutOfMemory;
 use aud_facts::Facts;
 use aud_node::{Fleet, Opened};
-use aud_report::{ReadFault, Said, Sink, Source, take_all, write_all, write_line};
+use aud_report::{ReadFault, Said, Sink, Source, read_all, write_all, write_line};
 use aud_search::{Scene, Shared};
 use aud_witness::Prefix;
 use cli_findings::{Findings, Search, conclude, search_of};
@@ -387,8 +387,8 @@ fn audit_text<G: Gate<Prefix> + Sync, R: Threads + Wait + Sync>(
 }
 
 /// The line that an audit says of a text, with its line feed, and how the run ends that says it; else what it failed for. All
-/// pools share the gate. It waits until every worker has ended.
-fn audit_said<G: Gate<Prefix> + Sync, R: Threads + Wait + Sync>(
+/// pools share the gate. It waits until every worker has ended. It takes memory as `run_audit` does, and does not copy the text.
+pub fn answer_audit<G: Gate<Prefix> + Sync, R: Threads + Wait + Sync>(
     rt: &R,
     alloc: Global,
     job: &AuditJob,
@@ -430,12 +430,12 @@ pub fn run_audit<G: Gate<Prefix> + Sync, R: Threads + Wait + Sync, I: Source, O:
         (record { source_failures = I.failures source.new; sink_failures = O.failures sink.new; held = O.held sink.new })
         result }
 {
-    let text = match take_all(alloc, source) {
+    let text = match read_all(alloc, source) {
         Ok(text) => text,
         Err(ReadFault::Failed) => return Ended::Failed(Cause::Input),
         Err(ReadFault::OutOfMemory) => return Ended::Failed(Cause::Memory),
     };
-    let (line, end) = match audit_said(rt, alloc, job, gate, text) {
+    let (line, end) = match answer_audit(rt, alloc, job, gate, text) {
         Ok(answer) => answer,
         Err(cause) => return Ended::Failed(cause),
     };

@@ -9,7 +9,7 @@ use Rattle.aud_split.specs.Tasks.{AreTasks}
 use Rattle.aud_report.specs.declared.said.Said.TheVariants as said
 use Rattle.cli_lines.specs.Line.{Answers, DecideSays}
 
--- of the tasks below the empty list, at a depth of two, each is refuted or its budget can be spent, and of one it can
+-- of the tasks below the empty prefix, at a depth of two, each is refuted or its budget can be spent, and of one it can
 abbrev pub AreLeftOpen : ℕ → PlanOf → History → Type 0
 AreLeftOpen budget plan h = (tasks : List (List Decision)) × (AreTasks plan.objects h [] 2 tasks × AreUnfinished plan.objects h budget tasks)
 

@@ -14,7 +14,7 @@ use aud_cert::{CertTextFault, read_cert_into};
 use aud_event::OutOfMemory;
 use aud_facts::Facts;
 use aud_know::well_formed_history;
-use aud_report::{ReadFault, Said, Sink, Source, take_all, write_all, write_line};
+use aud_report::{ReadFault, Said, Sink, Source, read_all, write_all, write_line};
 use aud_text::{TextFault, count_lines, read_order};
 use bumpalo::Bump;
 use cli_input::{Input, InputFault, read_input, take_input};
@@ -154,9 +154,9 @@ fn said_of(alloc: Global, job: &Job, text: Vec<u8>) -> Result<Said, OutOfMemory>
     }
 }
 
-/// The line that the job says of a text, with its line feed, and after it the certificate or the refutation, if that is asked for; and how the job ends
-/// that says it.
-fn line_said(alloc: Global, job: &Job, text: Vec<u8>) -> Result<(Vec<u8>, Ended), OutOfMemory>
+/// The line that the job says of a text, with its line feed, and after it the certificate or the refutation, if that is asked for; and
+/// how the job ends that says it. It takes memory as `run_lines` does, and does not copy the text.
+pub fn answer_text(alloc: Global, job: &Job, text: Vec<u8>) -> Result<(Vec<u8>, Ended), OutOfMemory>
     ensures { IfOk result (λ answer. IsLine job.now text.items answer.0.items answer.1) }
 {
     let said = said_of(alloc, job, text)?;
@@ -182,12 +182,12 @@ pub fn run_lines<R: Source, W: Sink>(
         (record { source_failures = R.failures source.new; sink_failures = W.failures sink.new; held = W.held sink.new })
         result }
 {
-    let text = match take_all(alloc, source) {
+    let text = match read_all(alloc, source) {
         Ok(text) => text,
         Err(ReadFault::Failed) => return Ended::Failed(Cause::Input),
         Err(ReadFault::OutOfMemory) => return Ended::Failed(Cause::Memory),
     };
-    let Ok((line, end)) = line_said(alloc, job, text) else {
+    let Ok((line, end)) = answer_text(alloc, job, text) else {
         return Ended::Failed(Cause::Memory);
     };
     match write_all(sink, line.as_slice()) {

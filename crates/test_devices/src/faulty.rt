@@ -2,7 +2,7 @@
 
 ghost use Rattle.std.specs.Prelude.{◌≤◌, vec_len};
 
-use crate::device::{Sink, SinkFault, Source, SourceFault};
+use aud_report::{Sink, SinkFault, Source, SourceFault};
 use std::alloc::{Allocator, Global};
 
 /// Gives one byte a read, and fails once it was read so many times.
