@@ -1,5 +1,5 @@
 #![tactic(auto)]
-//! The tests of the crates between the facts and knowledge. Those in which growths of memory are refused are unproved: `bench/refused`
+//! The tests of the crates between the facts and knowledge. Those in which growths of memory are refused are unproved: `tests/refused`
 //! runs them.
 
 #[cfg(test)]

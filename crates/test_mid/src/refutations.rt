@@ -3,7 +3,8 @@
 use aud_event::{Answer, Event, ObjDecl, ObjKind, Op, OpName, OutOfMemory, Plan};
 use aud_history::History;
 use judge_cells::CellLaw;
-use judge_clauses::{Atom, Cell, Judgement, Literal, Read, Reason, Refutation, Step, judge};
+use judge_clauses::{Atom, Judgement, Literal, Read, Reason, Refutation, Step, judge};
+use search_model::Cell;
 use std::alloc::Global;
 use std::sync::Arc;
 

@@ -1,11 +1,10 @@
 //! A verdict that is reported to a sink that fails, and bytes in memory. How runs end on devices that fail `test_top` asks.
 
 use aud_know::Verdict;
-use aud_report::{
-    ChokingSink, MemorySink, MemorySource, ReportFault, read_all, write_all, write_report,
-};
+use aud_report::{MemorySink, MemorySource, ReportFault, read_all, write_all, write_report};
 use std::alloc::{AllocError, Global};
 use std::test::Fail;
+use test_devices::ChokingSink;
 
 /// How the report of a gap ends on a sink that fails after so many bytes, and how many it took, if they begin the line.
 fn reported(alloc: Global, writes: u64) -> (Result<(), ReportFault>, Option<u64>) {

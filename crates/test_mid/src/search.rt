@@ -4,7 +4,7 @@ ghost use Rattle.std.specs.Prelude.{◌≡◌};
 
 use crate::fixtures::{Input, order, shape_of};
 use aud_order::Shape;
-use aud_search::{Memory, Outcome, Scene, Shared, explore};
+use aud_search::{Outcome, Scene, Session, Shared, explore};
 use std::alloc::Global;
 use std::marker::Brand;
 use test_worked::Unread;
@@ -55,12 +55,12 @@ fn budgets_are_spent_exactly(rt: HostRuntime) {
 /// What a search over what it refuted before reports of the lists that begin with the prefix.
 fn explored<'a, J: Scene>(
     alloc: Global,
-    memory: &mut Memory<'a, J>,
+    session: &mut Session<'a, J>,
     prefix: &str,
     budget: u64,
 ) -> Result<Told, Unread> {
     let prefix = order(alloc, prefix)?;
-    Ok(without_order(memory.explore(&prefix, budget)?))
+    Ok(without_order(session.explore(&prefix, budget)?))
 }
 
 /// Whether one search over what is shared reports that of the prefixes in turn, each within its budget.
@@ -73,9 +73,9 @@ fn tells<J: Scene>(
 ) -> Result<bool, Unread>
     requires { shape.now ≡ J.shape }
 {
-    let mut memory = Memory::new(alloc, shape, Some(shared));
+    let mut session = Session::new(alloc, shape, Some(shared));
     for (prefix, budget) in asked {
-        if explored(alloc, &mut memory, prefix, *budget)? != wanted {
+        if explored(alloc, &mut session, prefix, *budget)? != wanted {
             return Ok(false);
         }
     }

@@ -1,13 +1,14 @@
-//! Audits: that their pools work at once; and how runs and audits end on devices that give and take a byte at a time, and fail.
+//! Audits: that their pools work at once; what reading an input that fails comes to; and what a command hands out.
 
 ghost use Rattle.std.specs.Prelude.{IfSome};
 ghost use Rattle.cli_lines.specs.Jobs.{IsAuditJob};
 
 use crate::fixtures::{Input, text_of};
 use crate::watch::Watch;
-use aud_report::{ChokingSink, DrippingSource, MemorySink, MemorySource};
-use cli_audit::{NoGate, run_audit, run_command};
-use cli_lines::{AuditJob, Cause, Command, Ended, Job, read_whole, run_lines};
+use aud_cli::run_command;
+use aud_report::{MemorySink, MemorySource};
+use cli_audit::{NoGate, run_audit};
+use cli_lines::{AuditJob, Cause, Command, Ended, Job, read_whole};
 use std::alloc::Global;
 use std::io::{self, ErrorKind, Read};
 use std::sync::Wait;
@@ -128,140 +129,6 @@ fn workers_of_an_audit_are_at_their_tasks_at_once(rt: HostRuntime) {
     );
 }
 
-/// What is asked: to check an order that shows the history of two transactions, to decide it, or to audit it; or to verify a certificate for
-/// a torn read.
-#[derive(Clone, Copy)]
-enum Asked {
-    Check,
-    Decide,
-    Verify,
-    Audit,
-}
-
-const ALL_ASKED: [Asked; 4] = [Asked::Check, Asked::Decide, Asked::Verify, Asked::Audit];
-
-/// A certificate for the torn read.
-const CERTIFICATE: &str = r#"{"cert":2}
-{"by":"kids","p":"1c"}
-{"by":"kids","p":"none"}
-"#;
-
-/// The job that asks it, where it is no audit.
-fn job(alloc: Global, asked: Asked) -> Option<Job> {
-    match asked {
-        Asked::Check => Some(Job::Check(String::from_str(alloc, "1c 2c").ok()?)),
-        Asked::Decide => Some(Job::Decide(None, true)),
-        Asked::Verify => Some(Job::Verify),
-        Asked::Audit => None,
-    }
-}
-
-/// The input of what is asked, the certificate after it, the line that is said of them, and how the run ends then.
-fn row(asked: Asked) -> (Input, &'static str, &'static str, Ended) {
-    match asked {
-        Asked::Verify => (Input::OneLog, CERTIFICATE, "not opaque\n", Ended::NotOpaque),
-        _ => (Input::Reader, "", "opaque 1c 2c\n", Ended::Opaque),
-    }
-}
-
-/// The bytes of that input, and of the certificate after it.
-fn input_of(alloc: Global, asked: Asked) -> Option<Vec<u8>> {
-    let (input, certificate, _line, _ended) = row(asked);
-    let mut bytes = Vec::from_slice(alloc, text_of(input).as_bytes()).ok()?;
-    bytes.extend_from_slice(certificate.as_bytes()).ok()?;
-    Some(bytes)
-}
-
-/// How a run, or an audit of two nodes with two workers each, ends on a source that gives a byte a read and fails after so many and on a
-/// sink that takes a byte a write and fails after so many, or takes nothing then; how often the source and the sink failed; and how many
-/// bytes the sink took, where they are a beginning of the line.
-fn ended<R: Threads + Wait + Sync>(
-    rt: &R,
-    alloc: Global,
-    asked: Asked,
-    reads: u64,
-    (writes, takes_nothing): (u64, bool),
-) -> Option<(Ended, u64, u64, usize)> {
-    let mut source = DrippingSource {
-        bytes: input_of(alloc, asked)?,
-        at: 0,
-        reads,
-        failures: 0,
-    };
-    let mut sink = ChokingSink {
-        bytes: Vec::new(alloc),
-        writes,
-        takes_nothing,
-        failures: 0,
-    };
-    let ended = match job(alloc, asked) {
-        Some(job) => run_lines(alloc, &job, &mut source, &mut sink),
-        None => {
-            let job = audit_by(2, 2, false)?;
-            run_audit(rt, alloc, &job, &NoGate, &mut source, &mut sink)
-        }
-    };
-    let taken = sink.bytes.as_slice();
-    let (_input, _certificate, line, _ended) = row(asked);
-    if !line.as_bytes().starts_with(taken) {
-        return None;
-    }
-    Some((ended, source.failures, sink.failures, taken.len()))
-}
-
-/// More than a run reads or writes.
-const ALL: u64 = 1_000_000;
-
-/// Whether what is asked fails for its input, with nothing written, where the source fails at its first read, at its last, which finds no
-/// byte left, and at each between.
-fn fails_at_each_read<R: Threads + Wait + Sync>(rt: &R, alloc: Global, asked: Asked) -> bool {
-    let failed = Some((Ended::Failed(Cause::Input), 1, 0, 0));
-    let Some(input) = input_of(alloc, asked) else {
-        return false;
-    };
-    for reads in 0..=input.len() as u64 {
-        if ended(rt, alloc, asked, reads, (ALL, false)) != failed {
-            return false;
-        }
-    }
-    true
-}
-
-#[test]
-fn sources_drip_and_fail(rt: HostRuntime) {
-    for asked in ALL_ASKED {
-        assert!(rt; fails_at_each_read(&rt, rt.alloc(), asked));
-    }
-}
-
-/// Whether what is asked fails for its output at each write of its line, so that the bytes before stand, and says the line where none fails.
-fn fails_at_each_write<R: Threads + Wait + Sync>(
-    rt: &R,
-    alloc: Global,
-    asked: Asked,
-    takes_nothing: bool,
-) -> bool {
-    let (_input, _certificate, line, wanted) = row(asked);
-    let length = line.len();
-    for writes in 0..length as u64 {
-        let failed = Some((Ended::Failed(Cause::Output), 0, 1, writes as usize));
-        if ended(rt, alloc, asked, ALL, (writes, takes_nothing)) != failed {
-            return false;
-        }
-    }
-    let whole = (length as u64, takes_nothing);
-    ended(rt, alloc, asked, ALL, whole) == Some((wanted, 0, 0, length))
-}
-
-#[test]
-fn sinks_choke(rt: HostRuntime) {
-    for asked in ALL_ASKED {
-        for takes_nothing in [false, true] {
-            assert!(rt; fails_at_each_write(&rt, rt.alloc(), asked, takes_nothing));
-        }
-    }
-}
-
 /// Gives a byte a read, without end, and is interrupted at every third read; fails once it was read so many times.
 #[derive(Drop)]
 struct Endless {
@@ -314,7 +181,8 @@ fn reading_ends(rt: HostRuntime) {
 #[test]
 fn command_hands_out_its_line(rt: HostRuntime) -> Result<(), Fail> {
     let alloc = rt.alloc();
-    let command = Command::Lines(job(alloc, Asked::Check).ok_or("a job")?);
+    let order = String::from_str(alloc, "1c 2c")?;
+    let command = Command::Lines(Job::Check(order));
     let input = Vec::from_slice(alloc, text_of(Input::Reader).as_bytes())?;
     let (line, ended) = run_command(&rt, alloc, &command, input);
     assert!(rt; line.as_slice() == b"opaque 1c 2c\n".as_slice() && ended == Ended::Opaque);

@@ -1,4 +1,4 @@
-//! Tests of what a node knows, of worlds of nodes, of running nodes, and of runs and audits over devices that fail.
+//! Tests of what a node knows, of worlds of nodes, of running nodes, and of audits.
 #![tactic(auto)]
 
 #[cfg(test)]

@@ -27,14 +27,17 @@ fn are_by_seats(closed: &Closed) -> bool {
     true
 }
 
-/// Reads what the pass knows.
-fn read<J: Fleet, S: Wait + Drop>(alloc: Global, node: &Running<J, S>, pass: &mut Pass<J>) {
-    let list: Prefix = Prefix::empty(alloc);
-    let _known = node.knows(pass, &list);
-    let _told = node.verdict(pass);
+/// Whether each reading of the pass answers, whoever has the lock meanwhile.
+fn reads<J: Fleet, S: Wait + Drop>(
+    alloc: Global,
+    node: &Running<J, S>,
+    pass: &mut Pass<J>,
+) -> bool {
+    let empty: Prefix = Prefix::empty(alloc);
+    node.knows(pass, &empty).is_ok() && node.verdict(pass).is_ok() && node.snapshot(pass).is_ok()
 }
 
-/// Offers the facts of the log of the pass's seat, and reads after each.
+/// Offers the facts of the log of the pass's seat, and reads after each. It ends where something is refused.
 fn offer_reading<J: Fleet, R: Wait, S: Wait + Drop>(
     rt: &R,
     alloc: Global,
@@ -44,8 +47,11 @@ fn offer_reading<J: Fleet, R: Wait, S: Wait + Drop>(
 ) {
     let log = pass.seat();
     for fact in facts {
-        if log_of(fact) == log && offer_log(rt, alloc, node, pass, &[*fact], log) {
-            read(alloc, node, pass);
+        if log_of(fact) != log {
+            continue;
+        }
+        if !offer_log(rt, alloc, node, pass, &[*fact], log) || !reads(alloc, node, pass) {
+            return;
         }
     }
 }
