@@ -15,7 +15,8 @@ import tempfile
 import time
 
 from check import made
-from search import BETWEEN, at_once, full_size, line
+from search import BETWEEN, asked, at_once, declared, full_size
+from runs import increments, writers
 
 AUDITS = [(4, 1), (1, 4), (1, 1)]
 
@@ -27,22 +28,9 @@ def commands():
         yield f"audit, {nodes} nodes of {workers}", ["audit", "--nodes", str(nodes), "--workers", str(workers)]
 
 
-def counted(count):
-    """So many increments and a get that counts one too many."""
-    plan = [line(kind="counter", name="c", open=0)]
-    return at_once(plan, [("c", "inc", None, "done")] * count + [("c", "get", None, count + 1)])
-
-
 def written(count):
     """So many writers of one register and a read of what nobody wrote."""
-    plan = [line(kind="register", name="x", open=0)]
-    return at_once(plan, [("x", "write", value, "done") for value in range(1, count + 1)] + [("x", "read", None, -1)])
-
-
-def apart(count):
-    """So many writers of an object each and a read of what nobody wrote."""
-    plan = [line(kind="register", name=f"x{number}", open=0) for number in range(count + 1)]
-    return at_once(plan, [(f"x{number}", "write", 1, "done") for number in range(count)] + [(f"x{count}", "read", None, 1)])
+    return at_once([declared("register", "x")], [("x", "write", value, "done") for value in range(1, count + 1)] + [("x", "read", None, -1)])
 
 
 def inputs():
@@ -51,10 +39,10 @@ def inputs():
     yield "full size, 4 at a time, by ends", lambda: full_size(4, "ends", False)[0], "opaque"
     yield "full size, 4 at a time, by ends, one read spoiled", lambda: full_size(4, "ends", True)[0], "not opaque"
     for count in (12, 16, 20):
-        yield f"{count} increments and a bad get", lambda count=count: counted(count), "not opaque"
+        yield f"{count} increments and a bad get", lambda count=count: increments(count), "not opaque"
     for count in (10, 14):
         yield f"{count} writers of one object and a bad read", lambda count=count: written(count), "not opaque"
-    yield "14 writers of an object each and a bad read", lambda: apart(14), "not opaque"
+    yield "14 writers of an object each and a bad read", lambda: writers(14), "not opaque"
 
 
 def ran(words, file, wanted):
@@ -77,7 +65,8 @@ def ran(words, file, wanted):
 
 
 def main():
-    program, word = os.path.abspath(sys.argv[1]), sys.argv[2] if len(sys.argv) > 2 else ""
+    program, word = [*asked(__doc__, 1, 2), ""][:2]
+    program = os.path.abspath(program)
     for name, make, wanted in inputs():
         if word not in name:
             continue

@@ -6,21 +6,17 @@ No order shows any of the inputs: the torn read of `examples`, small inputs that
 of full size with a spoiled read, as `bench/search.py` makes it. Each call is run three times, and the least processor time and the most
 memory are printed, with the lines and the bytes of the certificate. The same certificate comes with each run."""
 
-import os
 import subprocess
-import sys
 
-from search import at_once, full_size, line, timed
-
-HERE = os.path.dirname(os.path.abspath(__file__))
+from search import TOP, asked, at_once, declared, full_size, read, timed
 
 
 def inputs():
     """Names and texts, each made when it is asked for."""
-    x, c = line(kind="register", name="x", open=0), line(kind="counter", name="c", open=0)
+    x, c = declared("register", "x"), declared("counter", "c")
     written = [("x", "write", value, "done") for value in range(1, 15)]
     counted = [("c", "inc", None, "done")] * 16
-    yield "the torn read", lambda: open(f"{HERE}/../examples/torn_read.jsonl", encoding="utf-8").read()
+    yield "the torn read", lambda: read(f"{TOP}/examples/torn_read.jsonl")
     yield "24 readers and a bad read", lambda: at_once([x], [("x", "read", None, 0)] * 24 + [("x", "read", None, 1)])
     yield "14 writers and a bad read", lambda: at_once([x], written + [("x", "read", None, -1)])
     yield "16 increments and a bad get", lambda: at_once([c], counted + [("c", "get", None, 17)])
@@ -38,7 +34,7 @@ def shown(figures):
 
 
 def main():
-    program, word = sys.argv[1], sys.argv[2] if len(sys.argv) > 2 else ""
+    program, word = [*asked(__doc__, 1, 2), ""][:2]
     for name, made in inputs():
         if word not in name:
             continue
@@ -51,4 +47,5 @@ def main():
         print(f"{name}: decide {shown(decided)}; --cert {shown(certified)}; verify {shown(verified)}; {size}", flush=True)
 
 
-main()
+if __name__ == "__main__":
+    main()

@@ -5,12 +5,13 @@ Two inputs are made aside: one log with 4,096 records, and 64 logs with 262,144 
 transactions and 256 objects. Each log has a register, a counter, a set and a queue of its own, so the order of the commits
 shows the run, however the logs run through one another. The same numbers come with each run."""
 
-import json
 import random
 import subprocess
 import sys
 import tempfile
 import time
+
+from search import asked, line
 
 PER_TRANSACTION = 256
 
@@ -82,7 +83,7 @@ def made(logs, records):
         event = thread.waiting.pop(0)
         thread.lines.append(stamp)
         event |= {"at": len(thread.lines) - 1, "log": thread.log, "stamp": stamp, "tx": thread.tx}
-        lines.append(json.dumps(event, sort_keys=True, separators=(",", ":")))
+        lines.append(line(**event))
         if event["ev"] == "commit":
             order.append(f"{thread.tx}c")
         if not thread.waiting and not thread.left:
@@ -115,12 +116,13 @@ def least(program, order, text, answer, runs):
 
 
 def main():
-    program, runs = sys.argv[1], int(sys.argv[2]) if len(sys.argv) > 2 else 7
+    program, *more = asked(__doc__, 1, 2)
+    runs = int(more[0]) if more else 7
     for name, logs, records in [("one log, 4,096 records", 1, 4096), ("64 logs, 262,144 records", 64, 262144)]:
         text, order = made(logs, records)
         print(f"{name}, {len(text) / 1e6:.1f} MB: {least(program, order, text, f'opaque {order}', runs)}")
     # without an end mark the run waits once all is read; the empty order is refused once the history is sealed
-    open_text = "".join(line for line in text.splitlines(True) if not line.endswith('"log":0}\n') or '"end"' not in line)
+    open_text = "".join(it for it in text.splitlines(True) if not it.endswith('"log":0}\n') or '"end"' not in it)
     print(f"  read, and found to wait: {least(program, order, open_text, 'waiting for log 0', runs)}")
     print(f"  read and sealed, no order: {least(program, 'none', text, 'order refused 6', runs)}")
 

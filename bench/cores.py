@@ -7,7 +7,6 @@ after the other; and those of bench/search.py, in which 2 to 16 transactions at 
 line of what core.py prints, and the last line of the core's story, with the program to ask for a refutation."""
 
 import json
-import os
 import subprocess
 import sys
 import tempfile
@@ -16,7 +15,7 @@ import time
 import check
 import search
 
-EXAMPLES = os.path.join(os.path.dirname(os.path.abspath(__file__)), "..", "examples")
+EXAMPLES = f"{search.TOP}/examples"
 
 
 def spoiled(text, operation):
@@ -27,7 +26,7 @@ def spoiled(text, operation):
     record = json.loads(lines[place])
     answer = record["ans"]
     record["ans"] = not answer if isinstance(answer, bool) else 7 if answer == "empty" else answer + 1
-    lines[place] = json.dumps(record, sort_keys=True, separators=(",", ":"))
+    lines[place] = search.line(**record)
     return "\n".join(lines) + "\n"
 
 
@@ -44,7 +43,7 @@ def ran(words, **how):
 
 
 def main():
-    program, word = sys.argv[1], sys.argv[2] if len(sys.argv) > 2 else ""
+    program, word = [*search.asked(__doc__, 1, 2), ""][:2]
     for name, text in inputs():
         if word not in name:
             continue

@@ -8,9 +8,8 @@ a map spoiled, of `decide` and of `verify` over the certificate that `decide --c
 
 import random
 import subprocess
-import sys
 
-from search import line, scheduled, tell, timed
+from search import asked, line, scheduled, tell, timed
 
 KINDS = {"register": "x", "counter": "c", "set": "s", "queue": "q", "map": "m"}
 NAMES = [f"{letter}{number}" for number in range(52) for letter in KINDS.values()][:256]
@@ -94,7 +93,8 @@ def made(count, at_a_time, spoiled):
 
 
 def main():
-    program, at_a_time = sys.argv[1], int(sys.argv[2]) if len(sys.argv) > 2 else 4
+    program, *more = asked(__doc__, 1, 2)
+    at_a_time = int(more[0]) if more else 4
     for count in [1024, 4096]:
         named = f"{count} transactions, {at_a_time} at a time"
         text, order = made(count, at_a_time, None)

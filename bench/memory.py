@@ -9,6 +9,7 @@ import sys
 import tempfile
 
 import check
+from search import asked
 
 # A small process starts the program, since what starts it counts.
 PEAK = """import resource, subprocess, sys
@@ -45,4 +46,4 @@ def main(program):
 
 
 if __name__ == "__main__":
-    main(sys.argv[1])
+    main(*asked(__doc__, 1, 1))

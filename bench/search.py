@@ -10,19 +10,18 @@ are those of `examples/runs`. Each is run three times, and the least processor t
 most memory are printed: other work on the machine changes the clock more than that. The same numbers come with each run."""
 
 import glob
-import json
 import os
 import random
 import subprocess
 import sys
 import tempfile
 
+sys.path.insert(0, os.path.join(os.path.dirname(os.path.dirname(os.path.abspath(__file__))), "tests"))
+from harness import TOP, asked, compact as line, read  # noqa: E402
+from runs import at_once, declared  # noqa: E402
+
 OPERATIONS = 126
 KINDS = ["register", "counter", "set", "queue"]
-
-
-def line(**fields):
-    return json.dumps(fields, sort_keys=True, separators=(",", ":"))
 
 
 class Memory:
@@ -120,20 +119,10 @@ def full_size(at_a_time, effects, spoiled):
     return "\n".join(text + lines) + "\n", " ".join(f"{tx}c" for tx in order)
 
 
-def at_once(plan, bodies):
-    """Transactions of one operation each that all begin before any other event, and commit."""
-    events = [(tx, {"ev": "inv", "ob": ob, "op": op} | ({} if argument is None else {"arg": argument})) for tx, (ob, op, argument, _) in enumerate(bodies, 1)]
-    events += [(tx, {"ans": answer, "ev": "ret", "ob": ob, "op": op}) for tx, (ob, op, _, answer) in enumerate(bodies, 1)]
-    for tx in range(1, len(bodies) + 1):
-        events += [(tx, {"ev": "tryc"}), (tx, {"ev": "commit"})]
-    lines = [line(at=at, log=0, stamp=at, tx=tx, **event) for at, (tx, event) in enumerate(events)]
-    return "\n".join(['{"format":1,"logs":1,"objects":%d}' % len(plan), *plan, *lines, line(end=len(events), log=0)]) + "\n"
-
-
 def small():
     """Names and texts of the small inputs, none of which is opaque."""
-    x, c, q = line(kind="register", name="x", open=0), line(kind="counter", name="c", open=0), line(kind="queue", name="q")
-    many = [x] + [line(kind="register", name=f"y{number}", open=0) for number in range(255)]
+    x, c, q = declared("register", "x"), declared("counter", "c"), line(kind="queue", name="q")
+    many = [x] + [declared("register", f"y{number}") for number in range(255)]
     yield "24 readers and a bad read", at_once([x], [("x", "read", None, 0)] * 24 + [("x", "read", None, 1)])
     written = [("x", "write", value, "done") for value in range(1, 15)]
     yield "14 writers and a bad read", at_once([x], written + [("x", "read", None, -1)])
@@ -181,13 +170,11 @@ def tell(name, figures, beside=""):
 
 
 def main():
-    program, word = sys.argv[1], sys.argv[2] if len(sys.argv) > 2 else ""
-    runs = os.path.join(os.path.dirname(os.path.abspath(__file__)), "..", "examples", "runs")
-    for path in sorted(glob.glob(runs + "/*.jsonl")):
+    program, word = [*asked(__doc__, 1, 2), ""][:2]
+    for path in sorted(glob.glob(f"{TOP}/examples/runs/*.jsonl")):
         name = os.path.basename(path)
         if word in name:
-            with open(path, encoding="utf-8") as file, open(path[: -len("jsonl")] + "verdict", encoding="utf-8") as verdict:
-                tell(name, timed([program, "decide"], file.read(), verdict.read().strip()))
+            tell(name, timed([program, "decide"], read(path), read(f"{path.removesuffix('jsonl')}verdict").strip()))
     for name, text in small():
         if word in name:
             tell(name, timed([program, "decide"], text, "not opaque"))

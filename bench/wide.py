@@ -6,9 +6,10 @@ Each transaction takes effect at an instant of its own between its first and its
 lies: 'end' (late, as in most memories) or 'any' (anywhere). The seed chooses the objects: registers, counters, sets, queues or all;
 with --maps, maps alone or beside others, in the second format. The history is written as opaq reads it, a log a thread.
 """
-import json
 import random
 import sys
+
+from search import line
 
 PLANS = [
     [("register", 1)], [("register", 4)], [("register", 16)], [("register", 64)],
@@ -135,19 +136,22 @@ def events_of(transaction, objects):
 
 
 def write(threads, objects, made, number):
-    print(json.dumps({"format": number, "logs": threads, "objects": len(objects)}, separators=(",", ":"), sort_keys=True))
+    print(line(format=number, logs=threads, objects=len(objects)))
     for entry in objects:
-        print(json.dumps(entry, separators=(",", ":"), sort_keys=True))
+        print(line(**entry))
     all_events = sorted(((time, t["thread"], t["number"], event) for t in made for time, event in events_of(t, objects)), key=lambda e: e[0])
     counts = [0] * threads
     for stamp, (_, thread, tx, event) in enumerate(all_events):
-        print(json.dumps({"at": counts[thread], "log": thread, "stamp": stamp, "tx": tx, **event}, separators=(",", ":"), sort_keys=True))
+        print(line(at=counts[thread], log=thread, stamp=stamp, tx=tx, **event))
         counts[thread] += 1
     for thread, count in enumerate(counts):
-        print(json.dumps({"end": count, "log": thread}, separators=(",", ":"), sort_keys=True))
+        print(line(end=count, log=thread))
 
 
 def main(words):
+    if words in (["--help"], ["-h"]):
+        print(__doc__.strip())
+        return 0
     count, maps = 400, "--maps" in words
     words = [word for word in words if word != "--maps"]
     if "--transactions" in words:

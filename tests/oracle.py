@@ -1,5 +1,6 @@
-"""A plain reader of opaq's texts, and a plain judge of small runs: written from docs/FORMAT.md, docs/OUTPUT.md and docs/CERTIFICATES.md
-alone. It shares nothing with the program, so that `bench/hostile` can compare the two."""
+"""The oracle of the tests: a plain reader of opaq's texts, and a plain judge of small runs, written from docs/FORMAT.md, docs/OUTPUT.md and
+docs/CERTIFICATES.md alone. It shares nothing with the program, so that `tests/fuzz` and others can compare the two."""
+import itertools
 import re
 
 I64 = 2**63
@@ -717,6 +718,23 @@ def decide(data):
     plan, facts = history_of(*lines_of(data))
     history = History(plan, sealed(plan, facts))
     return history, history.find()
+
+
+def every_order(history):
+    """All orders of all transactions, each with both fates."""
+    for txs in itertools.permutations(history.table):
+        for fates in itertools.product("ca", repeat=len(txs)):
+            yield tuple(zip(txs, fates))
+
+
+def showing(text):
+    """All orders that show the history of the text: each order there is was tried."""
+    history, _ = decide(text.encode())
+    return [order for order in every_order(history) if not history.shows(order)]
+
+
+def spelled(order):
+    return " ".join(f"{tx}{fate}" for tx, fate in order) or "none"
 
 
 def verify(data):

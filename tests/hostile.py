@@ -1,20 +1,11 @@
-#!/usr/bin/env python3
-"""Hostile texts against the built program: bench/hostile BINARY [N [SEED [FOLDER]]].
-
-Makes N texts (2,000) from a seed, valid, nearly valid and wrong ones in turn for `check`, `decide` and `verify`, reads each with the
-plain reader of `plain.py`, and compares that with what the program prints and its status. What differs is kept in FOLDER, if one is
-given. With the word `answers` as the last one it says how often each answer came. The last line is 'N passed, M failed'."""
-import collections
-import itertools
+"""Hostile texts, made from a seed: valid, nearly valid and wrong ones (`Maker`); and a quick way to ask the program about many (`Program`). `tests/fuzz`
+and `tests/audits` call both."""
 import os
 import random
 import re
 import signal
-import sys
 
-sys.dont_write_bytecode = True
-sys.path.insert(0, os.path.dirname(os.path.abspath(__file__)))
-import plain  # noqa: E402
+import oracle
 
 WHOLE = [0, 1, -1, 2, 3, 63, 64, 65, 255, 256, 257, 1023, 1024, 4095, 4096, 4097, 262143, 262144]
 WHOLE += [way * (2**bits + more) for bits in (31, 32, 62, 63, 64) for more in (-1, 0, 1) for way in (1, -1)]
@@ -124,7 +115,7 @@ class Maker:
     # ---- runs
 
     def plan(self, form):
-        kinds = plain.KINDS_TWO if form == 2 else plain.KINDS
+        kinds = oracle.KINDS_TWO if form == 2 else oracle.KINDS
         names = self.random.sample(["x", "y", "c", "jobs", "A_9", "n" * 32, "m"], self.one([0, 1, 1, 2, 2, 3, 4]))
         objects = [(name, self.one(list(kinds)), self.one([0, 0, 0, 1, 5, -7])) for name in names]
         return [(name, kind, opening if kind in ("register", "counter") else 0) for name, kind, opening in objects]
@@ -133,7 +124,7 @@ class Maker:
         """An operation on one of the objects, with its arguments."""
         name, kind, _ = self.one(objects)
         op = self.one(list(kinds[kind]))
-        arg = self.one([0, 1, 2, 5]) if not self.is_so(0.02) else self.one([2**31, -(2**31), plain.I64 - 1, -plain.I64])
+        arg = self.one([0, 1, 2, 5]) if not self.is_so(0.02) else self.one([2**31, -(2**31), oracle.I64 - 1, -oracle.I64])
         if op == "plus" and abs(arg) > 2**31:
             arg = 2**31
         return name, kind, op, arg, self.one([1, 9])
@@ -146,8 +137,8 @@ class Maker:
 
     def history(self, objects, form):
         """The events of a run of up to five transactions, each with a copy of its own of what was committed as it began."""
-        kinds = plain.KINDS_TWO if form == 2 else plain.KINDS
-        held = {name: plain.OPENING[kind](opening) for name, kind, opening in objects}
+        kinds = oracle.KINDS_TWO if form == 2 else oracle.KINDS
+        held = {name: oracle.OPENING[kind](opening) for name, kind, opening in objects}
         ids = self.random.sample([0, 1, 2, 3, 4, 5, 1023, 4095 if form == 2 else 1022], self.one([0, 1, 2, 2, 3, 3, 4, 5]))
         running = {tx: [*self.block(objects, kinds), None, []] for tx in ids}
         events = []
@@ -157,7 +148,7 @@ class Maker:
             copy = running[tx][2] = dict(held) if copy is None else copy
             if pending:
                 name, kind, op, arg, val = pending.pop()
-                copy[name], ans = plain.STEPS[kind][op](copy[name], arg, val)
+                copy[name], ans = oracle.STEPS[kind][op](copy[name], arg, val)
                 events.append((tx, "ret", name, op, None, None, ans if self.is_so(0.96) else self.other(ans)))
             elif asked:
                 pending.append(asked.pop())
@@ -349,8 +340,8 @@ class Maker:
         """The history of a run as it was made, or None where that is refused."""
         data = "\n".join("{" + ",".join(f"{self.plain_key(key)}:{text}" for key, text in line) + "}" for part in whole for line in part)
         try:
-            return plain.decide(data.encode())[0]
-        except plain.Refused:
+            return oracle.decide(data.encode())[0]
+        except oracle.Refused:
             return None
 
     def plain_key(self, key):
@@ -436,8 +427,6 @@ class Maker:
         return ["check", "--order", order], self.bytes(self.disturbed(lines))
 
 
-# ---- the program
-
 class Program:
     """The program under test: three files in memory are its input and its outputs, over and over."""
 
@@ -461,56 +450,3 @@ class Program:
         signal.setitimer(signal.ITIMER_REAL, 0)
         printed = [os.pread(file, os.fstat(file).st_size, 0) for file in self.files[1:]]
         return printed[0], printed[1], status
-
-
-def agrees(words, data, said):
-    """Whether that is what the program has to say, and what the plain reader says."""
-    out, err, status = said
-    try:
-        if words[0] == "decide":
-            history, order = plain.decide(data)
-            return (not err and decided(history, order, "--cert" in words, out, status)), "opaque" if order is not None else "not opaque"
-        wanted = plain.check(data, words[2].encode()) if words[0] == "check" else plain.verify(data)
-    except plain.Refused as refused:
-        wanted = refused.answer
-    return (out, err, status) == (wanted[0].encode(), b"", wanted[1]), wanted[0].strip()
-
-
-def decided(history, order, is_certified, out, status):
-    """Whether an answer of `decide` is right: any order that shows the run, and any certificate that is accepted."""
-    first, _, rest = out.partition(b"\n")
-    if order is None:
-        if (first, status) != (b"not opaque", 1) or not is_certified:
-            return (first, rest, status) == (b"not opaque", b"", 1)
-        return plain.is_accepted(history, plain.read_certificate(*plain.lines_of(rest)))
-    found = plain.read_order(first.removeprefix(b"opaque "))
-    return first.startswith(b"opaque ") and (rest, status) == (b"", 0) and not history.shows(found)
-
-
-def main(path, count="2000", seed="1", *more):
-    maker, program = Maker(int(seed)), Program(os.path.realpath(path))
-    has_answers = more[-1:] == ("answers",)
-    folder = more[0] if more and more != ("answers",) else None
-    passed, answers = 0, collections.Counter()
-    for number, command in zip(range(int(count)), itertools.cycle(["check", "decide", "verify"])):
-        words, data = maker.made(command)
-        said = program.run(words, data)
-        is_right, wanted = agrees(words, data, said)
-        passed += is_right
-        kind = re.sub(r"(line|log|place|stamp|tx) \d+", r"\1 N", re.sub(r"^opaque .*", "opaque ORDER", wanted))
-        answers[command, kind] += 1
-        if not is_right:
-            print(f"{number} {' '.join(words)[:60]}: {said[0][:80]!r} {said[1][:80]!r} {said[2]} and not {wanted!r}")
-            if folder:
-                os.makedirs(folder, exist_ok=True)
-                with open(os.path.join(folder, f"{seed}.{number}"), "wb") as file:
-                    file.write(data)
-    if has_answers:
-        for (command, answer), times in sorted(answers.items()):
-            print(f"{times:8} {command}: {answer[:70]}")
-    print(f"{passed} passed, {int(count) - passed} failed")
-    return int(passed != int(count))
-
-
-if __name__ == "__main__":
-    sys.exit(main(*sys.argv[1:]))

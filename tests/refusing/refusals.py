@@ -1,8 +1,11 @@
 """The calls that may answer want of memory: the public functions of the crates, and those of the traits that they implement. Of each
-`bench/planted` makes a body that always answers so."""
+`mutants/planted` makes a body that always answers so."""
 import collections
+import glob
 import os
 import re
+
+from harness import read
 
 Call = collections.namedtuple("Call", "name path place body")
 # faults of devices, of facts and of histories, none of which is want of memory
@@ -21,6 +24,20 @@ WHOLE = {
     "Ended": "Ended::Failed(Cause::Memory)",
     "(Vec<u8>, Ended)": "(Vec::new(alloc), Ended::Failed(Cause::Memory))",
 }
+
+
+def names():
+    """The names of types and variants that the tables above have: those with a great letter first."""
+    texts = [*OTHERS, *ANSWERS, *ANSWERS.values(), *WHOLE, *WHOLE.values()]
+    found = {name for text in texts for name in re.findall(r"\b[A-Z]\w+", text)}
+    return sorted(found - {"Err", "Ok", "None", "Some", "Vec"})
+
+
+def unknown(crates):
+    """The names of the tables that stand in none of the crates of these folders, as after a rename."""
+    texts = [read(path) for folder in crates for path in glob.glob(f"{folder}/src/**/*.rt", recursive=True)]
+    known = {name for text in texts for name in re.findall(r"\w+", text)}
+    return [name for name in names() if name not in known]
 
 
 def parts(text):
@@ -45,8 +62,7 @@ def without_brackets(text):
 
 def exported(folder):
     """The names that the crate gives out, each with its module, if it has one."""
-    with open(os.path.join(folder, "src", "lib.rt"), encoding="utf-8") as file:
-        text = file.read()
+    text = read(os.path.join(folder, "src", "lib.rt"))
     names = dict.fromkeys(re.findall(r"pub (?:trait|struct|enum|fn) (\w+)", text), "lib")
     for module, several, one in re.findall(r"pub use (\w+)[\w:]*::(?:\{([^}]*)\}|(\w+));", text):
         names.update(dict.fromkeys(re.findall(r"\w+", several or one), module))
@@ -95,8 +111,7 @@ def inputs_of(head):
 
 def of_file(path, names):
     """The calls of the file that may answer want of memory, of those names that the crate gives out."""
-    with open(path, encoding="utf-8") as file:
-        lines = file.read().split("\n")
+    lines = read(path).split("\n")
     owner = trait = None
     for place, line in enumerate(lines):
         if re.match(r"(impl|pub trait|trait)\b", line):
