@@ -9,7 +9,7 @@ opaq decide < RUN | explain.py.
 Printed are what the line means and what to do, and then what it is about: the line of the run with the key at fault, its value and its limit; the two
 lines that clash; the likely cause where the text is no run at all. It is the first fault that is explained; it may hide others.
 
-With --table all that may be refused is printed, as docs/FAULTS.md has it.
+With --table is printed what to do about all that may be refused, as docs/FAULTS.md has it.
 
 The exit status is 3 where a refusal was explained, 0 where the run is not refused or the table was printed, 4 where something failed, and 64 where
 these words are not understood.
@@ -24,55 +24,58 @@ import recorded
 EXPLAINED, NOT_REFUSED = 3, 0
 SMALL, VALUE, LISTED = (0, (1 << 32) - 1), (-(1 << 63), (1 << 63) - 1), 8
 SECOND = ("plus", "put", "look", "del", "map")
-CUT = "end the run sooner, or cut all logs at one stamp"
-# Of each fault what it means, and what to do; tests/explained compares the numbers with those of docs/FORMAT.md and docs/OUTPUT.md.
+CUT = "record rounds, or cut all logs at one stamp"
+ONE, ENDS = "look whether the file is a run: one JSON object a line", "write one end mark for each log, which counts all its records"
+THREADS, ASK = "record 1 to 64 threads", "record the request (opaq_try) last, before the commit begins"
+NAME, ANEW = "name each transaction of the run once, and no other", "make it anew of this run"
+# Of each fault what it means, and what to do; tests/scripts compares the numbers with those of docs/FORMAT.md and docs/OUTPUT.md.
 FAULTS = {
-    "refused 1": ("the line is longer than 4,096 bytes, of a certificate 65,536", "write one JSON value a line"),
-    "refused 2": ("the line is not one JSON value in UTF-8", "look whether the file is a run at all"),
-    "refused 3": ("the line is JSON, and no object", "put the keys between { and }"),
-    "refused 4": ("a key that must stand is missing, or the text ends too early", "write the key; a text that ends early was cut"),
-    "refused 5": ("a key or a line stands that may not", "leave it out"),
+    "refused 1": ("the line is longer than 4,096 bytes, of a certificate 65,536", ONE),
+    "refused 2": ("the line is not one JSON value in UTF-8", ONE),
+    "refused 3": ("the line is JSON, and no object", ONE),
+    "refused 4": ("a key that must stand is missing, or the text ends too early", "write the missing key; a text that ends early was cut"),
+    "refused 5": ("a key or a line stands that may not", "leave out the key or the line"),
     "refused 6": ("a value has a wrong type, or is out of range", "write what the key wants, within its limit"),
-    "refused 7": ("a string is none of the words that may stand there", "write one of them; `plus`, `map` and its operations want \"format\":2"),
-    "refused 8 1": ("the plan has no such log", "number logs from 0, and let `logs` of the header say how many there are"),
+    "refused 7": ("a string is none of the words that may stand there", "write a known word; maps and `plus` want \"format\":2"),
+    "refused 8 1": ("the plan has no such log", "number logs from 0, and let `logs` count them"),
     "refused 8 2": ("a place in a log is above 4,095, or a count above 4,096", CUT),
     "refused 8 3": ("a stamp is above 262,143", CUT),
-    "refused 8 4": ("a transaction's number is above 1,023, in format 2 above 4,095", "write \"format\":2, or cut all logs at one stamp"),
-    "refused 8 5": ("the plan has no object of that name", "declare the object in the plan, and count it in `objects`"),
-    "refused 8 6": ("the object's kind has no such operation in the plan's format", "declare it with its kind; `plus` wants \"format\":2"),
-    "refused 8 7": ("the operation has no such answer", "write the answer that the table of objects has: done, a value, true or false, empty"),
-    "refused 8 8": ("the argument of plus is not from -2,147,483,648 to 2,147,483,648", "count in several steps"),
-    "refused 9": ("memory was refused while the text was read", "give the program more memory, or cut the run; it ends with status 4"),
-    "refused 10 1": ("`logs` is 0", "a plan has at least one log"),
-    "refused 10 2": ("`logs` is more than 64", "record at most 64 threads"),
+    "refused 8 4": ("a transaction's number is above 1,023, in format 2 above 4,095", "write \"format\":2, or record rounds"),
+    "refused 8 5": ("the plan has no object of that name", "declare the object, and count it in `objects`"),
+    "refused 8 6": ("the object's kind has no such operation in the plan's format", "declare its kind; `plus` wants \"format\":2"),
+    "refused 8 7": ("the operation has no such answer", "write done, a value, true, false or empty, as the operation answers"),
+    "refused 8 8": ("the argument of plus is not from -2,147,483,648 to 2,147,483,648", "let several `plus` add up to it"),
+    "refused 9": ("memory was refused while the text was read", "give the program more memory, or cut the run"),
+    "refused 10 1": ("`logs` is 0", THREADS),
+    "refused 10 2": ("`logs` is more than 64", THREADS),
     "refused 10 3": ("`objects` is more than 256", "record at most 256 objects"),
     "refused 10 4": ("two objects have one name", "name each object once"),
-    "refused 10 5": ("a counter opens beyond -2^62 to 2^62", "open it nearer to 0"),
+    "refused 10 5": ("a counter opens beyond -2^62 to 2^62", "open the counter nearer to 0"),
     "refused 10 6": ("a name is not 1 to 32 ASCII letters, digits or underscores", "name the object so: x_0 for x[0]"),
     "refused 10 8": ("the format does not have an object's kind", "write \"format\":2"),
     "conflict 1": ("two different records have one place of one log", "let one thread alone write a log; hand in one run at a time"),
-    "conflict 2": ("one stamp stands at two places", "draw stamps from one counter for all threads, by an atomic fetch-and-add"),
-    "conflict 3": ("two end marks of one log have different counts", "write one end mark for each log"),
-    "conflict 4": ("a record stands at a place that is not below the count of its log", "let the end mark count all records of its log"),
-    "conflict 5": ("a later place of a log has no greater stamp", "number places in the order in which the thread drew its stamps"),
+    "conflict 2": ("one stamp stands at two places", "draw all stamps from one counter, by an atomic fetch-and-add"),
+    "conflict 3": ("two end marks of one log have different counts", ENDS),
+    "conflict 4": ("a record stands at a place that is not below the count of its log", ENDS),
+    "conflict 5": ("a later place of a log has no greater stamp", "number places as the thread drew its stamps"),
     "waiting": ("the log has no end mark, or fewer records than it says", "look whether the memory died, or the disk was full"),
-    "gap": ("no record has this stamp, and later ones stand there", "record each stamp that is drawn; look whether a log was cut"),
+    "gap": ("no record has this stamp, and later ones stand there", "record each drawn stamp; look whether a log was cut"),
     "rule 1": ("the event comes after the commit or abort of its transaction", "give each attempt a number of its own"),
     "rule 2": ("the event invokes while an invocation is pending", "record the answer (opaq_back); let no two threads share a transaction"),
-    "rule 3": ("the event answers, and no invocation is pending", "record the invocation (opaq_call) before the memory is called"),
-    "rule 4": ("the event answers another operation or object than the pending one", "record an answer with the operation that it is of"),
-    "rule 5": ("the event asks to commit or abort while an invocation is pending", "record the answer (opaq_back) first"),
-    "rule 6": ("the event comes after a request to commit or abort, and is neither", "record the request (opaq_try) last; an attempt ends with it"),
-    "rule 7": ("the event commits, and its transaction did not ask to", "record the request (opaq_try) before the commit begins"),
+    "rule 3": ("the event answers, and no invocation is pending", "record the invocation (opaq_call) before the call"),
+    "rule 4": ("the event answers another operation or object than the pending one", "record each answer with its own operation"),
+    "rule 5": ("the event asks to commit or abort while an invocation is pending", "record the answer (opaq_back) before the request"),
+    "rule 6": ("the event comes after a request to commit or abort, and is neither", ASK),
+    "rule 7": ("the event commits, and its transaction did not ask to", ASK),
     "rule 8": ("the event aborts, and nothing is pending that may be aborted", "record a trya before it"),
-    "order 1": ("the transaction is not in the history", "name transactions of the run alone"),
-    "order 2": ("the transaction stands twice", "name each transaction once"),
-    "order 3": ("the transaction cannot have that fate", "c if committed, a if aborted or live, either if it asked to"),
-    "order 4": ("the transaction stands before one that had ended before it began", "move it behind that one; opaq decide looks for an order itself"),
-    "order 5": ("the transaction got an answer that it cannot get there", "try another order; opaq decide looks for one itself"),
-    "order 6": ("the transaction is missing", "name every transaction of the run"),
-    "certificate refused": ("the certificate is not accepted, which says nothing of the run", "make it anew of this run: opaq decide --cert"),
-    "refutation refused": ("a step does not follow, or the refutation has no end", "make it anew of this run: opaq refute"),
+    "order 1": ("the transaction is not in the history", NAME),
+    "order 2": ("the transaction stands twice", NAME),
+    "order 3": ("the transaction cannot have that fate", "c if committed, a if aborted or live, either if it asked to commit"),
+    "order 4": ("the transaction stands before one that had ended before it began", "move it after the one that ended before it began"),
+    "order 5": ("the transaction got an answer that it cannot get there", "try another order, or opaq decide"),
+    "order 6": ("the transaction is missing", NAME),
+    "certificate refused": ("the certificate is not accepted, which says nothing of the run", ANEW),
+    "refutation line L refused": ("a step does not follow, or the refutation has no end", ANEW),
 }
 SORTS = {"certificate": "see docs/CERTIFICATES.md for the lines of a certificate", "order": "see docs/FORMAT.md for order texts"}
 
@@ -89,7 +92,7 @@ def key_of(line):
             return match[1]
     if match := re.fullmatch(r"order refused (\d) tx \d+", line):
         return f"order {match[1]}"
-    return "refutation refused" if re.fullmatch(r"refutation line \d+ refused", line) else None
+    return "refutation line L refused" if re.fullmatch(r"refutation line \d+ refused", line) else None
 
 
 def is_opaqs(line):
@@ -300,12 +303,13 @@ def explained(line, text):
 
 
 def table():
-    """All that may be refused, in the form of the documents."""
+    """What to do about all that may be refused, in the form of the documents."""
     printed = {"waiting": "waiting for log G", "gap": "gap at stamp S"}
-    yield "| what is printed | what it means | what to do |"
-    yield "|---|---|---|"
-    for key, (why, what) in FAULTS.items():
-        yield f"| `{printed.get(key, key)}` | {why} | {what} |"
+    yield "| what is printed | what to do |"
+    yield "|---|---|"
+    for what in dict.fromkeys(what for _, what in FAULTS.values()):
+        keys = [f"`{printed.get(key, key)}`" for key in FAULTS if FAULTS[key][1] == what]
+        yield f"| {', '.join(keys)} | {what} |"
 
 
 def words_of(words):

@@ -16,7 +16,7 @@ import steps
 SECONDS = 60
 LISTED, LONG = 6, 500
 BY = {
-    "stands": "source", "between": "replaced", "sources": "gone", "counter": "count", "counts": "count", "items": "queue", "item": "queue",
+    "stands": "source", "between": "replaced", "sources": "gone", "counter": "count", "remainder": "count", "counts": "count", "items": "queue", "item": "queue",
 }
 
 

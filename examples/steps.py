@@ -48,6 +48,7 @@ REASONS = {
     "between": lambda tx, cell, source, other: f"{other} would change {cell_text(cell)} before {tx} sees it",
     "clash": lambda tx, cell: f"what {tx} finds in {cell_text(cell)} contradicts what it did there before",
     "counter": lambda tx, name: f"what {tx} gets from {name} is out of reach of those that may stand before it",
+    "remainder": lambda tx, name, modulus: f"what {tx} gets from {name} is no sum of those that may stand before it, whose open parts are multiples of {modulus}",
     "counts": lambda tx, name: f"two counts that {tx} gets from {name} contradict each other",
     "element": lambda tx, name, element: f"whether {tx} finds {element} in {name} is out of reach of those that may stand before it",
     "items": lambda tx, name, number: f"{taken(tx, name, number)} was added by somebody",
