@@ -1,5 +1,5 @@
 -- What is left of a set without the items of another.
-use Rattle.std.proofs.Common.{◌≡◌, Bool, true, false, not, ◌||◌, ◌&&◌, List, [], ◌∷◌, ◌++◌, refl, sym, ap, subst, ◌∙◌, ◌↔◌, inl, inr, append_assoc}
+use Rattle.std.proofs.Common.{◌≡◌, Bool, true, false, not, ◌||◌, ◌&&◌, List, [], ◌∷◌, ◌++◌, refl, sym, ap, subst, ◌∙◌, ◌↔◌, inl, inr, append_assoc, append-nil}
 use mathlib.Core.Bool.{true≢false}
 use Rattle.std.specs.declared.cmp.Ordering.{Ordering}
 use Rattle.std.specs.Ordering.{eq_by_cmp}
@@ -10,7 +10,8 @@ use Rattle.std.proofs.lemmas.Map.Views.{any-filter_same}
 use Rattle.std.specs.List.Sorted.{IsStrictlySortedBy}
 use Rattle.std.proofs.lemmas.List.Kept.{IsStrictlySortedBy-filter}
 use Rattle.base_values.specs.Exact.{IsExact}
-use Rattle.aud_lattice.specs.Sets.{has, union, without}
+use Rattle.aud_lattice.specs.Sets.{has, union, with_item, without}
+use Rattle.aud_lattice.proofs.Pours.{union_swap}
 use Rattle.aud_lattice.proofs.Members.{has_is, contains_union, same_members}
 use Rattle.aud_lattice.specs.Sorted.{has-union, sorted_union, same_sorted}
 use Rattle.base_values.proofs.Bools.{is_false}
@@ -68,3 +69,13 @@ module _ {T : Type 0} {R : T → T → Ordering} (o : IsTotalOrder R) (ex : IsEx
         | inl first ↦ Contains-append_left new ys x first
         | inr second ↦ Contains-append_right new ys x second
       ]))
+
+  -- a list put in order, and so a list with a sorted one behind it
+  pub arranged_is : (items all : List T) → IsStrictlySortedBy R all → ((x : T) → Contains all x ↔ Contains items x) → all ≡ union R items []
+  unfolding IsStrictlySortedBy
+  arranged_is items all s same = rebuilt_is items [] items all (sym (append-nil items)) tt s same
+
+  pub union_of_both : (new ys : List T) → IsStrictlySortedBy R ys → union R (new ++ ys) [] ≡ union R new ys
+  unfolding IsStrictlySortedBy
+  union_of_both [] ys s = union_swap o ex [] ys tt s
+  union_of_both (x ∷ new) ys s = ap (λ l. with_item R x l) (union_of_both new ys s)

@@ -1,8 +1,20 @@
+#![tactic(auto)]
 //! Joins with laws: values that grow by taking in others of their kind, where neither the order, nor the grouping,
 //! nor repeats of what is taken in show.
 //!
 //! A refused join or insert leaves the value as it was.
-#![tactic(auto)]
+//!
+//! For whoever gathers values that arrive in any order, and more than once. A `UnionSet` has items, `insert` puts one in, and `items` has them in
+//! their order; a `Cover` has lists, and `mark` says how one stands to them; `join` of any `Lattice` takes in another value of its kind.
+//!
+//! ```
+//! let mut ours = UnionSet::from_vec(alloc, items)?;
+//! let is_new = ours.insert(item)?;
+//! ours.join(&theirs)?;
+//! for item in ours.items() {
+//!     print(item);
+//! }
+//! ```
 
 ghost use Rattle.std.specs.Prelude.{◌≡◌, OnOk, OnErr, IsTrue, ◌↔◌};
 ghost use Rattle.aud_lattice.specs.Laws.{SemilatticeLaws};

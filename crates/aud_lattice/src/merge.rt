@@ -57,7 +57,7 @@ fn poured<T: Key + Dup, A: Allocator + Clone>(
     Ok(all)
 }
 
-// A tree of its own for the items of a list and of a tree. Each comes in a run that is in order, so the sort merges two runs.
+// A tree of its own for the items of a list and of a tree.
 fn rebuilt<T: Key + Dup, A: Allocator + Clone>(
     alloc: &A,
     new: Vec<T, A>,
@@ -66,9 +66,23 @@ fn rebuilt<T: Key + Dup, A: Allocator + Clone>(
     requires { IsStrictlySortedBy T.Ord.cmp (items_of tree.now) }
     ensures { IfOk result (λ all. items_of all ≡ union T.Ord.cmp new.items (items_of tree.now)) }
 {
+    let all = arranged_with(new, tree)?;
+    tree_of(alloc, all)
+}
+
+// The items of a list and of a tree in their order, each once. Both come in runs that are in order, so the sort merges two runs.
+#[tactic(auto, using(crate::proofs::Leftovers::union_of_both))]
+fn arranged_with<T: Key + Dup, A: Allocator>(
+    new: Vec<T, A>,
+    tree: &Link<T, A>,
+) -> Result<Vec<T, A>, OutOfMemory>
+    requires { IsStrictlySortedBy T.Ord.cmp (items_of tree.now) }
+    ensures { IfOk result (λ all. all.items ≡ union T.Ord.cmp new.items (items_of tree.now)) }
+{
     let mut all = new;
     push_all(&mut all, tree)?;
-    tree_of(alloc, arranged(all)?)
+    let all = arranged(all)?;
+    Ok(all)
 }
 
 // Puts copies of the items at the end.
