@@ -1,4 +1,4 @@
--- A block that contradicts itself is in no list that shows.
+-- A block that contradicts itself is in no order that shows.
 use Rattle.std.specs.Prelude.{◌≡◌, ℕ, ℤ, true, false, not, ◌||◌, nat_eq, List, [], ◌∷◌, Option, Some, None, Result, Ok, Err, refl}
 use Rattle.std.proofs.Common.{sym, ◌∙◌, ap, subst, inl, inr}
 use Rattle.base_values.proofs.Bools.{split, nat_eq-is}

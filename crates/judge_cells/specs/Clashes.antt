@@ -38,6 +38,6 @@ abbrev pub clashes : Cell → ℕ → Option Need → List Execution → Bool
 clashes c x known [] = false
 clashes c x known (e ∷ es) = fails (asks_by c x e) known || clashes c x (kept_known (puts_by c x e) (learned (asks_by c x e) known)) es
 
--- the same of T in H, of which nothing is known before
+-- some execution of T in H needs of the cell other than what is known of it from those before
 abbrev pub clashes_of : History → Cell → ℕ → ℕ → Bool
 clashes_of h c x t = clashes c x None (row_of h t).block.executions

@@ -4,12 +4,12 @@ ghost use Rattle.std.specs.Prelude.{IsTrue};
 ghost use Rattle.judge_clauses.specs.Clauses.{Holds};
 
 use crate::change::is_change;
-use judge_clauses::{Atom, Facts, Literal, Read};
+use judge_clauses::{Atom, KnownFacts, Literal, Read};
 use std::alloc::Allocator;
 
 /// The source stands before the reader, and it is kept: the clause denies one of these, or that it is the source.
 pub(crate) fn is_standing<A: Allocator + Copy>(
-    facts: &Facts<A>,
+    facts: &KnownFacts<A>,
     clause: &[Literal],
     read: Read,
     source: u32,
@@ -25,12 +25,12 @@ pub(crate) fn is_standing<A: Allocator + Copy>(
     if facts.is_not_so(clause, Atom::Before(source, read.reader)) {
         return true;
     }
-    facts.is_not_so(clause, Atom::Kept(source))
+    facts.is_not_so(clause, Atom::Commits(source))
 }
 
-/// Another one that is kept and changes the cell stands before the source or behind the reader.
+/// Another one that is kept and changes the cell stands before the source or after the reader.
 pub(crate) fn is_after_source<A: Allocator + Copy>(
-    facts: &Facts<A>,
+    facts: &KnownFacts<A>,
     clause: &[Literal],
     read: Read,
     source: u32,
@@ -50,7 +50,7 @@ pub(crate) fn is_after_source<A: Allocator + Copy>(
     if !facts.is_so(clause, Atom::Source(read, source)) {
         return false;
     }
-    if !facts.is_so(clause, Atom::Kept(other)) {
+    if !facts.is_so(clause, Atom::Commits(other)) {
         return false;
     }
     if !facts.is_not_so(clause, Atom::Before(read.reader, other)) {
@@ -59,9 +59,9 @@ pub(crate) fn is_after_source<A: Allocator + Copy>(
     facts.is_not_so(clause, Atom::Before(other, source))
 }
 
-/// Where there is no source, another one that is kept and changes the cell stands behind the reader.
+/// Where there is no source, another one that is kept and changes the cell stands after the reader.
 pub(crate) fn is_after_opening<A: Allocator + Copy>(
-    facts: &Facts<A>,
+    facts: &KnownFacts<A>,
     clause: &[Literal],
     read: Read,
     other: u32,
@@ -80,7 +80,7 @@ pub(crate) fn is_after_opening<A: Allocator + Copy>(
     if !facts.is_so(clause, Atom::Opening(read)) {
         return false;
     }
-    if !facts.is_so(clause, Atom::Kept(other)) {
+    if !facts.is_so(clause, Atom::Commits(other)) {
         return false;
     }
     facts.is_not_so(clause, Atom::Before(read.reader, other))

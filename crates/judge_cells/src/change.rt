@@ -5,7 +5,7 @@ ghost use Rattle.aud_history.specs.Histories.{is_in};
 ghost use Rattle.search_model.specs.Cells.{needs, leaves, moves, changes};
 
 use aud_object::Execution;
-use judge_clauses::Facts;
+use judge_clauses::KnownFacts;
 use search_model::{Cell, leaves, moves, needs};
 use std::alloc::Allocator;
 
@@ -25,7 +25,7 @@ pub(crate) fn change(executions: &[Execution], object: u16, cell: Cell) -> Optio
 
 /// Whether the transaction is in the history and changes the cell.
 pub(crate) fn is_change<A: Allocator + Copy>(
-    facts: &Facts<A>,
+    facts: &KnownFacts<A>,
     tx: u32,
     object: u16,
     cell: Cell,

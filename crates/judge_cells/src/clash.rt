@@ -6,7 +6,7 @@ ghost use Rattle.judge_cells.specs.Clashes.{are_apart, learned, kept_known, fail
 
 use crate::opening::opening;
 use aud_object::Execution;
-use judge_clauses::{Facts, Literal};
+use judge_clauses::{KnownFacts, Literal};
 use search_model::{Cell, Need, asks, puts};
 use std::alloc::Allocator;
 
@@ -44,6 +44,7 @@ fn kept_known(left: Option<Option<i64>>, known: Option<Need>) -> Option<Need>
     }
 }
 
+/// Whether what is needed is other than what is known.
 fn fails(need: Option<Need>, known: Option<Need>) -> bool
     ensures { result ≡ fails need known }
 {
@@ -71,9 +72,9 @@ fn clashes(executions: &[Execution], object: u16, cell: Cell) -> bool
     false
 }
 
-/// Whether the transaction's block contradicts itself on the cell: then no list shows the history, and every clause holds in each.
+/// Whether the transaction's block contradicts itself on the cell: then no order shows the history, and every clause holds in each.
 pub(crate) fn is_clash<A: Allocator + Copy>(
-    facts: &Facts<A>,
+    facts: &KnownFacts<A>,
     clause: &[Literal],
     tx: u32,
     object: u16,

@@ -4,7 +4,7 @@ use crate::between::{is_after_opening, is_after_source, is_standing};
 use crate::clash::is_clash;
 use crate::sources::are_listed;
 use aud_event::OutOfMemory;
-use judge_clauses::{Facts, Law, Literal, Read};
+use judge_clauses::{KnownFacts, Law, Literal, Read};
 use search_model::Cell;
 use std::alloc::Allocator;
 
@@ -16,7 +16,7 @@ pub enum CellLaw {
     Sources(Read),
     /// The source stands before the reader and is kept: the clause says one of both, or that this one is not the source.
     SourceStands(Read, u32),
-    /// Another one that is kept and changes the cell stands before the source, if there is one, or behind the reader.
+    /// Another one that is kept and changes the cell stands before the source, if there is one, or after the reader.
     Between(Read, Option<u32>, u32),
     /// The transaction's block contradicts itself on the cell.
     Clash(u32, u16, Cell),
@@ -26,7 +26,7 @@ impl Law for CellLaw {
     fn is_right<A: Allocator + Copy>(
         &self,
         alloc: A,
-        facts: &Facts<A>,
+        facts: &KnownFacts<A>,
         clause: &[Literal],
     ) -> Result<bool, OutOfMemory> {
         match *self {

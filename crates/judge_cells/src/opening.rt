@@ -4,13 +4,13 @@ ghost use Rattle.std.specs.Prelude.{IfSome};
 ghost use Rattle.judge_cells.specs.Sources.{OpensWith};
 
 use aud_event::ObjKind;
-use judge_clauses::Facts;
+use judge_clauses::KnownFacts;
 use search_model::Cell;
 use std::alloc::Allocator;
 
 /// What the cell holds where its object opens, if the object has such a cell.
 pub(crate) fn opening<A: Allocator + Copy>(
-    facts: &Facts<A>,
+    facts: &KnownFacts<A>,
     object: u16,
     cell: Cell,
 ) -> Option<Option<i64>>

@@ -7,13 +7,13 @@ ghost use Rattle.judge_cells.specs.Sources.{IsRead, IsHiding};
 
 use crate::change::change;
 use aud_witness::Fate;
-use judge_clauses::{Facts, Read};
+use judge_clauses::{KnownFacts, Read};
 use search_model::{Need, meets};
 use std::alloc::Allocator;
 
-/// The stamp of the transaction's first event, if all that ended before it is hidden from the reader behind it: it is committed, changes the
+/// The stamp of the transaction's first event, if all that ended before it is hidden from the reader after it: it is committed, changes the
 /// cell and ended before the reader began.
-fn hiding<A: Allocator + Copy>(facts: &Facts<A>, read: Read, tx: u32) -> Option<u32>
+fn hiding<A: Allocator + Copy>(facts: &KnownFacts<A>, read: Read, tx: u32) -> Option<u32>
     ensures { IfSome result (IsHiding facts.now read) }
 {
     if !facts.cannot(tx, Fate::A) || !facts.is_before(tx, read.reader) {
@@ -33,7 +33,7 @@ fn is_later(stamp: u32, latest: Option<u32>) -> bool {
 }
 
 /// The latest stamp before which all is hidden that ended, if something is.
-pub(crate) fn latest<A: Allocator + Copy>(facts: &Facts<A>, read: Read) -> Option<u32>
+pub(crate) fn latest<A: Allocator + Copy>(facts: &KnownFacts<A>, read: Read) -> Option<u32>
     ensures { IfSome result (IsHiding facts.now read) }
 {
     let rows = facts.rows();
@@ -53,7 +53,7 @@ pub(crate) fn latest<A: Allocator + Copy>(facts: &Facts<A>, read: Read) -> Optio
 
 /// Whether the transaction ended before the stamp.
 fn is_hidden<A: Allocator + Copy>(
-    facts: &Facts<A>,
+    facts: &KnownFacts<A>,
     read: Read,
     latest: Option<u32>,
     tx: u32,
@@ -71,7 +71,7 @@ fn is_hidden<A: Allocator + Copy>(
 }
 
 /// Whether the transaction does not leave in the cell what is needed.
-fn is_other<A: Allocator + Copy>(facts: &Facts<A>, read: Read, need: Need, tx: u32) -> bool
+fn is_other<A: Allocator + Copy>(facts: &KnownFacts<A>, read: Read, need: Need, tx: u32) -> bool
     requires { IsRead facts.now read need }
     ensures { IsTrue result → Always facts.now (λ p. says facts.now.history p (Source read tx) ≡ false) }
 {
@@ -85,10 +85,10 @@ fn is_other<A: Allocator + Copy>(facts: &Facts<A>, read: Read, need: Need, tx: u
     }
 }
 
-/// Whether the transaction cannot be the source: it cannot be kept, is the reader, stands behind it, is hidden, or does not leave what is
+/// Whether the transaction cannot be the source: it cannot be kept, is the reader, stands after it, is hidden, or does not leave what is
 /// needed.
 pub(crate) fn is_outside<A: Allocator + Copy>(
-    facts: &Facts<A>,
+    facts: &KnownFacts<A>,
     read: Read,
     need: Need,
     latest: Option<u32>,

@@ -10,12 +10,12 @@ ghost use Rattle.judge_cells.specs.Sources.{IsRead, IsHiding, AreOut};
 use crate::opening::opening;
 use crate::outside::{is_outside, latest};
 use aud_event::OutOfMemory;
-use judge_clauses::{Atom, Facts, Literal, Question, Read};
+use judge_clauses::{Atom, KnownFacts, Literal, Question, Read};
 use search_model::{Need, meets, needs};
 use std::alloc::Allocator;
 
 /// What the reader first needs of the cell, if it is in the history and needs something.
-fn need<A: Allocator + Copy>(facts: &Facts<A>, read: Read) -> Option<Need>
+fn need<A: Allocator + Copy>(facts: &KnownFacts<A>, read: Read) -> Option<Need>
     ensures { IfSome result (IsRead facts.now read) }
 {
     let row = facts.row(read.reader)?;
@@ -25,7 +25,7 @@ fn need<A: Allocator + Copy>(facts: &Facts<A>, read: Read) -> Option<Need>
 
 /// Whether the reader does not see the opening where the clause does not hold.
 fn is_opening_out<A: Allocator + Copy>(
-    facts: &Facts<A>,
+    facts: &KnownFacts<A>,
     clause: &[Literal],
     read: Read,
     need: Need,
@@ -60,7 +60,7 @@ fn is_denied(values: &[Option<bool>], place: usize) -> bool
 
 /// Whether no row is the source where the clause does not hold.
 fn are_out<A: Allocator + Copy>(
-    facts: &Facts<A>,
+    facts: &KnownFacts<A>,
     clause: &[Literal],
     read: Read,
     need: Need,
@@ -90,7 +90,7 @@ fn are_out<A: Allocator + Copy>(
 /// Whether the clause says of each row that may have left what the reader needs that it is the source, and of the opening if it is that.
 pub(crate) fn are_listed<A: Allocator + Copy>(
     alloc: A,
-    facts: &Facts<A>,
+    facts: &KnownFacts<A>,
     clause: &[Literal],
     read: Read,
 ) -> Result<bool, OutOfMemory>

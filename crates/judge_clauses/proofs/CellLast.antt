@@ -10,6 +10,7 @@ use Rattle.aud_witness.proofs.Beginnings.{second_is_named}
 use Rattle.aud_witness.proofs.Blocks.{stands_before-total}
 use Rattle.judge_clauses.specs.Clauses.{is_kept_in, is_just, is_nothing}
 use Rattle.search_model.specs.Cells.{newer_of, last_of}
+use Rattle.judge_clauses.proofs.Naming.{kept-named, fresh, rest-once}
 use Rattle.judge_clauses.proofs.Standing.{first-named}
 
 pub just-is : (o : Option ℕ) (w : ℕ) → is_just o w ≡ true → o ≡ Some w
@@ -46,7 +47,7 @@ module _ (m : ℕ → Bool) where
   past-other : (d : Decision) (p : List Decision) (r : ℕ) (last : Option ℕ) → nat_eq d.tx r ≡ false → last_of m (d ∷ p) r last ≡ last_of m p r (newer_of m d last)
   past-other d p r last is = ap (λ b. cond b last (last_of m p r (newer_of m d last))) is
 
-  -- it is the one before the list, or one of the list
+  -- it is the one before the order, or one of the order
   pub writer-or : (p : List Decision) (r : ℕ) (last : Option ℕ) → is_named p r ≡ true →
       (last_of m p r last ≡ last) ⊎ ((w : ℕ) × ((last_of m p r last ≡ Some w) × IsEarlier m p r w))
   writer-or [] r last there = absurd (cc)
@@ -77,21 +78,6 @@ module _ (m : ℕ → Bool) where
                   ]
             ]
       ]
-
-  -- a kept one is named
-  pub kept-named : (p : List Decision) (u : ℕ) → is_kept_in p u ≡ true → is_named p u ≡ true
-  kept-named [] u kept = absurd (cc)
-  kept-named (d ∷ p) u kept =
-      elim (or_true (nat_eq d.tx u && is_kept d) (is_kept_in p u) kept) [
-        | inl here ↦ true_or (nat_eq d.tx u) (is_named p u) (and_true (nat_eq d.tx u) (is_kept d) here).0
-        | inr later ↦ or_right (nat_eq d.tx u) (is_named p u) (kept-named p u later)
-      ]
-
-  pub fresh : (d : Decision) (p : List Decision) → are_named_once (d ∷ p) ≡ true → is_named p d.tx ≡ false
-  fresh d p once = not_true (is_named p d.tx) (and_true (not (is_named p d.tx)) (are_named_once p) once).0
-
-  pub rest-once : (d : Decision) (p : List Decision) → are_named_once (d ∷ p) ≡ true → are_named_once p ≡ true
-  rest-once d p once = (and_true (not (is_named p d.tx)) (are_named_once p) once).1
 
   -- a kept one that writes before the reader is the last writer, or stands before it
   pub writer-last : (p : List Decision) (r u : ℕ) (last : Option ℕ) → are_named_once p ≡ true → m u ≡ true → is_kept_in p u ≡ true → stands_before p u r ≡ true →
@@ -174,7 +160,7 @@ module _ (objects : List Declared) (h : History) (m : ℕ → Bool) (p : List De
             subst (IsEarlier m p r) same earlier
       ]
 
-  -- what is kept and may change it stands before the source or behind the reader
+  -- what is kept and may change it stands before the source or after the reader
   pub last-source : (w u r : ℕ) → m u ≡ true → nat_eq u w ≡ false → nat_eq u r ≡ false → is_in h u ≡ true → is_in h r ≡ true → is_kept_in p u ≡ true → is_just (last_of m p r None) w ≡ true →
       (stands_before p u w ≡ true) ⊎ (stands_before p r u ≡ true)
   last-source w u r may not_w not_r there_u there_r kept is =
@@ -196,7 +182,7 @@ module _ (objects : List Declared) (h : History) (m : ℕ → Bool) (p : List De
             ]
       ]
 
-  -- where there is no source, what is kept and may change it stands behind the reader
+  -- where there is no source, what is kept and may change it stands after the reader
   pub last-opening : (u r : ℕ) → m u ≡ true → nat_eq u r ≡ false → is_in h u ≡ true → is_in h r ≡ true → is_kept_in p u ≡ true → is_nothing (last_of m p r None) ≡ true → stands_before p r u ≡ true
   last-opening u r may not_r there_u there_r kept is =
       elim (stands_before-total p u r (shown.full.same u ∙ there_u) (shown.full.same r ∙ there_r) not_r) [

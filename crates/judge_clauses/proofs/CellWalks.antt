@@ -1,4 +1,4 @@
--- What a cell holds where a transaction runs in a list that shows.
+-- What a cell holds where a transaction runs in an order that shows.
 use Rattle.std.specs.Prelude.{◌≡◌, ℕ, ℤ, true, false, ◌&&◌, ◌||◌, nat_eq, List, [], ◌∷◌, Option, Some, None, Result, Ok, Err, slice_get, refl}
 use Rattle.std.proofs.Common.{sym, ◌∙◌, ap, subst, inl, inr, cond}
 use Rattle.base_values.proofs.Bools.{split, unnegated, nat_eq-is}
@@ -163,7 +163,7 @@ module _ (c : Cell) (x : ℕ) where
             let stays : newer_of (changes h c x) d last ≡ last = ap (λ b. cond (b && changes h c x d.tx) (Some d.tx) last) kept in
             subst (λ l. Stands c x l (content_after (newer_of (changes h c x) d last))) (sym states) (subst (λ o. Stands c x s.states (content_after o)) (sym stays) at)
 
-    -- what a transaction of the list first needs is what the last that may change the cell left
+    -- what a transaction of the order first needs is what the last that may change the cell left
     pub walked-needs : (p : List Decision) (s t : Configuration) (last : Option ℕ) (r : ℕ) (n : Need) → walked (table_of h) s p ≡ Some t → Stands c x s.states (content_after last) → is_named p r ≡ true →
         needs_of h c x r ≡ Some n → meets n (content_after (last_of (changes h c x) p r last)) ≡ true
     walked-needs [] s t last r n led at there is = absurd (cc)

@@ -16,24 +16,14 @@ use Rattle.search_model.specs.declared.cell.Cell.{Cell}
 use Rattle.search_model.specs.declared.cell.Cell.TheVariants.{Whole, Element, Key}
 use Rattle.search_model.specs.declared.cell.Need.{Need}
 use Rattle.search_model.specs.declared.cell.Need.TheVariants.{Absent, Present, Holding}
-use Rattle.search_model.specs.Cells.{is_cell, content, meets, told_so, told, looked, read, asks, puts}
+use Rattle.search_model.specs.Cells.{is_cell, content, meets, flagged, looked, read, asks, puts}
+use Rattle.search_model.specs.Quantities.{is_yes}
+use Rattle.search_model.proofs.Yes.{yes-of}
 
 -- what is left, or else what was there
 abbrev pub over : Option (Option ℤ) → Option ℤ → Option ℤ
 over None o = o
 over (Some n) o = n
-
-same-told : (b : Bool) (answer : Answer) → same_answer (Flag b) answer ≡ true → told_so answer ≡ b
-same-told true (Flag true) is = refl
-same-told true (Flag false) is = absurd (cc)
-same-told false (Flag true) is = absurd (cc)
-same-told false (Flag false) is = refl
-same-told true Done is = absurd (cc)
-same-told true (Int v) is = absurd (cc)
-same-told true Empty is = absurd (cc)
-same-told false Done is = absurd (cc)
-same-told false (Int v) is = absurd (cc)
-same-told false Empty is = absurd (cc)
 
 -- # What an operation leaves
 
@@ -83,11 +73,11 @@ after-whole (Del k) v answer = refl
 after-element : (op : Op) (e : ℤ) (s : List ℤ) (answer : Answer) → MembersAscend s → same_answer (answer_of (set_of s) op) answer ≡ true →
     content (Element e) (after_op (set_of s) op) ≡ over (puts (Element e) op answer) (content (Element e) (set_of s))
 after-element (Add w) e s answer proper right =
-    ap member (has-with s w e) ∙ add-leaves (int_eq e w) (has_member s e) (told_so answer)
-    (λ same. same-told (not (has_member s w)) answer right ∙ ap (λ n. not (has_member s n)) (sym (eq-is e w same)))
+    ap member (has-with s w e) ∙ add-leaves (int_eq e w) (has_member s e) (is_yes answer)
+    (λ same. yes-of (not (has_member s w)) answer right ∙ ap (λ n. not (has_member s n)) (sym (eq-is e w same)))
 after-element (Remove w) e s answer proper right =
-    ap member (has-without s w e proper) ∙ remove-leaves (int_eq e w) (has_member s e) (told_so answer)
-    (λ same. same-told (has_member s w) answer right ∙ ap (λ n. has_member s n) (sym (eq-is e w same)))
+    ap member (has-without s w e proper) ∙ remove-leaves (int_eq e w) (has_member s e) (is_yes answer)
+    (λ same. yes-of (has_member s w) answer right ∙ ap (λ n. has_member s n) (sym (eq-is e w same)))
 after-element (Write w) e s answer proper right = refl
 after-element Read e s answer proper right = refl
 after-element Inc e s answer proper right = refl
@@ -105,8 +95,8 @@ after-key : (op : Op) (k : ℤ) (m : List (ℤ × ℤ)) (answer : Answer) → As
     content (Key k) (after_op (map_of m) op) ≡ over (puts (Key k) op answer) (content (Key k) (map_of m))
 after-key (Put j v) k m answer proper right = value-with m j k v ∙ put-leaves (int_eq k j) v (value_at m k)
 after-key (Del j) k m answer proper right =
-    value-without m j k proper ∙ del-leaves (int_eq k j) (told_so answer) (value_at m k)
-    (λ same. same-told (is_some (value_at m j)) answer right ∙ ap (λ n. is_some (value_at m n)) (sym (eq-is k j same)))
+    value-without m j k proper ∙ del-leaves (int_eq k j) (is_yes answer) (value_at m k)
+    (λ same. yes-of (is_some (value_at m j)) answer right ∙ ap (λ n. is_some (value_at m n)) (sym (eq-is k j same)))
 after-key (Write w) k m answer proper right = refl
 after-key Read k m answer proper right = refl
 after-key Inc k m answer proper right = refl
@@ -184,14 +174,14 @@ if-some : (b : Bool) (o : Option Need) (n : Need) → cond b o None ≡ Some n �
 if-some true o n is = (refl, is)
 if-some false o n is = absurd (cc)
 
-told-met : (b : Bool) (answer : Answer) (so not_so n : Need) (o : Option ℤ) → same_answer (Flag b) answer ≡ true → told so not_so answer ≡ Some n → meets (cond b so not_so) o ≡ true → meets n o ≡ true
-told-met true (Flag true) so not_so n o right is met = let same : so ≡ n = cc in subst (λ n. meets n o ≡ true) same met
-told-met true (Flag false) so not_so n o right is met = absurd (cc)
-told-met false (Flag true) so not_so n o right is met = absurd (cc)
-told-met false (Flag false) so not_so n o right is met = let same : not_so ≡ n = cc in subst (λ n. meets n o ≡ true) same met
-told-met b Done so not_so n o right is met = absurd (cc)
-told-met b (Int v) so not_so n o right is met = absurd (cc)
-told-met b Empty so not_so n o right is met = absurd (cc)
+flagged-met : (b : Bool) (answer : Answer) (so not_so n : Need) (o : Option ℤ) → same_answer (Flag b) answer ≡ true → flagged so not_so answer ≡ Some n → meets (cond b so not_so) o ≡ true → meets n o ≡ true
+flagged-met true (Flag true) so not_so n o right is met = let same : so ≡ n = cc in subst (λ n. meets n o ≡ true) same met
+flagged-met true (Flag false) so not_so n o right is met = absurd (cc)
+flagged-met false (Flag true) so not_so n o right is met = absurd (cc)
+flagged-met false (Flag false) so not_so n o right is met = let same : not_so ≡ n = cc in subst (λ n. meets n o ≡ true) same met
+flagged-met b Done so not_so n o right is met = absurd (cc)
+flagged-met b (Int v) so not_so n o right is met = absurd (cc)
+flagged-met b Empty so not_so n o right is met = absurd (cc)
 
 absent-met : (m : Bool) → meets (cond (not m) Absent (Holding (pos 0))) (member m) ≡ true
 absent-met true = refl
@@ -227,17 +217,17 @@ asks-whole _ v answer n right is = absurd (cc)
 
 asks-element : (op : Op) (e : ℤ) (s : List ℤ) (answer : Answer) (n : Need) → same_answer (answer_of (set_of s) op) answer ≡ true → asks (Element e) op answer ≡ Some n → meets n (member (has_member s e)) ≡ true
 asks-element (Add w) e s answer n right is =
-    let (on, tells) = if-some (int_eq e w) (told Absent (Holding (pos 0)) answer) n is in
+    let (on, tells) = if-some (int_eq e w) (flagged Absent (Holding (pos 0)) answer) n is in
     let same : w ≡ e = sym (eq-is e w on) in
-    told-met (not (has_member s e)) answer Absent (Holding (pos 0)) n (member (has_member s e)) (subst (λ u. same_answer (Flag (not (has_member s u))) answer ≡ true) same right) tells (absent-met (has_member s e))
+    flagged-met (not (has_member s e)) answer Absent (Holding (pos 0)) n (member (has_member s e)) (subst (λ u. same_answer (Flag (not (has_member s u))) answer ≡ true) same right) tells (absent-met (has_member s e))
 asks-element (Remove w) e s answer n right is =
-    let (on, tells) = if-some (int_eq e w) (told (Holding (pos 0)) Absent answer) n is in
+    let (on, tells) = if-some (int_eq e w) (flagged (Holding (pos 0)) Absent answer) n is in
     let same : w ≡ e = sym (eq-is e w on) in
-    told-met (has_member s e) answer (Holding (pos 0)) Absent n (member (has_member s e)) (subst (λ u. same_answer (Flag (has_member s u)) answer ≡ true) same right) tells (present-met (has_member s e))
+    flagged-met (has_member s e) answer (Holding (pos 0)) Absent n (member (has_member s e)) (subst (λ u. same_answer (Flag (has_member s u)) answer ≡ true) same right) tells (present-met (has_member s e))
 asks-element (Contains w) e s answer n right is =
-    let (on, tells) = if-some (int_eq e w) (told (Holding (pos 0)) Absent answer) n is in
+    let (on, tells) = if-some (int_eq e w) (flagged (Holding (pos 0)) Absent answer) n is in
     let same : w ≡ e = sym (eq-is e w on) in
-    told-met (has_member s e) answer (Holding (pos 0)) Absent n (member (has_member s e)) (subst (λ u. same_answer (Flag (has_member s u)) answer ≡ true) same right) tells (present-met (has_member s e))
+    flagged-met (has_member s e) answer (Holding (pos 0)) Absent n (member (has_member s e)) (subst (λ u. same_answer (Flag (has_member s u)) answer ≡ true) same right) tells (present-met (has_member s e))
 asks-element _ e s answer n right is = absurd (cc)
 
 asks-key : (op : Op) (k : ℤ) (m : List (ℤ × ℤ)) (answer : Answer) (n : Need) → same_answer (answer_of (map_of m) op) answer ≡ true → asks (Key k) op answer ≡ Some n → meets n (value_at m k) ≡ true
@@ -245,8 +235,8 @@ asks-key (Look j) k m answer n right is =
     let (on, tells) = if-some (int_eq k j) (looked answer) n is in
     looked-met (value_at m k) answer n (subst (λ u. same_answer (found (value_at m u)) answer ≡ true) (sym (eq-is k j on)) right) tells
 asks-key (Del j) k m answer n right is =
-    let (on, tells) = if-some (int_eq k j) (told Present Absent answer) n is in
-    told-met (is_some (value_at m k)) answer Present Absent n (value_at m k) (subst (λ u. same_answer (Flag (is_some (value_at m u))) answer ≡ true) (sym (eq-is k j on)) right) tells (there-met (value_at m k))
+    let (on, tells) = if-some (int_eq k j) (flagged Present Absent answer) n is in
+    flagged-met (is_some (value_at m k)) answer Present Absent n (value_at m k) (subst (λ u. same_answer (Flag (is_some (value_at m u))) answer ≡ true) (sym (eq-is k j on)) right) tells (there-met (value_at m k))
 asks-key _ k m answer n right is = absurd (cc)
 
 -- what an operation that answered so needs of the cell is there

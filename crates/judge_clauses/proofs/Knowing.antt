@@ -1,4 +1,4 @@
--- What atoms are in each list that shows, and where a clause does not hold.
+-- What atoms are in each order that shows, and where a clause does not hold.
 use Rattle.std.specs.Prelude.{◌≡◌, ℕ, Bool, true, false, not, nat_eq, List, Some, slice_get, refl}
 use Rattle.std.proofs.Common.{sym, ◌∙◌, ap, subst, inl, inr, cond}
 use Rattle.base_values.proofs.Bools.{is_false}

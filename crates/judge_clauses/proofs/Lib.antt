@@ -11,3 +11,4 @@ pub mod Celling
 pub mod CellWalks
 pub mod CellLast
 pub mod Untouched
+pub mod Naming

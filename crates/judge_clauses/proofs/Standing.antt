@@ -1,4 +1,4 @@
--- Standing before in a list that names each transaction once.
+-- Standing before in an order that names each transaction once.
 use Rattle.std.specs.Prelude.{◌≡◌, ℕ, true, ◌&&◌, nat_eq, List, [], ◌∷◌, ◌++◌}
 use Rattle.std.proofs.Common.{sym, ◌∙◌, ap, subst, inl, inr, append_assoc}
 use Rattle.base_values.proofs.Bools.{or_true, and_true, true_and, true_or, or_right, nat_eq-refl}
@@ -7,7 +7,7 @@ use Rattle.aud_witness.specs.Orders.{is_named, are_named_once, stands_before}
 use Rattle.aud_witness.proofs.Beginnings.{is_named-append, second_is_named, first_is_named}
 use Rattle.aud_witness.proofs.Good.{place_of, stands_at}
 
--- what is named behind one stands after it
+-- what is named after one stands after it
 pub stands-behind : (m : List Decision) (d : Decision) (b : List Decision) (n : ℕ) → is_named b n ≡ true → stands_before (m ++ d ∷ b) d.tx n ≡ true
 stands-behind [] d b n named = true_or (nat_eq d.tx d.tx && is_named b n) (stands_before b d.tx n) (true_and (nat_eq d.tx d.tx) (is_named b n) (nat_eq-refl d.tx) named)
 stands-behind (x ∷ m) d b n named = or_right (nat_eq x.tx d.tx && is_named (m ++ d ∷ b) n) (stands_before (m ++ d ∷ b) d.tx n) (stands-behind m d b n named)

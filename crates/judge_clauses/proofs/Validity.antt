@@ -1,4 +1,4 @@
--- Which clauses hold in each list that shows a history.
+-- Which clauses hold in each order that shows a history.
 use Rattle.std.specs.Prelude.{◌≡◌, ℕ, ◌+◌, length, true, false, ◌&&◌, nat_eq, List, [], ◌∷◌, ◌++◌, refl, ◌⊎◌}
 use Rattle.std.specs.List.{list_all}
 use Rattle.std.proofs.Common.{sym, ◌∙◌, ap, subst, inl, inr, arith, below_more}

@@ -1,4 +1,4 @@
--- Steps of a walk along a list that shows, and the rows that it meets.
+-- Steps of a walk along an order that shows, and the rows that it meets.
 use Rattle.std.specs.Prelude.{◌≡◌, ℕ, zero, suc, ◌<◌, true, false, nat_eq, List, [], ◌∷◌, length, map, Option, Some, None, Result, Ok, Err, slice_get, slice_set, refl}
 use Rattle.std.specs.List.{list_any, position}
 use Rattle.std.proofs.Common.{sym, ◌∙◌, ap, subst, inl, inr, arith, cond, get_or}

@@ -1,4 +1,4 @@
--- Clauses of literals, and what they say of the lists of decisions that show a history.
+-- Clauses of literals, and what they say of the orders that show a history.
 use Rattle.std.specs.Prelude.{◌≡◌, ℕ, ◌+◌, ◌<◌, Bool, true, false, not, ◌&&◌, if◌then◌else◌, nat_eq, List, Option, Some, None, slice_index_or, []}
 use Rattle.std.specs.List.{list_any, list_all}
 use Rattle.aud_event.specs.Meanings.{PlanOf}
@@ -6,7 +6,7 @@ use Rattle.aud_history.specs.Histories.{History}
 use Rattle.aud_witness.specs.declared.decision.Decision.{Decision}
 use Rattle.aud_witness.specs.Orders.{is_kept, stands_before, Shows}
 use Rattle.judge_clauses.specs.declared.clause.Atom.{Atom}
-use Rattle.judge_clauses.specs.declared.clause.Atom.TheVariants.{Before, Kept, Source, Opening, Item}
+use Rattle.judge_clauses.specs.declared.clause.Atom.TheVariants.{Before, Commits, Source, Opening, Item}
 use Rattle.judge_clauses.specs.declared.clause.Literal.{Literal}
 use Rattle.judge_clauses.specs.declared.clause.Read.{Read}
 use Rattle.judge_clauses.specs.declared.clause.Take.{Take}
@@ -42,7 +42,7 @@ item_of h p take = adder h take.object p take.taker (taken_before h take.object 
 -- what the atom says of p
 abbrev pub says : History → List Decision → Atom → Bool
 says h p (Before t u) = stands_before p t u
-says h p (Kept t) = is_kept_in p t
+says h p (Commits t) = is_kept_in p t
 says h p (Source read w) = is_just (source_of h p read) w
 says h p (Opening read) = is_nothing (source_of h p read)
 says h p (Item take a i) = is_addition_of (item_of h p take) a i
@@ -83,19 +83,19 @@ pub record FactsOf : Type 0 where
 abbrev pub meaning : FactsOf → List Decision → ℕ → Bool
 meaning f p k = says f.history p (atom_at f.atoms k)
 
--- in each list that shows the history something is so
+-- in each order that shows the history something is so
 abbrev pub Always : FactsOf → (List Decision → Type 0) → Type 0
 Always f so = (p : List Decision) → Shows f.plan.objects f.history p → so p
 
--- the same, where the clause does not hold
+-- in each order that shows the history, and where the clause does not hold, something is so
 abbrev pub Unless : FactsOf → List Literal → (List Decision → Type 0) → Type 0
 Unless f c so = (p : List Decision) → Shows f.plan.objects f.history p → holds (meaning f p) c ≡ false → so p
 
--- the same, where the literal does not
+-- in each order that shows the history, and where the literal does not hold, something is so
 abbrev pub UnlessOne : FactsOf → Literal → (List Decision → Type 0) → Type 0
 UnlessOne f l so = (p : List Decision) → Shows f.plan.objects f.history p → is_true (meaning f p) l ≡ false → so p
 
--- in each list that shows the history the clause holds
+-- in each order that shows the history the clause holds
 abbrev pub Holds : FactsOf → List Literal → Type 0
 Holds f c = Always f (λ p. holds (meaning f p) c ≡ true)
 

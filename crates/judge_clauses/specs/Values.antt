@@ -2,16 +2,16 @@
 use Rattle.std.specs.Prelude.{◌≡◌, ℕ, Bool, List, Option, Some, slice_get}
 use Rattle.aud_history.specs.Table.{RowOf, table_of}
 use Rattle.judge_clauses.specs.declared.clause.Atom.{Atom}
-use Rattle.judge_clauses.specs.declared.clause.Atom.TheVariants.{Before, Kept, Source}
+use Rattle.judge_clauses.specs.declared.clause.Atom.TheVariants.{Before, Commits, Source}
 use Rattle.judge_clauses.specs.declared.clause.Literal.{Literal}
 use Rattle.judge_clauses.specs.declared.question.Question.{Question}
-use Rattle.judge_clauses.specs.declared.question.Question.TheVariants.{StandsBefore, IsKept, IsSource}
+use Rattle.judge_clauses.specs.declared.question.Question.TheVariants.{StandsBefore, DoesCommit, IsSource}
 use Rattle.judge_clauses.specs.Clauses.{says, FactsOf, Unless, UnlessOne}
 
 -- what is asked of T
 abbrev pub atom_of : Question → ℕ → Atom
 atom_of (StandsBefore u) t = Before t u
-atom_of IsKept t = Kept t
+atom_of DoesCommit t = Commits t
 atom_of (IsSource read) t = Source read t
 
 -- what stands at a row's place is the value of the row's atom where the clause does not hold
@@ -19,6 +19,6 @@ abbrev pub AreTold : FactsOf → List Literal → (ℕ → Atom) → List (Optio
 AreTold f c about values =
     (k : ℕ) (row : RowOf) (b : Bool) → slice_get (table_of f.history) k ≡ Some row → slice_get values k ≡ Some (Some b) → Unless f c (λ p. says f.history p (about row.tx) ≡ b)
 
--- the same of one place where the literal does not hold
+-- the value is that of the atom of the row at the place, where the literal does not hold
 abbrev pub TellsAt : FactsOf → Literal → (ℕ → Atom) → ℕ → Bool → Type 0
 TellsAt f l about k b = (row : RowOf) → slice_get (table_of f.history) k ≡ Some row → UnlessOne f l (λ p. says f.history p (about row.tx) ≡ b)

@@ -22,13 +22,13 @@ pub struct Take {
     pub number: u32,
 }
 
-/// What may be so in a list of decisions that shows a history.
+/// What may be so in an order that shows a history.
 #[derive(Clone, Copy, PartialEq, Eq)]
 pub enum Atom {
     /// The first transaction stands before the second one.
     Before(u32, u32),
     /// The transaction has the fate `C`.
-    Kept(u32),
+    Commits(u32),
     /// Of the transactions with fate `C` before the reader, this one is the last that changes the cell.
     Source(Read, u32),
     /// No transaction with fate `C` before the reader changes the cell.
@@ -56,14 +56,14 @@ impl Literal {
     }
 }
 
-/// Why a clause holds in each list that shows the history.
+/// Why a clause holds in each order that shows the history.
 #[derive(Drop)]
 pub enum Reason<L, A: Allocator = Global> {
     /// It follows from earlier steps, by their numbers: where none of its literals holds, each of them in turn leaves one literal, and the
     /// last one leaves none.
     Units(Vec<u32, A>),
     /// Where none of its literals holds, each of these transactions stands before the next one, and the last one before the first.
-    Turn(Vec<u32, A>),
+    Circle(Vec<u32, A>),
     /// A law of objects.
     Law(L),
 }

@@ -19,16 +19,16 @@ use base_bits::Marks;
 use std::alloc::{Allocator, Global};
 use std::marker::Model;
 
-/// A well-formed history with its table, and the atoms by number.
+/// What is known of a history when a clause is judged: that it is well-formed, its table, and the atoms by number.
 #[derive(Drop)]
-pub struct Facts<'a, A: Allocator + Copy = Global> {
+pub struct KnownFacts<'a, A: Allocator + Copy = Global> {
     history: &'a History<A>,
     agenda: Agenda<A>,
     touched: Vec<Marks<A>, A>,
     atoms: &'a [Atom],
 }
 
-impl<'a, A: Allocator + Copy> Model for Facts<'a, A> {
+impl<'a, A: Allocator + Copy> Model for KnownFacts<'a, A> {
     ghost use Rattle.std.specs.Prelude.{◌≡◌};
     ghost use Rattle.aud_history.specs.Table.{table_of};
     ghost use Rattle.aud_history.specs.WellFormed.{IsWellFormed};
@@ -43,6 +43,7 @@ impl<'a, A: Allocator + Copy> Model for Facts<'a, A> {
         × (IsWellFormed f.history.now.events × AreMarked (table_of f.history.now.events) f.touched.items) };
 }
 
+/// Whether a transaction of that status is completed.
 fn has_ended(status: Status) -> bool
     ensures { result ≡ is_ended status }
 {
@@ -52,20 +53,20 @@ fn has_ended(status: Status) -> bool
     }
 }
 
-impl<'a, A: Allocator + Copy> Facts<'a, A> {
+impl<'a, A: Allocator + Copy> KnownFacts<'a, A> {
     /// Those of the history, with the atoms.
     pub fn of(
         alloc: A,
         history: &'a History<A>,
         atoms: &'a [Atom],
-    ) -> Result<Facts<'a, A>, OutOfMemory>
+    ) -> Result<KnownFacts<'a, A>, OutOfMemory>
         requires { IsWellFormed history.now.events }
         ensures { IfOk result (λ f. f ≡ record { plan = history.entry.now.plan; history = history.entry.now.events; atoms = atoms.entry.now }) }
     {
         let agenda = Agenda::of(alloc, history)?;
         let objects = history.plan().objects().len();
         let touched = marks_of_rows(alloc, objects, agenda.table().rows())?;
-        Ok(Facts {
+        Ok(KnownFacts {
             history,
             agenda,
             touched,

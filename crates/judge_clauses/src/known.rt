@@ -1,15 +1,15 @@
-//! What atoms are in each list that shows a history, and where a clause does not hold.
+//! What atoms are in each order that shows a history, and where a clause does not hold.
 
 ghost use Rattle.std.specs.Prelude.{◌≡◌, true, false, not, IfSome, IsTrue};
 ghost use Rattle.aud_witness.specs.Orders.{stands_before};
 ghost use Rattle.judge_clauses.specs.Clauses.{says, is_kept_in, Always, Unless, UnlessOne};
 
 use crate::clause::{Atom, Literal};
-use crate::facts::Facts;
+use crate::facts::KnownFacts;
 use aud_witness::Fate;
 use std::alloc::Allocator;
 
-impl<'a, A: Allocator + Copy> Facts<'a, A> {
+impl<'a, A: Allocator + Copy> KnownFacts<'a, A> {
     /// Whether the first stands before the second, where real time tells, or they are one.
     fn order(&self, first: u32, second: u32) -> Option<bool>
         ensures { IfSome result (λ b. Always self.now (λ p. stands_before p first second ≡ b)) }
@@ -39,13 +39,13 @@ impl<'a, A: Allocator + Copy> Facts<'a, A> {
         None
     }
 
-    /// What the atom is in each list that shows the history, where real time or a sure fate tells.
+    /// What the atom is in each order that shows the history, where real time or a sure fate tells.
     pub fn sure(&self, atom: Atom) -> Option<bool>
         ensures { IfSome result (λ b. Always self.now (λ p. says self.now.history p atom ≡ b)) }
     {
         match atom {
             Atom::Before(first, second) => self.order(first, second),
-            Atom::Kept(tx) => self.fate(tx),
+            Atom::Commits(tx) => self.fate(tx),
             _ => None,
         }
     }

@@ -3,7 +3,7 @@
 ghost use Rattle.std.specs.Prelude.{IfOk, IsTrue};
 
 use crate::clause::Literal;
-use crate::facts::Facts;
+use crate::facts::KnownFacts;
 use aud_event::OutOfMemory;
 use std::alloc::Allocator;
 
@@ -11,11 +11,11 @@ use std::alloc::Allocator;
 pub trait Law {
     ghost use Rattle.judge_clauses.specs.Clauses.{Holds};
 
-    /// Whether the clause is an instance of the law, so that it holds in each list that shows the history.
+    /// Whether the clause is an instance of the law, so that it holds in each order that shows the history.
     fn is_right<A: Allocator + Copy>(
         &self,
         alloc: A,
-        facts: &Facts<A>,
+        facts: &KnownFacts<A>,
         clause: &[Literal],
     ) -> Result<bool, OutOfMemory>
         ensures { IfOk result (λ yes. IsTrue yes → Holds facts.now clause.now) };

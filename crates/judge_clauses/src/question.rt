@@ -11,7 +11,7 @@ pub enum Question {
     /// Whether it stands before this one.
     StandsBefore(u32),
     /// Whether it has the fate `C`.
-    IsKept,
+    DoesCommit,
     /// Whether it is the last that changes the cell before the reader.
     IsSource(Read),
 }
@@ -23,7 +23,7 @@ impl Question {
     {
         match self {
             Question::StandsBefore(other) => Atom::Before(tx, other),
-            Question::IsKept => Atom::Kept(tx),
+            Question::DoesCommit => Atom::Commits(tx),
             Question::IsSource(read) => Atom::Source(read, tx),
         }
     }
@@ -38,7 +38,7 @@ impl Question {
                     Some(first)
                 }
             }
-            (Question::IsKept, Atom::Kept(tx)) => Some(tx),
+            (Question::DoesCommit, Atom::Commits(tx)) => Some(tx),
             (Question::IsSource(_), Atom::Source(_, tx)) => Some(tx),
             _ => None,
         }

@@ -35,7 +35,7 @@ fn marks_of<A: Allocator + Copy>(
     Ok(marks)
 }
 
-/// The same of each row.
+/// Of so many objects, those that the executions of each row are on.
 pub(crate) fn marks_of_rows<A: Allocator + Copy>(
     alloc: A,
     objects: usize,

@@ -5,7 +5,7 @@ ghost use Rattle.aud_history.specs.Table.{table_of};
 ghost use Rattle.judge_clauses.specs.Values.{atom_of, AreTold, TellsAt};
 
 use crate::clause::{Atom, Literal};
-use crate::facts::Facts;
+use crate::facts::KnownFacts;
 use crate::question::Question;
 use aud_event::OutOfMemory;
 use std::alloc::Allocator;
@@ -19,7 +19,7 @@ fn put(values: &mut [Option<bool>], place: usize, value: bool)
     }
 }
 
-impl<'a, A: Allocator + Copy> Facts<'a, A> {
+impl<'a, A: Allocator + Copy> KnownFacts<'a, A> {
     /// The answers that real time and sure fates give.
     fn sure_values(
         &self,

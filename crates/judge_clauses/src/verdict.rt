@@ -6,7 +6,7 @@ ghost use Rattle.aud_witness.specs.Orders.{Refuted};
 ghost use Rattle.judge_clauses.specs.Clauses.{Holds, AreValid};
 
 use crate::clause::{Reason, Refutation, Step};
-use crate::facts::Facts;
+use crate::facts::KnownFacts;
 use crate::law::Law;
 use crate::trail::Trail;
 use crate::units::follows;
@@ -17,7 +17,7 @@ use std::alloc::Allocator;
 /// Whether the step is right after the first `count` of the steps.
 fn is_right<L: Law, A: Allocator + Copy>(
     alloc: A,
-    facts: &Facts<A>,
+    facts: &KnownFacts<A>,
     trail: &mut Trail<A>,
     steps: &[Step<L, A>],
     count: usize,
@@ -29,7 +29,7 @@ fn is_right<L: Law, A: Allocator + Copy>(
     let clause = step.clause();
     match step.reason() {
         Reason::Units(numbers) => follows(trail, steps, count, clause, numbers),
-        Reason::Turn(circle) => Ok(facts.is_turn(clause, circle)),
+        Reason::Circle(circle) => Ok(facts.is_circle(clause, circle)),
         Reason::Law(law) => law.is_right(alloc, facts, clause),
     }
 }
@@ -46,7 +46,7 @@ pub enum Judgement {
 /// Goes over the steps, each after those before it, up to one without a literal.
 fn reach_nothing<L: Law, A: Allocator + Copy>(
     alloc: A,
-    facts: &Facts<A>,
+    facts: &KnownFacts<A>,
     trail: &mut Trail<A>,
     steps: &[Step<L, A>],
 ) -> Result<Judgement, OutOfMemory>
@@ -64,7 +64,7 @@ fn reach_nothing<L: Law, A: Allocator + Copy>(
     Ok(Judgement::Refused(steps.len()))
 }
 
-/// Judges a refutation, whoever made it: where its steps are right, each after those before it, up to one without a literal, no list shows the
+/// Judges a refutation, whoever made it: where its steps are right, each after those before it, up to one without a literal, no order shows the
 /// history.
 pub fn judge<L: Law, A: Allocator + Copy>(
     alloc: A,
@@ -74,7 +74,7 @@ pub fn judge<L: Law, A: Allocator + Copy>(
     requires { IsWellFormed history.now.events }
     ensures { IfOk result (λ j. j ≡ Judgement.Refutes → Refuted history.now.plan.objects history.now.events []) }
 {
-    let facts = Facts::of(alloc, history, &refutation.atoms)?;
+    let facts = KnownFacts::of(alloc, history, &refutation.atoms)?;
     let mut trail = Trail::new(alloc, refutation.atoms.len())?;
     reach_nothing(alloc, &facts, &mut trail, &refutation.steps)
 }

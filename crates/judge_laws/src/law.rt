@@ -2,7 +2,7 @@
 
 use aud_event::OutOfMemory;
 use judge_cells::CellLaw;
-use judge_clauses::{Facts, Law, Literal};
+use judge_clauses::{KnownFacts, Law, Literal};
 use judge_queues::QueueLaw;
 use judge_sums::SumLaw;
 use std::alloc::Allocator;
@@ -19,7 +19,7 @@ impl Law for ObjectLaw {
     fn is_right<A: Allocator + Copy>(
         &self,
         alloc: A,
-        facts: &Facts<A>,
+        facts: &KnownFacts<A>,
         clause: &[Literal],
     ) -> Result<bool, OutOfMemory> {
         match self {

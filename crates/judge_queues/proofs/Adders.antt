@@ -1,4 +1,4 @@
--- Who added the items of a queue, and who took them, along a list of decisions.
+-- Who added the items of a queue, and who took them, along an order.
 use Rattle.std.specs.Prelude.{◌≡◌, ℕ, ◌+◌, ◌-◌, ◌<◌, ◌≤◌, ℤ, Bool, true, false, ◌&&◌, ◌||◌, nat_eq, nat_lt, List, [], ◌∷◌, ◌++◌, length, Some, slice_get, refl, ◌⊎◌}
 use Rattle.std.proofs.Common.{sym, ◌∙◌, ap, subst, inl, inr, cond, arith}
 use Rattle.std.proofs.lemmas.Bool.{ltb-true, lt-ltb}
@@ -10,7 +10,7 @@ use Rattle.aud_history.specs.Table.{row_of}
 use Rattle.aud_witness.specs.declared.decision.Decision.{Decision}
 use Rattle.aud_witness.specs.Orders.{is_named, are_named_once, is_kept, stands_before}
 use Rattle.judge_clauses.specs.Clauses.{is_kept_in}
-use Rattle.judge_sums.proofs.Naming.{kept-named, fresh, rest-once, nothing-before}
+use Rattle.judge_clauses.proofs.Naming.{kept-named, fresh, rest-once, nothing-before}
 use Rattle.search_model.specs.Queues.{adds_of, takes_of, taken_before, adder}
 use Rattle.search_model.specs.Blocks.{added_of}
 use Rattle.search_model.proofs.Lists.{get-or}

@@ -1,4 +1,4 @@
--- Which clauses on queues hold in each list that shows a history.
+-- Which clauses on queues hold in each order that shows a history.
 use Rattle.std.specs.Prelude.{◌≡◌, ℕ, ◌+◌, ◌<◌, ◌≤◌, ℤ, pos, ◌-ℤ◌, List, ◌∷◌, true, false, nat_eq, Option, Some, None, slice_get, ◌⊎◌}
 use Rattle.std.proofs.Common.{sym, ◌∙◌, ap, subst, inl, inr, arith}
 use Rattle.std.proofs.lemmas.Option.{slice_get_within}
@@ -19,9 +19,9 @@ use Rattle.judge_clauses.proofs.Standing.{first-named, stands_before-turn, stand
 use Rattle.judge_clauses.proofs.Validity.{valid-unless}
 use Rattle.judge_clauses.proofs.Walking.{row-there}
 use Rattle.judge_sums.specs.declared.bounds.Bounds.{Bounds}
-use Rattle.search_model.specs.declared.effect.Effect.TheVariants.{Takes, Additions, Shortening}
+use Rattle.search_model.specs.declared.quantity.Quantity.TheVariants.{Takes, Additions, Shortening}
 use Rattle.judge_sums.specs.Between.{IsWithin}
-use Rattle.search_model.specs.Effects.{net_of}
+use Rattle.search_model.specs.Quantities.{net_of}
 use Rattle.judge_sums.specs.Laws.{ComesTo}
 use Rattle.judge_sums.specs.Sums.{total}
 use Rattle.search_model.specs.Blocks.{added, added_of, takes_value}

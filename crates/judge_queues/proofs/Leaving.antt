@@ -20,7 +20,7 @@ use Rattle.aud_history.specs.Table.{row_of}
 use Rattle.aud_witness.specs.declared.decision.Decision.{Decision}
 use Rattle.aud_witness.specs.Orders.{stands_before, Shows}
 use Rattle.judge_clauses.specs.Clauses.{is_kept_in}
-use Rattle.judge_sums.proofs.Naming.{kept-named}
+use Rattle.judge_clauses.proofs.Naming.{kept-named}
 use Rattle.search_model.specs.Queues.{is_take, takes, takes_of, adds, taken_before}
 use Rattle.search_model.specs.Blocks.{item, added, added_of, is_take_of, gives, takes_value, Asks}
 use Rattle.search_model.proofs.Deeds.{takes-append}
@@ -120,7 +120,7 @@ asks-takes x es j e answer asks =
     let early = asks.takes in
     omega (arith, all, early)
 
--- # In a list that shows
+-- # In an order that shows
 
 module _ (plan : PlanOf) (h : History) (fine : IsWellFormed h) (within : IsWithinLimits plan h) (x : ℕ) (d : Declared) (declared : slice_get plan.objects x ≡ Some d) (opens : opening_of d ≡ queue [])
     (p : List Decision) (shown : Shows plan.objects h p) where

@@ -1,4 +1,4 @@
--- At which place of a queue is what a transaction takes, in each list that shows.
+-- At which place of a queue is what a transaction takes, in each order that shows.
 use Rattle.std.specs.Prelude.{◌≡◌, ℕ, ◌+◌, ℤ, pos, ◌+ℤ◌, ◌-ℤ◌, Bool, true, false, ◌&&◌, nat_eq, List, [], ◌∷◌, ◌++◌, map, Some, slice_get, refl}
 use Rattle.std.proofs.Common.{sym, ◌∙◌, ap, subst, inl, inr, cond, arith}
 use Rattle.std.proofs.lemmas.Int.{ints}
@@ -20,8 +20,8 @@ use Rattle.aud_witness.specs.declared.decision.Decision.{Decision}
 use Rattle.aud_witness.specs.Orders.{is_kept, Shows}
 use Rattle.aud_witness.specs.Configurations.{first_configuration}
 use Rattle.aud_witness.proofs.WalkLemmas.{walks-say}
-use Rattle.search_model.specs.declared.effect.Effect.TheVariants.{Takes, Additions, Shortening}
-use Rattle.search_model.specs.Effects.{take, addition, change_by, net, net_of}
+use Rattle.search_model.specs.declared.quantity.Quantity.TheVariants.{Takes, Additions, Shortening}
+use Rattle.search_model.specs.Quantities.{take, addition, change_by, net, net_of}
 use Rattle.judge_sums.specs.Sums.{gain, total}
 use Rattle.judge_clauses.proofs.Walking.{get-opening}
 use Rattle.judge_sums.proofs.Gains.{total-gain}
@@ -145,7 +145,7 @@ module _ (plan : PlanOf) (h : History) (x : ℕ) (p : List Decision) (r : ℕ) (
       let four = gain-additions h x p a in
       (omega (arith, ints, at, one, two, three, four), inside)
 
-  -- the same where it is the taker's own addition
+  -- what is taken less what was added before it, where it is the taker's own addition
   pub own-found : (j i : ℕ) → adder h x p r (taken_before h x p r + j) ≡ Some (r, i) → total h (net_of h (Shortening x)) p r ≡ pos i -ℤ pos j
   own-found j i is =
       let (at, who) = adder-place h x p r (taken_before h x p r + j) r i shown.full.once is in

@@ -13,7 +13,7 @@ use Rattle.aud_object.specs.Replayed.{after_at, answer_at, answers, same_answer,
 use Rattle.aud_object.proofs.Ints.{eq-is}
 use Rattle.aud_object.proofs.Legality.{after_at-other}
 use Rattle.judge_clauses.proofs.Walking.{off, ran-first}
-use Rattle.judge_sums.proofs.Finding.{told-here, there-after}
+use Rattle.judge_sums.proofs.Finding.{seen-here, there-after}
 use Rattle.search_model.specs.Queues.{is_addition, is_take, adds, takes}
 use Rattle.search_model.specs.Blocks.{item, added, Asks}
 use Rattle.search_model.proofs.Lists.{get-at}
@@ -116,7 +116,7 @@ stands-after x states e all n stands right =
     elim (split (nat_eq e.object x)) [
       | inl same ↦
           let queue_at : slice_get states x ≡ Some (queue left.left) = at ∙ ap (λ (z : ObjState). Some z) left.is in
-          let told : same_answer (answer_of (queue left.left) e.op) e.answer ≡ true = told-here states x e (queue left.left) same queue_at right in
+          let seen : same_answer (answer_of (queue left.left) e.op) e.answer ≡ true = seen-here states x e (queue left.left) same queue_at right in
           let own_items : item e.op ≡ added_by x e = sym (ap (λ b. cond b (item e.op) []) same) in
           let own_takes : cond (is_take e.op e.answer) 1 0 ≡ taken_by x e = sym (ap (λ b. cond (b && is_take e.op e.answer) 1 0) same) in (
             after_op (queue left.left) e.op,
@@ -124,7 +124,7 @@ stands-after x states e all n stands right =
               there-after states x e (queue left.left) same queue_at,
               subst (λ k. IsLeft (all ++ added_by x e) (n + k) (after_op (queue left.left) e.op)) own_takes
                   (subst (λ l. IsLeft (all ++ l) (n + cond (is_take e.op e.answer) 1 0) (after_op (queue left.left) e.op)) own_items
-                  (left-after e.op e.answer all left.left left.gone n left.whole left.many told)),
+                  (left-after e.op e.answer all left.left left.gone n left.whole left.many seen)),
             ),
           )
       | inr other ↦
@@ -176,8 +176,8 @@ asked-here x es j e answer states ends all n asks stands led =
     let (middle, (went, answered)) = executed-front asks.front asks.back asks.one states ends (subst (λ l. executed states l ≡ Some ends) asks.whole led) in
     let (state, (at, left)) = executed-stands x asks.front states middle all n stands went in
     let queue_at : slice_get middle x ≡ Some (queue left.left) = at ∙ ap (λ (z : ObjState). Some z) left.is in
-    let told : same_answer (answer_of (queue left.left) asks.one.op) asks.one.answer ≡ true = told-here middle x asks.one (queue left.left) asks.on queue_at answered in
-    let by_op : same_answer (answer_of (queue left.left) Deq) asks.one.answer ≡ true = subst (λ (o : Op). same_answer (answer_of (queue left.left) o) asks.one.answer ≡ true) asks.asks told in
+    let seen : same_answer (answer_of (queue left.left) asks.one.op) asks.one.answer ≡ true = seen-here middle x asks.one (queue left.left) asks.on queue_at answered in
+    let by_op : same_answer (answer_of (queue left.left) Deq) asks.one.answer ≡ true = subst (λ (o : Op). same_answer (answer_of (queue left.left) o) asks.one.answer ≡ true) asks.asks seen in
     (left.left, (left.gone, (left.whole, ap (λ k. n + k) (sym asks.takes) ∙ left.many, subst (λ (a : Answer). same_answer (front_of left.left) a ≡ true) asks.gets by_op)))
 
 -- the n-th item that is taken is the n-th that was added

@@ -36,7 +36,7 @@ IsListed f c take v row =
     (i : ℕ) → slice_get (added take.object row.block.executions) i ≡ Some v →
     Unless f c (λ p. is_kept_in p row.tx ≡ true → stands_before p row.tx take.taker ≡ true → says f.history p (Item take row.tx i) ≡ false)
 
--- the same of each row
+-- of each row that is kept and stands before the taker, none of its additions of the value is what is taken
 abbrev pub AreListed : FactsOf → List Literal → Take → ℤ → Type 0
 AreListed f c take v = (k : ℕ) (row : RowOf) → slice_get (table_of f.history) k ≡ Some row → IsListed f c take v row
 
@@ -48,7 +48,7 @@ NeverAdds f a t = Always f (λ p. is_kept_in p a ≡ true → stands_before p a 
 abbrev pub IsNoTaker : FactsOf → List Literal → ℕ → ℤ → ℕ → RowOf → Type 0
 IsNoTaker f c x v t row = takes_value x v row.block.executions ≡ true → Unless f c (λ p. is_kept_in p row.tx ≡ true → stands_before p row.tx t ≡ true → ⊥)
 
--- the same of each row
+-- no row takes the value and stands before T and is kept
 abbrev pub AreNoTakers : FactsOf → List Literal → ℕ → ℤ → ℕ → Type 0
 AreNoTakers f c x v t = (k : ℕ) (row : RowOf) → slice_get (table_of f.history) k ≡ Some row → IsNoTaker f c x v t row
 

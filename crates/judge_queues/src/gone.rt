@@ -10,7 +10,7 @@ use crate::known::{asked_in, has_take, is_queue};
 use crate::places::never_comes;
 use aud_event::Answer;
 use aud_history::TxRow;
-use judge_clauses::{Atom, Facts, Literal, Take};
+use judge_clauses::{Atom, KnownFacts, Literal, Take};
 use search_model::{adds_value, takes_value};
 use std::alloc::Allocator;
 
@@ -30,7 +30,7 @@ struct Goods {
 
 /// Whether the row does not take the value and come before the taker where the clause does not hold.
 fn is_no_taker<A: Allocator + Copy>(
-    facts: &Facts<A>,
+    facts: &KnownFacts<A>,
     clause: &[Literal],
     goods: Goods,
     taker: u32,
@@ -44,9 +44,10 @@ fn is_no_taker<A: Allocator + Copy>(
     never_comes(facts, clause, row.tx(), taker)
 }
 
-/// The same of the row of the place. It looks at no executions of a row that does not touch the queue.
+/// Whether the row of the place does not take the value and come before the taker where the clause does not hold. It looks at no executions of
+/// a row that does not touch the queue.
 fn is_no_taker_at<A: Allocator + Copy>(
-    facts: &Facts<A>,
+    facts: &KnownFacts<A>,
     clause: &[Literal],
     goods: Goods,
     taker: u32,
@@ -63,9 +64,9 @@ fn is_no_taker_at<A: Allocator + Copy>(
     }
 }
 
-/// The same of each row.
+/// Whether no row takes the value and comes before the taker where the clause does not hold.
 fn are_no_takers<A: Allocator + Copy>(
-    facts: &Facts<A>,
+    facts: &KnownFacts<A>,
     clause: &[Literal],
     goods: Goods,
     taker: u32,
@@ -81,7 +82,7 @@ fn are_no_takers<A: Allocator + Copy>(
 }
 
 /// Whether the transaction takes no such item.
-fn takes_none<A: Allocator + Copy>(facts: &Facts<A>, goods: Goods, tx: u32) -> bool
+fn takes_none<A: Allocator + Copy>(facts: &KnownFacts<A>, goods: Goods, tx: u32) -> bool
     ensures { IsTrue result → takes_value goods.queue goods.value (row_of facts.now.history tx).block.executions ≡ false }
 {
     match facts.row(tx) {
@@ -91,7 +92,7 @@ fn takes_none<A: Allocator + Copy>(facts: &Facts<A>, goods: Goods, tx: u32) -> b
 }
 
 /// Whether the transaction adds such an item.
-fn adds_some<A: Allocator + Copy>(facts: &Facts<A>, goods: Goods, tx: u32) -> bool
+fn adds_some<A: Allocator + Copy>(facts: &KnownFacts<A>, goods: Goods, tx: u32) -> bool
     ensures { IsTrue result → (i : ℕ) × (slice_get (added_of facts.now.history goods.queue tx) i ≡ Some goods.value) }
 {
     match facts.row(tx) {
@@ -103,7 +104,7 @@ fn adds_some<A: Allocator + Copy>(facts: &Facts<A>, goods: Goods, tx: u32) -> bo
 /// Whether such an item of another transaction stood in front of those of the adder, and neither the taker nor any before it takes it, where
 /// the clause does not hold.
 fn is_stuck<A: Allocator + Copy>(
-    facts: &Facts<A>,
+    facts: &KnownFacts<A>,
     clause: &[Literal],
     goods: Goods,
     taker: u32,
@@ -118,7 +119,7 @@ fn is_stuck<A: Allocator + Copy>(
     if !facts.is_so(clause, Atom::Before(other, adder)) {
         return false;
     }
-    if !facts.is_so(clause, Atom::Kept(other)) {
+    if !facts.is_so(clause, Atom::Commits(other)) {
         return false;
     }
     are_no_takers(facts, clause, goods, taker)
@@ -126,7 +127,7 @@ fn is_stuck<A: Allocator + Copy>(
 
 /// Whether an item of another transaction stood in front of what is taken where the clause does not hold, and nobody took it.
 pub(crate) fn is_item_behind<A: Allocator + Copy>(
-    facts: &Facts<A>,
+    facts: &KnownFacts<A>,
     clause: &[Literal],
     take: Take,
     item: (u32, u32),
@@ -151,7 +152,7 @@ pub(crate) fn is_item_behind<A: Allocator + Copy>(
 
 /// Whether an item of another transaction stood in the queue that was found empty where the clause does not hold, and nobody took it.
 pub(crate) fn is_left<A: Allocator + Copy>(
-    facts: &Facts<A>,
+    facts: &KnownFacts<A>,
     clause: &[Literal],
     taker: u32,
     queue: u16,

@@ -10,7 +10,7 @@ ghost use Rattle.judge_queues.specs.Laws.{NoItem, IsListed, AreListed};
 use crate::known::{is_queue, may_come, taken_by};
 use aud_history::TxRow;
 use aud_object::Execution;
-use judge_clauses::{Atom, Facts, Literal, Take};
+use judge_clauses::{Atom, KnownFacts, Literal, Take};
 use search_model::{is_addition, is_addition_of};
 use std::alloc::Allocator;
 
@@ -24,7 +24,7 @@ struct Source {
 
 /// Whether the addition of this number is not what is taken where the clause does not hold, if it is of the value.
 fn is_no_item<A: Allocator + Copy>(
-    facts: &Facts<A>,
+    facts: &KnownFacts<A>,
     clause: &[Literal],
     source: Source,
     addition: u32,
@@ -40,7 +40,7 @@ fn is_no_item<A: Allocator + Copy>(
 
 /// Whether none of the first additions of the value among the executions, so many, is what is taken where the clause does not hold.
 fn is_none_item<A: Allocator + Copy>(
-    facts: &Facts<A>,
+    facts: &KnownFacts<A>,
     clause: &[Literal],
     source: Source,
     limit: usize,
@@ -69,7 +69,7 @@ fn is_none_item<A: Allocator + Copy>(
 /// Whether none of the row's additions of the value is what is taken where the clause does not hold, if the row is kept and stands before
 /// the taker.
 fn is_listed<A: Allocator + Copy>(
-    facts: &Facts<A>,
+    facts: &KnownFacts<A>,
     clause: &[Literal],
     take: Take,
     value: i64,
@@ -86,9 +86,10 @@ fn is_listed<A: Allocator + Copy>(
     is_none_item(facts, clause, source, executions.len(), executions)
 }
 
-/// The same of the row of the place. It looks at no executions of a row that does not touch the queue.
+/// Whether none of the additions of the value by the row of the place is what is taken where the clause does not hold, if the row is kept and
+/// stands before the taker. It looks at no executions of a row that does not touch the queue.
 fn is_listed_at<A: Allocator + Copy>(
-    facts: &Facts<A>,
+    facts: &KnownFacts<A>,
     clause: &[Literal],
     take: Take,
     value: i64,
@@ -105,9 +106,9 @@ fn is_listed_at<A: Allocator + Copy>(
     }
 }
 
-/// The same of each row.
+/// Whether no addition of the value by a row that is kept and stands before the taker is what is taken where the clause does not hold.
 fn are_listed<A: Allocator + Copy>(
-    facts: &Facts<A>,
+    facts: &KnownFacts<A>,
     clause: &[Literal],
     take: Take,
     value: i64,
@@ -124,7 +125,7 @@ fn are_listed<A: Allocator + Copy>(
 
 /// Whether the clause lists each addition that may be what is taken.
 pub(crate) fn lists_items<A: Allocator + Copy>(
-    facts: &Facts<A>,
+    facts: &KnownFacts<A>,
     clause: &[Literal],
     take: Take,
 ) -> bool

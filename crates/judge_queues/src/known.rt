@@ -6,12 +6,12 @@ ghost use Rattle.search_model.specs.Queues.{takes_of};
 ghost use Rattle.judge_queues.specs.Laws.{IsQueue, AsksIn, IsTaken, NeverAdds};
 
 use aud_event::{Answer, ObjKind};
-use judge_clauses::{Atom, Facts, Take};
+use judge_clauses::{Atom, KnownFacts, Take};
 use search_model::{Asked, asked_at, count_takes, place_of_take};
 use std::alloc::Allocator;
 
 /// Whether the object is a queue.
-pub(crate) fn is_queue<A: Allocator + Copy>(facts: &Facts<A>, object: u16) -> bool
+pub(crate) fn is_queue<A: Allocator + Copy>(facts: &KnownFacts<A>, object: u16) -> bool
     ensures { IsTrue result → IsQueue facts.now object }
 {
     match facts.history().plan().object(usize::from(object)) {
@@ -22,7 +22,7 @@ pub(crate) fn is_queue<A: Allocator + Copy>(facts: &Facts<A>, object: u16) -> bo
 
 /// What the transaction was answered by its execution at the place, if that asked the queue for an item.
 pub(crate) fn asked_in<A: Allocator + Copy>(
-    facts: &Facts<A>,
+    facts: &KnownFacts<A>,
     taker: u32,
     queue: u16,
     place: usize,
@@ -41,7 +41,7 @@ pub(crate) struct Taken {
 }
 
 /// What the take took, if it is there.
-pub(crate) fn taken_by<A: Allocator + Copy>(facts: &Facts<A>, take: Take) -> Option<Taken>
+pub(crate) fn taken_by<A: Allocator + Copy>(facts: &KnownFacts<A>, take: Take) -> Option<Taken>
     ensures { IfSome result (λ item. IsTaken facts.now take item.value item.additions) }
 {
     let row = facts.row(take.taker)?;
@@ -61,7 +61,7 @@ pub(crate) fn taken_by<A: Allocator + Copy>(facts: &Facts<A>, take: Take) -> Opt
 }
 
 /// Whether the take is there, or it is the one after the last.
-pub(crate) fn has_take<A: Allocator + Copy>(facts: &Facts<A>, take: Take) -> bool
+pub(crate) fn has_take<A: Allocator + Copy>(facts: &KnownFacts<A>, take: Take) -> bool
     ensures { IsTrue result → (is_in facts.now.history take.taker ≡ true) × (take.number ≤ takes_of facts.now.history take.object take.taker) }
 {
     match facts.row(take.taker) {
@@ -71,10 +71,10 @@ pub(crate) fn has_take<A: Allocator + Copy>(facts: &Facts<A>, take: Take) -> boo
 }
 
 /// Whether the first transaction may be kept and stand before the second one, by real time and sure fates.
-pub(crate) fn may_come<A: Allocator + Copy>(facts: &Facts<A>, first: u32, second: u32) -> bool
+pub(crate) fn may_come<A: Allocator + Copy>(facts: &KnownFacts<A>, first: u32, second: u32) -> bool
     ensures { result ≡ false → NeverAdds facts.now first second }
 {
-    if let Some(false) = facts.sure(Atom::Kept(first)) {
+    if let Some(false) = facts.sure(Atom::Commits(first)) {
         return false;
     }
     if let Some(false) = facts.sure(Atom::Before(first, second)) {

@@ -4,10 +4,10 @@ use crate::gone::{Front, is_item_behind, is_left};
 use crate::items::lists_items;
 use crate::places::{is_apart, is_displaced, is_filled};
 use aud_event::OutOfMemory;
-use judge_clauses::{Facts, Law, Literal, Take};
+use judge_clauses::{KnownFacts, Law, Literal, Take};
 use std::alloc::Allocator;
 
-/// What is known of queues in each list that shows a history. An item is named by who added it, and by which of its own additions to the queue
+/// What is known of queues in each order that shows a history. An item is named by who added it, and by which of its own additions to the queue
 /// it is, from 0.
 #[derive(Clone, Copy)]
 pub enum QueueLaw {
@@ -21,7 +21,7 @@ pub enum QueueLaw {
     Empty(u32, u16, u32),
     /// What stood in front of the item that is taken was taken before.
     Gone(Take, u32, u32, Front),
-    /// The same of what stood in the queue that was found empty.
+    /// What stood in the queue that was found empty was taken before.
     Left(u32, u16, u32, Front),
 }
 
@@ -29,7 +29,7 @@ impl Law for QueueLaw {
     fn is_right<A: Allocator + Copy>(
         &self,
         alloc: A,
-        facts: &Facts<A>,
+        facts: &KnownFacts<A>,
         clause: &[Literal],
     ) -> Result<bool, OutOfMemory> {
         match *self {

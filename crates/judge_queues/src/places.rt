@@ -4,29 +4,29 @@ ghost use Rattle.std.specs.Prelude.{◌≡◌, ◌-ℤ◌, pos, true, false, nat
 ghost use Rattle.judge_clauses.specs.Clauses.{says, is_kept_in, Unless, Holds};
 ghost use Rattle.aud_witness.specs.Orders.{stands_before};
 ghost use Rattle.judge_clauses.specs.declared.clause.Atom.TheVariants.{Item};
-ghost use Rattle.search_model.specs.declared.effect.Effect.TheVariants.{Takes, Additions, Shortening};
+ghost use Rattle.search_model.specs.declared.quantity.Quantity.TheVariants.{Takes, Additions, Shortening};
 ghost use Rattle.judge_sums.specs.Between.{IsWithin};
-ghost use Rattle.search_model.specs.Effects.{net_of};
+ghost use Rattle.search_model.specs.Quantities.{net_of};
 ghost use Rattle.judge_sums.specs.Laws.{ComesTo};
 ghost use Rattle.judge_sums.specs.Sums.{total};
 
 use crate::known::{asked_in, is_queue};
 use aud_event::{Answer, OutOfMemory};
-use judge_clauses::{Atom, Facts, Literal, Take};
+use judge_clauses::{Atom, KnownFacts, Literal, Take};
 use judge_sums::{Bounds, sum_bounds, sum_bounds_without};
-use search_model::Effect;
+use search_model::Quantity;
 use std::alloc::Allocator;
 
 /// Whether the adder is not kept, or does not stand before the taker, where the clause does not hold.
 pub(crate) fn never_comes<A: Allocator + Copy>(
-    facts: &Facts<A>,
+    facts: &KnownFacts<A>,
     clause: &[Literal],
     adder: u32,
     taker: u32,
 ) -> bool
     ensures { IsTrue result → Unless facts.now clause.now (λ p. is_kept_in p adder ≡ true → stands_before p adder taker ≡ true → ⊥) }
 {
-    if facts.is_not_so(clause, Atom::Kept(adder)) {
+    if facts.is_not_so(clause, Atom::Commits(adder)) {
         return true;
     }
     facts.is_not_so(clause, Atom::Before(adder, taker))
@@ -34,7 +34,7 @@ pub(crate) fn never_comes<A: Allocator + Copy>(
 
 /// Whether another transaction adds what is taken, though it does not stand before the taker or is not kept where the clause does not hold.
 pub(crate) fn is_apart<A: Allocator + Copy>(
-    facts: &Facts<A>,
+    facts: &KnownFacts<A>,
     clause: &[Literal],
     take: Take,
     adder: u32,
@@ -55,7 +55,7 @@ pub(crate) fn is_apart<A: Allocator + Copy>(
 /// hold.
 fn place_bounds<A: Allocator + Copy>(
     alloc: A,
-    facts: &Facts<A>,
+    facts: &KnownFacts<A>,
     clause: &[Literal],
     take: Take,
     adder: u32,
@@ -63,11 +63,11 @@ fn place_bounds<A: Allocator + Copy>(
     requires { Unless facts.now clause.now (λ p. stands_before p take.taker adder ≡ false) }
     ensures { IfOk result (λ found. IfSome found (λ bounds. Unless facts.now clause.now (λ p. IsWithin bounds (total facts.now.history (net_of facts.now.history (Takes take.object)) p take.taker -ℤ total facts.now.history (net_of facts.now.history (Additions take.object)) p adder)))) }
 {
-    let taken = Effect::Takes(take.object);
+    let taken = Quantity::Takes(take.object);
     let Some(takes) = sum_bounds(alloc, facts, clause, taken, take.taker)? else {
         return Ok(None);
     };
-    let added = Effect::Additions(take.object);
+    let added = Quantity::Additions(take.object);
     let without = take.taker;
     let found = sum_bounds_without(alloc, facts, clause, added, adder, without)?;
     let Some(additions) = found else {
@@ -86,7 +86,7 @@ fn place_of(take: Take, addition: u32) -> i64
 /// Whether another one's addition cannot be at its place where the clause does not hold.
 fn is_other_displaced<A: Allocator + Copy>(
     alloc: A,
-    facts: &Facts<A>,
+    facts: &KnownFacts<A>,
     clause: &[Literal],
     take: Take,
     adder: u32,
@@ -107,7 +107,7 @@ fn is_other_displaced<A: Allocator + Copy>(
 /// Whether the taker's own addition cannot be at its place where the clause does not hold.
 fn is_own_displaced<A: Allocator + Copy>(
     alloc: A,
-    facts: &Facts<A>,
+    facts: &KnownFacts<A>,
     clause: &[Literal],
     take: Take,
     addition: u32,
@@ -118,7 +118,7 @@ fn is_own_displaced<A: Allocator + Copy>(
     if !facts.is_there(take.taker) || !facts.is_so(clause, item) {
         return Ok(false);
     }
-    let shortening = Effect::Shortening(take.object);
+    let shortening = Quantity::Shortening(take.object);
     match sum_bounds(alloc, facts, clause, shortening, take.taker)? {
         Some(bounds) => Ok(bounds.exclude(place_of(take, addition))),
         None => Ok(false),
@@ -128,7 +128,7 @@ fn is_own_displaced<A: Allocator + Copy>(
 /// Whether the addition cannot be at its place where the clause does not hold.
 pub(crate) fn is_displaced<A: Allocator + Copy>(
     alloc: A,
-    facts: &Facts<A>,
+    facts: &KnownFacts<A>,
     clause: &[Literal],
     take: Take,
     adder: u32,
@@ -145,7 +145,7 @@ pub(crate) fn is_displaced<A: Allocator + Copy>(
 
 /// How much shorter the queue is made before the transaction whose execution at the place found it empty.
 fn shortening<A: Allocator + Copy>(
-    facts: &Facts<A>,
+    facts: &KnownFacts<A>,
     taker: u32,
     queue: u16,
     place: usize,
@@ -172,7 +172,7 @@ fn shortening<A: Allocator + Copy>(
 /// Whether the queue cannot have been found empty where the clause does not hold.
 pub(crate) fn is_filled<A: Allocator + Copy>(
     alloc: A,
-    facts: &Facts<A>,
+    facts: &KnownFacts<A>,
     clause: &[Literal],
     taker: u32,
     queue: u16,
@@ -183,7 +183,7 @@ pub(crate) fn is_filled<A: Allocator + Copy>(
     let Some(number) = shortening(facts, taker, queue, place) else {
         return Ok(false);
     };
-    match sum_bounds(alloc, facts, clause, Effect::Shortening(queue), taker)? {
+    match sum_bounds(alloc, facts, clause, Quantity::Shortening(queue), taker)? {
         Some(bounds) => Ok(bounds.exclude(number)),
         None => Ok(false),
     }

@@ -6,8 +6,8 @@ use Rattle.std.proofs.lemmas.Int.{ints}
 use Rattle.base_values.proofs.Bools.{or_false}
 use Rattle.aud_object.specs.declared.execution.Execution.{Execution}
 use Rattle.judge_clauses.specs.Touching.{mentions}
-use Rattle.search_model.specs.declared.effect.Effect.{Effect}
-use Rattle.search_model.specs.Effects.{object_of, change, change_by, net, reach, reach_by, reaches}
+use Rattle.search_model.specs.declared.quantity.Quantity.{Quantity}
+use Rattle.search_model.specs.Quantities.{object_of, change, change_by, net, reach, reach_by, reaches}
 use Rattle.judge_sums.specs.Sums.{sum_of}
 
 pub sum_of-append : (g : ℕ → ℤ) (a b : List ℕ) → sum_of g (a ++ b) ≡ sum_of g a +ℤ sum_of g b
@@ -16,11 +16,11 @@ sum_of-append g (t ∷ a) b = let rest = sum_of-append g a b in omega (arith, in
 
 -- # Reaches
 
-reaches-append : (f : Effect) (a b : List Execution) → reaches f (a ++ b) ≡ reaches f a + reaches f b
+reaches-append : (f : Quantity) (a b : List Execution) → reaches f (a ++ b) ≡ reaches f a + reaches f b
 reaches-append f [] b = omega arith
 reaches-append f (e ∷ a) b = let rest = reaches-append f a b in omega (arith, rest)
 
-pub reaches-more : (f : Effect) (es : List Execution) (k : ℕ) (d : Execution) → k < length es → reaches f (take (k + 1) es) ≡ reaches f (take k es) + reach_by f (get_or es k d)
+pub reaches-more : (f : Quantity) (es : List Execution) (k : ℕ) (d : Execution) → k < length es → reaches f (take (k + 1) es) ≡ reaches f (take k es) + reach_by f (get_or es k d)
 reaches-more f es k d low =
     let last : reaches f (get_or es k d ∷ []) ≡ reach_by f (get_or es k d) = omega arith in
     let sum = reaches-append f (take k es) (get_or es k d ∷ []) in
@@ -36,7 +36,7 @@ sum_of-more g ts k low =
 
 -- # Executions on other objects
 
-pub net-untouched : (f : Effect) (es : List Execution) → mentions (object_of f) es ≡ false → net f es ≡ pos 0
+pub net-untouched : (f : Quantity) (es : List Execution) → mentions (object_of f) es ≡ false → net f es ≡ pos 0
 net-untouched f [] none = refl
 net-untouched f (e ∷ es) none =
     let (other, rest) = or_false (nat_eq e.object (object_of f)) (mentions (object_of f) es) none in
@@ -44,7 +44,7 @@ net-untouched f (e ∷ es) none =
     let later = net-untouched f es rest in
     omega (arith, ints, own, later)
 
-pub reaches-untouched : (f : Effect) (es : List Execution) → mentions (object_of f) es ≡ false → reaches f es ≡ 0
+pub reaches-untouched : (f : Quantity) (es : List Execution) → mentions (object_of f) es ≡ false → reaches f es ≡ 0
 reaches-untouched f [] none = refl
 reaches-untouched f (e ∷ es) none =
     let (other, rest) = or_false (nat_eq e.object (object_of f)) (mentions (object_of f) es) none in

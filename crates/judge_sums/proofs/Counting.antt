@@ -12,8 +12,8 @@ use Rattle.base_values.proofs.Bools.{true_and, is_false}
 use Rattle.aud_object.specs.Objects.{ObjState, counter, answer_of, after_op, greatest, least, is_within}
 use Rattle.aud_object.specs.Replayed.{same_answer}
 use Rattle.aud_object.proofs.Ints.{eq-is}
-use Rattle.search_model.specs.declared.effect.Effect.TheVariants.{Count}
-use Rattle.search_model.specs.Effects.{count_change, count_told, change, told, reach}
+use Rattle.search_model.specs.declared.quantity.Quantity.TheVariants.{Count}
+use Rattle.search_model.specs.Quantities.{count_change, count_seen, change, seen, reach}
 use Rattle.judge_sums.specs.Room.{HasRoom}
 
 -- # Far from the ends
@@ -83,12 +83,12 @@ after-counter (Put k w) n s room = ap (λ m. counter m) (plus-zero n)
 after-counter (Look k) n s room = ap (λ m. counter m) (plus-zero n)
 after-counter (Del k) n s room = ap (λ m. counter m) (plus-zero n)
 
-told-counter : (op : Op) (answer : Answer) (n w : ℤ) → same_answer (answer_of (counter n) op) answer ≡ true → count_told op answer ≡ Some w → n ≡ w
-told-counter Get (Int u) n w right is = let one : n ≡ u = eq-is n u right in let two : u ≡ w = cc in one ∙ two
-told-counter Get Done n w right is = absurd (cc)
-told-counter Get (Flag b) n w right is = absurd (cc)
-told-counter Get Empty n w right is = absurd (cc)
-told-counter _ answer n w right is = absurd (cc)
+seen-counter : (op : Op) (answer : Answer) (n w : ℤ) → same_answer (answer_of (counter n) op) answer ≡ true → count_seen op answer ≡ Some w → n ≡ w
+seen-counter Get (Int u) n w right is = let one : n ≡ u = eq-is n u right in let two : u ≡ w = cc in one ∙ two
+seen-counter Get Done n w right is = absurd (cc)
+seen-counter Get (Flag b) n w right is = absurd (cc)
+seen-counter Get Empty n w right is = absurd (cc)
+seen-counter _ answer n w right is = absurd (cc)
 
 -- the state is a counter at the number, with so much room
 abbrev pub IsCount : ℤ → ℕ → ObjState → Type 0
@@ -98,8 +98,8 @@ pub count-after : (x : ℕ) (op : Op) (answer : Answer) (n : ℤ) (s : ℕ) (sta
     IsCount (n +ℤ change (Count x) op answer) s (after_op state op)
 count-after x op answer n s state is right = (ap (λ (z : ObjState). after_op z op) is.0 ∙ after-counter op n s is.1, room-next n (count_change op) s is.1)
 
-pub count-told : (x : ℕ) (op : Op) (answer : Answer) (n w : ℤ) (s : ℕ) (state : ObjState) → IsCount n s state → same_answer (answer_of state op) answer ≡ true → told (Count x) op answer ≡ Some w → n ≡ w
-count-told x op answer n w s state is right tells = told-counter op answer n w (subst (λ (z : ObjState). same_answer (answer_of z op) answer ≡ true) is.0 right) tells
+pub count-seen : (x : ℕ) (op : Op) (answer : Answer) (n w : ℤ) (s : ℕ) (state : ObjState) → IsCount n s state → same_answer (answer_of state op) answer ≡ true → seen (Count x) op answer ≡ Some w → n ≡ w
+count-seen x op answer n w s state is right tells = seen-counter op answer n w (subst (λ (z : ObjState). same_answer (answer_of z op) answer ≡ true) is.0 right) tells
 
 pub count-room : (n : ℤ) (a s : ℕ) (state : ObjState) → IsCount n (a + s) state → IsCount n s state
 count-room n a s state is = (is.0, room-less n a s is.1)

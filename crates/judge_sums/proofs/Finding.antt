@@ -1,4 +1,4 @@
--- What a number is where a transaction runs in a list that shows, and what the transaction then has to find.
+-- What a number is where a transaction runs in an order that shows, and what the transaction then has to find.
 use Rattle.std.specs.Prelude.{◌≡◌, ℕ, ◌+◌, ℤ, pos, ◌+ℤ◌, ◌-ℤ◌, Bool, true, false, nat_eq, List, [], ◌∷◌, map, Option, Some, None, slice_get, refl, ◌⊎◌}
 use Rattle.std.proofs.Common.{sym, ◌∙◌, ap, subst, inl, inr, cond, arith}
 use Rattle.std.proofs.lemmas.Int.{ints}
@@ -18,8 +18,8 @@ use Rattle.aud_witness.specs.declared.decision.Decision.{Decision}
 use Rattle.aud_witness.specs.Orders.{is_kept, Shows}
 use Rattle.aud_witness.specs.Configurations.{first_configuration}
 use Rattle.aud_witness.proofs.WalkLemmas.{walks-say}
-use Rattle.search_model.specs.declared.effect.Effect.{Effect}
-use Rattle.search_model.specs.Effects.{change, object_of, change_by, net, net_of, told, told_by, less, first_of, asked, Tell, Contradict, reach, reach_by, reaches, reach_of}
+use Rattle.search_model.specs.declared.quantity.Quantity.{Quantity}
+use Rattle.search_model.specs.Quantities.{change, object_of, change_by, net, net_of, seen, seen_by, less, first_of, asked, Tell, Contradict, reach, reach_by, reaches, reach_of}
 use Rattle.judge_sums.specs.Sums.{sum_over, sum_of, gain, total}
 use Rattle.judge_sums.proofs.Gains.{all-sums, total-gain}
 use Rattle.judge_clauses.proofs.Walking.{off, ran-first, get-opening}
@@ -28,18 +28,18 @@ use Rattle.judge_sums.proofs.Walks.{Arrives, arrive, reached}
 plus-zero : (n : ℤ) → n ≡ n +ℤ pos 0
 plus-zero n = omega (arith, ints)
 
--- what is told at once, or else by those after
-told-or : (o : Option ℤ) (k : ℤ) (later : Option ℤ) (w : ℤ) → first_of o (less k later) ≡ Some w → (o ≡ Some w) ⊎ ((m : ℤ) × ((later ≡ Some m) × (w ≡ m -ℤ k)))
-told-or (Some n) k later w is = inl is
-told-or None k None w is = absurd (cc)
-told-or None k (Some m) w is = inr (m, (refl, let same : m -ℤ k ≡ w = cc in sym same))
+-- what is seen at once, or else by those after
+seen-or : (o : Option ℤ) (k : ℤ) (later : Option ℤ) (w : ℤ) → first_of o (less k later) ≡ Some w → (o ≡ Some w) ⊎ ((m : ℤ) × ((later ≡ Some m) × (w ≡ m -ℤ k)))
+seen-or (Some n) k later w is = inl is
+seen-or None k None w is = absurd (cc)
+seen-or None k (Some m) w is = inr (m, (refl, let same : m -ℤ k ≡ w = cc in sym same))
 
-told-on : (b : Bool) (o : Option ℤ) (w : ℤ) → cond b o None ≡ Some w → (b ≡ true) × (o ≡ Some w)
-told-on true o w is = (refl, is)
-told-on false o w is = absurd (cc)
+seen-on : (b : Bool) (o : Option ℤ) (w : ℤ) → cond b o None ≡ Some w → (b ≡ true) × (o ≡ Some w)
+seen-on true o w is = (refl, is)
+seen-on false o w is = absurd (cc)
 
-pub told-here : (states : List ObjState) (x : ℕ) (e : Execution) (s : ObjState) → nat_eq e.object x ≡ true → slice_get states x ≡ Some s → answers (answer_at states e.object e.op) e.answer ≡ true → same_answer (answer_of s e.op) e.answer ≡ true
-told-here states x e s same at right =
+pub seen-here : (states : List ObjState) (x : ℕ) (e : Execution) (s : ObjState) → nat_eq e.object x ≡ true → slice_get states x ≡ Some s → answers (answer_at states e.object e.op) e.answer ≡ true → same_answer (answer_of s e.op) e.answer ≡ true
+seen-here states x e s same at right =
     let on : x ≡ e.object = sym (nat_eq-is e.object x same) in
     let here : answer_at states e.object e.op ≡ Some (answer_of s e.op) = subst (λ n. answer_at states n e.op ≡ Some (answer_of s e.op)) on (answer_at-get states x e.op s at) in
     sym (ap (λ o. answers o e.answer) here) ∙ right
@@ -50,19 +50,19 @@ there-after states x e s same at =
     subst (λ n. slice_get (after_at states n e.op) x ≡ Some (after_op s e.op)) on (after_at-same states x e.op s at)
 
 -- how far all of p may take the number
-abbrev pub reach_over : History → Effect → List Decision → ℕ
+abbrev pub reach_over : History → Quantity → List Decision → ℕ
 reach_over h f [] = 0
 reach_over h f (d ∷ p) = reach_of h f d.tx + reach_over h f p
 
-reach-sum : (h : History) (f : Effect) (p : List Decision) → pos (reach_over h f p) ≡ sum_over (λ t. pos (reach_of h f t)) p
+reach-sum : (h : History) (f : Quantity) (p : List Decision) → pos (reach_over h f p) ≡ sum_over (λ t. pos (reach_of h f t)) p
 reach-sum h f [] = refl
 reach-sum h f (d ∷ p) = ap (λ n. pos (reach_of h f d.tx) +ℤ n) (reach-sum h f p)
 
 -- # A number that a state of an object has, with room to either side
 
-module _ (f : Effect) (Is : ℤ → ℕ → ObjState → Type 0)
+module _ (f : Quantity) (Is : ℤ → ℕ → ObjState → Type 0)
     (after : (op : Op) (answer : Answer) (n : ℤ) (s : ℕ) (state : ObjState) → Is n (reach f op + s) state → same_answer (answer_of state op) answer ≡ true → Is (n +ℤ change f op answer) s (after_op state op))
-    (tells : (op : Op) (answer : Answer) (n w : ℤ) (s : ℕ) (state : ObjState) → Is n s state → same_answer (answer_of state op) answer ≡ true → told f op answer ≡ Some w → n ≡ w)
+    (tells : (op : Op) (answer : Answer) (n w : ℤ) (s : ℕ) (state : ObjState) → Is n s state → same_answer (answer_of state op) answer ≡ true → seen f op answer ≡ Some w → n ≡ w)
     (less_room : (n : ℤ) (a s : ℕ) (state : ObjState) → Is n (a + s) state → Is n s state) where
   abbrev Stands : ℤ → ℕ → List ObjState → Type 0
   Stands n s states = (state : ObjState) × ((slice_get states (object_of f) ≡ Some state) × Is n s state)
@@ -77,7 +77,7 @@ module _ (f : Effect) (Is : ℤ → ℕ → ObjState → Type 0)
               after_op state e.op,
               (
                 there-after states (object_of f) e state same at,
-                subst (λ k. Is (n +ℤ k) s (after_op state e.op)) own (after e.op e.answer n s state wide (told-here states (object_of f) e state same at right)),
+                subst (λ k. Is (n +ℤ k) s (after_op state e.op)) own (after e.op e.answer n s state wide (seen-here states (object_of f) e state same at right)),
               ),
             )
         | inr other ↦
@@ -114,11 +114,11 @@ module _ (f : Effect) (Is : ℤ → ℕ → ObjState → Type 0)
       let (right, rest) = ran-first states e es ends led in
       let wide : Stands n (reach_by f e + (reaches f es + s)) states = regroup (reach_by f e) (reaches f es) s n states stands in
       let next : Stands (n +ℤ change_by f e) (reaches f es + s) (after_at states e.object e.op) = stands-after states e n (reaches f es + s) wide right in
-      elim (told-or (told_by f e) (change_by f e) (asked f es) w is) [
+      elim (seen-or (seen_by f e) (change_by f e) (asked f es) w is) [
         | inl at_once ↦
-            let (same, tells_it) = told-on (nat_eq e.object (object_of f)) (told f e.op e.answer) w at_once in
+            let (same, tells_it) = seen-on (nat_eq e.object (object_of f)) (seen f e.op e.answer) w at_once in
             let (state, (at, here)) = stands in
-            tells e.op e.answer n w (reaches f (e ∷ es) + s) state here (told-here states (object_of f) e state same at right) tells_it
+            tells e.op e.answer n w (reaches f (e ∷ es) + s) state here (seen-here states (object_of f) e state same at right) tells_it
         | inr further ↦
             let (m, (later, before)) = further in
             let found : n +ℤ change_by f e ≡ m = executed-asked es (after_at states e.object e.op) ends (n +ℤ change_by f e) m s next rest later in
@@ -131,10 +131,10 @@ module _ (f : Effect) (Is : ℤ → ℕ → ObjState → Type 0)
       let (right, rest) = ran-first states e es ends led in
       let wide : Stands n (reach_by f e + (reaches f es + s)) states = regroup (reach_by f e) (reaches f es) s n states stands in
       let next : Stands (n +ℤ change_by f e) (reaches f es + s) (after_at states e.object e.op) = stands-after states e n (reaches f es + s) wide right in (
-        λ m told_m.
-            let (same, tells_it) = told-on (nat_eq e.object (object_of f)) (told f e.op e.answer) m told_m in
+        λ m seen_m.
+            let (same, tells_it) = seen-on (nat_eq e.object (object_of f)) (seen f e.op e.answer) m seen_m in
             let (state, (at, here)) = stands in
-            tells e.op e.answer n m (reaches f (e ∷ es) + s) state here (told-here states (object_of f) e state same at right) tells_it,
+            tells e.op e.answer n m (reaches f (e ∷ es) + s) state here (seen-here states (object_of f) e state same at right) tells_it,
         executed-tells es (after_at states e.object e.op) ends (n +ℤ change_by f e) s next rest,
       )
 

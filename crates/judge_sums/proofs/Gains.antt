@@ -10,7 +10,7 @@ use Rattle.aud_witness.specs.declared.decision.Decision.{Decision}
 use Rattle.aud_witness.specs.Orders.{is_named, are_named_once, is_kept, stands_before, Shows}
 use Rattle.judge_clauses.specs.Clauses.{is_kept_in}
 use Rattle.judge_sums.specs.Sums.{sum_over, sum_of, gain, share, total}
-use Rattle.judge_sums.proofs.Naming.{kept-named, fresh, rest-once, nothing-before}
+use Rattle.judge_clauses.proofs.Naming.{kept-named, fresh, rest-once, nothing-before}
 use Rattle.judge_sums.proofs.Sums.{same-sums, apart}
 
 sum_over-same : (f g : ℕ → ℤ) (q : List Decision) → ((t : ℕ) → is_named q t ≡ true → f t ≡ g t) → sum_over f q ≡ sum_over g q
@@ -56,7 +56,7 @@ module _ (w : ℕ → ℤ) where
       ]
 
 module _ (objects : List Declared) (h : History) (p : List Decision) (shown : Shows objects h p) where
-  -- sums over the list are sums over the table
+  -- sums over the order are sums over the table
   pub all-sums : (g : ℕ → ℤ) → sum_over g p ≡ sum_of g (transactions h)
   all-sums g = same-sums g (transactions h) p (different-transactions h) shown.full.once (λ t. shown.full.same t ∙ sym (any-transactions h t))
 

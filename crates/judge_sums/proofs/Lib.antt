@@ -1,4 +1,3 @@
-pub mod Naming
 pub mod Sums
 pub mod Gains
 pub mod Walks

@@ -12,8 +12,9 @@ use Rattle.aud_object.specs.Proper.{MembersAscend}
 use Rattle.aud_object.specs.Replayed.{same_answer}
 use Rattle.aud_object.proofs.Ints.{eq-is}
 use Rattle.aud_object.proofs.Proper.{has-with, has-without, ascend-with, ascend-without}
-use Rattle.search_model.specs.declared.effect.Effect.TheVariants.{Element}
-use Rattle.search_model.specs.Effects.{is_yes, element_change, member_told, absence_told, element_told, change, told, reach}
+use Rattle.search_model.specs.declared.quantity.Quantity.TheVariants.{Element}
+use Rattle.search_model.specs.Quantities.{is_yes, element_change, member_seen, absence_seen, element_seen, change, seen, reach}
+use Rattle.search_model.proofs.Yes.{yes-of}
 
 -- 1 for a member, 0 for none
 abbrev pub as_number : Bool → ℤ
@@ -21,18 +22,6 @@ as_number b = cond b (pos 1) (pos 0)
 
 plus-zero : (n : ℤ) → n ≡ n +ℤ pos 0
 plus-zero n = omega (arith, ints)
-
-yes-of : (b : Bool) (answer : Answer) → same_answer (Flag b) answer ≡ true → is_yes answer ≡ b
-yes-of true (Flag true) is = refl
-yes-of true (Flag false) is = absurd (cc)
-yes-of false (Flag true) is = absurd (cc)
-yes-of false (Flag false) is = refl
-yes-of true Done is = absurd (cc)
-yes-of true (Int v) is = absurd (cc)
-yes-of true Empty is = absurd (cc)
-yes-of false Done is = absurd (cc)
-yes-of false (Int v) is = absurd (cc)
-yes-of false Empty is = absurd (cc)
 
 added : (a m t : Bool) → (a ≡ true → t ≡ not m) → as_number (a || m) ≡ as_number m +ℤ cond (a && t) (pos 1) (pos 0)
 added true true true is = absurd (let no : true ≡ false = is refl in cc)
@@ -96,36 +85,36 @@ if-some : (b : Bool) (o : Option ℤ) (n : ℤ) → cond b o None ≡ Some n →
 if-some true o n is = (refl, is)
 if-some false o n is = absurd (cc)
 
-member-told : (b : Bool) (answer : Answer) (w : ℤ) → same_answer (Flag b) answer ≡ true → member_told answer ≡ Some w → as_number b ≡ w
-member-told true (Flag true) w right is = cc
-member-told true (Flag false) w right is = absurd (cc)
-member-told false (Flag true) w right is = absurd (cc)
-member-told false (Flag false) w right is = cc
-member-told b Done w right is = absurd (cc)
-member-told b (Int v) w right is = absurd (cc)
-member-told b Empty w right is = absurd (cc)
+member-seen : (b : Bool) (answer : Answer) (w : ℤ) → same_answer (Flag b) answer ≡ true → member_seen answer ≡ Some w → as_number b ≡ w
+member-seen true (Flag true) w right is = cc
+member-seen true (Flag false) w right is = absurd (cc)
+member-seen false (Flag true) w right is = absurd (cc)
+member-seen false (Flag false) w right is = cc
+member-seen b Done w right is = absurd (cc)
+member-seen b (Int v) w right is = absurd (cc)
+member-seen b Empty w right is = absurd (cc)
 
-absence-told : (b : Bool) (answer : Answer) (w : ℤ) → same_answer (Flag (not b)) answer ≡ true → absence_told answer ≡ Some w → as_number b ≡ w
-absence-told true (Flag false) w right is = cc
-absence-told true (Flag true) w right is = absurd (cc)
-absence-told false (Flag false) w right is = absurd (cc)
-absence-told false (Flag true) w right is = cc
-absence-told b Done w right is = absurd (cc)
-absence-told b (Int v) w right is = absurd (cc)
-absence-told b Empty w right is = absurd (cc)
+absence-seen : (b : Bool) (answer : Answer) (w : ℤ) → same_answer (Flag (not b)) answer ≡ true → absence_seen answer ≡ Some w → as_number b ≡ w
+absence-seen true (Flag false) w right is = cc
+absence-seen true (Flag true) w right is = absurd (cc)
+absence-seen false (Flag false) w right is = absurd (cc)
+absence-seen false (Flag true) w right is = cc
+absence-seen b Done w right is = absurd (cc)
+absence-seen b (Int v) w right is = absurd (cc)
+absence-seen b Empty w right is = absurd (cc)
 
-told-element : (op : Op) (v : ℤ) (members : List ℤ) (answer : Answer) (w : ℤ) → same_answer (answer_of (set_of members) op) answer ≡ true → element_told v op answer ≡ Some w →
+seen-element : (op : Op) (v : ℤ) (members : List ℤ) (answer : Answer) (w : ℤ) → same_answer (answer_of (set_of members) op) answer ≡ true → element_seen v op answer ≡ Some w →
     as_number (has_member members v) ≡ w
-told-element (Add u) v members answer w right is =
-    let (on, tells) = if-some (int_eq u v) (absence_told answer) w is in
-    absence-told (has_member members v) answer w (subst (λ m. same_answer (Flag (not (has_member members m))) answer ≡ true) (eq-is u v on) right) tells
-told-element (Remove u) v members answer w right is =
-    let (on, tells) = if-some (int_eq u v) (member_told answer) w is in
-    member-told (has_member members v) answer w (subst (λ m. same_answer (Flag (has_member members m)) answer ≡ true) (eq-is u v on) right) tells
-told-element (Contains u) v members answer w right is =
-    let (on, tells) = if-some (int_eq u v) (member_told answer) w is in
-    member-told (has_member members v) answer w (subst (λ m. same_answer (Flag (has_member members m)) answer ≡ true) (eq-is u v on) right) tells
-told-element _ v members answer w right is = absurd (cc)
+seen-element (Add u) v members answer w right is =
+    let (on, tells) = if-some (int_eq u v) (absence_seen answer) w is in
+    absence-seen (has_member members v) answer w (subst (λ m. same_answer (Flag (not (has_member members m))) answer ≡ true) (eq-is u v on) right) tells
+seen-element (Remove u) v members answer w right is =
+    let (on, tells) = if-some (int_eq u v) (member_seen answer) w is in
+    member-seen (has_member members v) answer w (subst (λ m. same_answer (Flag (has_member members m)) answer ≡ true) (eq-is u v on) right) tells
+seen-element (Contains u) v members answer w right is =
+    let (on, tells) = if-some (int_eq u v) (member_seen answer) w is in
+    member-seen (has_member members v) answer w (subst (λ m. same_answer (Flag (has_member members m)) answer ≡ true) (eq-is u v on) right) tells
+seen-element _ v members answer w right is = absurd (cc)
 
 pub element-after : (x : ℕ) (v : ℤ) (op : Op) (answer : Answer) (n : ℤ) (s : ℕ) (state : ObjState) → IsMember v n (reach (Element x v) op + s) state → same_answer (answer_of state op) answer ≡ true →
     IsMember v (n +ℤ change (Element x v) op answer) s (after_op state op)
@@ -134,10 +123,10 @@ element-after x v op answer n s state is right =
     let (later, (leads, ascend, number)) = number-after op v members answer proper (subst (λ (z : ObjState). same_answer (answer_of z op) answer ≡ true) is_set right) in
     (later, (ap (λ (z : ObjState). after_op z op) is_set ∙ leads, ascend, ap (λ m. m +ℤ element_change v op answer) so_many ∙ sym number))
 
-pub element-told : (x : ℕ) (v : ℤ) (op : Op) (answer : Answer) (n w : ℤ) (s : ℕ) (state : ObjState) → IsMember v n s state → same_answer (answer_of state op) answer ≡ true → told (Element x v) op answer ≡ Some w → n ≡ w
-element-told x v op answer n w s state is right tells =
+pub element-seen : (x : ℕ) (v : ℤ) (op : Op) (answer : Answer) (n w : ℤ) (s : ℕ) (state : ObjState) → IsMember v n s state → same_answer (answer_of state op) answer ≡ true → seen (Element x v) op answer ≡ Some w → n ≡ w
+element-seen x v op answer n w s state is right tells =
     let (members, (is_set, proper, so_many)) = is in
-    so_many ∙ told-element op v members answer w (subst (λ (z : ObjState). same_answer (answer_of z op) answer ≡ true) is_set right) tells
+    so_many ∙ seen-element op v members answer w (subst (λ (z : ObjState). same_answer (answer_of z op) answer ≡ true) is_set right) tells
 
 pub element-room : (v n : ℤ) (a s : ℕ) (state : ObjState) → IsMember v n (a + s) state → IsMember v n s state
 element-room v n a s state is = is

@@ -77,7 +77,7 @@ pub size-zero : (z : ℤ) → nat_abs z ≡ 0 → z ≡ pos 0
 size-zero (pos n) e = ap pos e
 size-zero (negsuc n) e = cc
 
--- the same of the numbers that bits stand for
+-- what divides a number divides the number that its bits stand for
 pub to-bits : (d k : ℤ) → SFits w64 d → SFits w64 k → nat_abs d ∣ nat_abs k → nat_abs (to_z w64 (of_z w64 d)) ∣ nat_abs (to_z w64 (of_z w64 k))
 to-bits d k fits_d fits_k h =
     let one : nat_abs (to_z w64 (of_z w64 d)) ∣ nat_abs k = subst (λ x. nat_abs x ∣ nat_abs k) (sym (to_z-of_z w64 d fits_d)) h in

@@ -1,4 +1,4 @@
--- Sums over the transactions that a list of decisions names.
+-- Sums over the transactions that an order names.
 use Rattle.std.specs.Prelude.{◌≡◌, ℕ, ℤ, ◌+ℤ◌, ◌≤ℤ◌, true, false, not, ◌||◌, nat_eq, List, [], ◌∷◌, ◌++◌, refl}
 use Rattle.std.specs.List.{list_any}
 use Rattle.std.proofs.Common.{sym, ◌∙◌, ap, subst, inl, inr, arith}
@@ -38,7 +38,7 @@ once_without (x ∷ a) d b once =
     let off : nat_eq d.tx x.tx ≡ false = nat_eq-sym d.tx x.tx ∙ apart (a ++ d ∷ b) x.tx d.tx alone (named_at a d b) in
     true_and (not (is_named (a ++ b) x.tx)) (are_named_once (a ++ b)) (not_false (is_named (a ++ b) x.tx) (named_without a d b x.tx off ∙ alone)) (once_without a d b parts.1)
 
--- a list that names the same transactions once has the same sum
+-- an order that names the same transactions once has the same sum
 pub same-sums : (g : ℕ → ℤ) (ts : List ℕ) (p : List Decision) → are_different ts ≡ true → are_named_once p ≡ true → ((t : ℕ) → is_named p t ≡ list_any (nat_eq t) ts) → sum_over g p ≡ sum_of g ts
 same-sums g [] [] differ once same = refl
 same-sums g [] (d ∷ p) differ once same = absurd (let wrong : is_named (d ∷ p) d.tx ≡ true = named_at [] d p in let gone = same d.tx in cc)

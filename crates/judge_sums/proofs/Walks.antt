@@ -1,4 +1,4 @@
--- What holds where a transaction runs in a list that shows, if it holds at first and each step keeps it.
+-- What holds where a transaction runs in an order that shows, if it holds at first and each step keeps it.
 use Rattle.std.specs.Prelude.{◌≡◌, ℕ, true, false, ◌||◌, nat_eq, List, [], ◌∷◌, Option, Some, None, Result, Ok, Err, refl}
 use Rattle.std.proofs.Common.{sym, ◌∙◌, ap, subst, inl, inr, cond}
 use Rattle.base_values.proofs.Bools.{split, nat_eq-is}
@@ -15,7 +15,7 @@ use Rattle.aud_witness.specs.Configurations.{Configuration, states_with, stepped
 use Rattle.aud_witness.specs.Walks.{walked}
 use Rattle.judge_clauses.proofs.Walking.{stepped-led}
 
--- R runs where this is so, before the rest of the list
+-- R runs where this is so, before the rest of the order
 pub record Arrives (h : History) (S : Type 0) (Inv : S → List Decision → List ObjState → Type 0) (a : S) (r : ℕ) : Type 0 where
   pub first : Decision
   pub rest : List Decision

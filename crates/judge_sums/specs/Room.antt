@@ -4,8 +4,8 @@ use Rattle.aud_history.specs.Table.{transactions}
 use Rattle.aud_object.specs.Objects.{greatest, least}
 use Rattle.judge_clauses.specs.Clauses.{FactsOf}
 use Rattle.judge_sums.specs.declared.bounds.Bounds.{Bounds}
-use Rattle.search_model.specs.declared.effect.Effect.TheVariants.{Count}
-use Rattle.search_model.specs.Effects.{reach_of}
+use Rattle.search_model.specs.declared.quantity.Quantity.TheVariants.{Count}
+use Rattle.search_model.specs.Quantities.{reach_of}
 use Rattle.judge_sums.specs.Sums.{sum_of}
 
 -- the count may go so far to either side without reaching an end of its range

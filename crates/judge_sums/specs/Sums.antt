@@ -6,7 +6,7 @@ use Rattle.aud_witness.specs.declared.decision.Decision.{Decision}
 use Rattle.aud_witness.specs.Orders.{is_kept, stands_before}
 use Rattle.judge_clauses.specs.Clauses.{is_kept_in}
 
--- over those that a list of decisions names
+-- over those that an order names
 abbrev pub sum_over : (ℕ → ℤ) → List Decision → ℤ
 sum_over g [] = pos 0
 sum_over g (d ∷ p) = g d.tx +ℤ sum_over g p

@@ -4,16 +4,16 @@ ghost use Rattle.std.specs.Prelude.{◌≡◌, ℤ, Bool, true, false, ◌&&◌,
 ghost use Rattle.aud_witness.specs.Orders.{stands_before};
 ghost use Rattle.judge_clauses.specs.Clauses.{Unless};
 ghost use Rattle.judge_clauses.specs.Values.{atom_of, AreTold};
-ghost use Rattle.judge_clauses.specs.declared.question.Question.TheVariants.{IsKept, StandsBefore};
+ghost use Rattle.judge_clauses.specs.declared.question.Question.TheVariants.{DoesCommit, StandsBefore};
 ghost use Rattle.aud_history.specs.Table.{RowOf, table_of};
-ghost use Rattle.search_model.specs.Effects.{net, net_of};
+ghost use Rattle.search_model.specs.Quantities.{net, net_of};
 ghost use Rattle.judge_sums.specs.Sums.{total};
 ghost use Rattle.judge_sums.specs.Between.{fits, IsWithin};
 
 use crate::estimate::Estimate;
 use aud_event::OutOfMemory;
-use judge_clauses::{Facts, Literal, Question};
-use search_model::{Effect, net, object_of};
+use judge_clauses::{KnownFacts, Literal, Question};
+use search_model::{Quantity, net, object_of};
 use std::alloc::Allocator;
 
 /// Two numbers between which another one lies.
@@ -94,34 +94,38 @@ fn value_at(values: &[Option<bool>], place: usize) -> Option<bool>
 }
 
 /// By how much the row of the place changes the number, if that is an i64.
-fn weight_at<A: Allocator + Copy>(facts: &Facts<A>, effect: Effect, place: usize) -> Option<i64>
-    ensures { IfSome result (λ n. (row : RowOf) → slice_get (table_of facts.now.history) place ≡ Some row → n ≡ net effect row.block.executions) }
+fn weight_at<A: Allocator + Copy>(
+    facts: &KnownFacts<A>,
+    quantity: Quantity,
+    place: usize,
+) -> Option<i64>
+    ensures { IfSome result (λ n. (row : RowOf) → slice_get (table_of facts.now.history) place ≡ Some row → n ≡ net quantity row.block.executions) }
 {
-    if !facts.touches(place, object_of(effect)) {
+    if !facts.touches(place, object_of(quantity)) {
         return Some(0);
     }
     let row = facts.rows().get(place)?;
-    net(effect, row.block().executions())
+    net(quantity, row.block().executions())
 }
 
 /// What is said of what those before the reader come to, by what is known of each row.
 fn sum_by<E: Estimate, A: Allocator + Copy>(
     start: E,
-    facts: &Facts<A>,
+    facts: &KnownFacts<A>,
     clause: &[Literal],
-    effect: Effect,
+    quantity: Quantity,
     reader: u32,
     kept: &[Option<bool>],
     before: &[Option<bool>],
 ) -> Option<E>
-    requires fates { AreTold facts.now clause.now (atom_of IsKept) kept.now }
+    requires fates { AreTold facts.now clause.now (atom_of DoesCommit) kept.now }
     requires places { AreTold facts.now clause.now (atom_of (StandsBefore reader)) before.now }
-    ensures { IfSome result (λ sum. Unless facts.now clause.now (λ p. E.says sum (total facts.now.history (net_of facts.now.history effect) p reader))) }
+    ensures { IfSome result (λ sum. Unless facts.now clause.now (λ p. E.says sum (total facts.now.history (net_of facts.now.history quantity) p reader))) }
 {
     let _clause = clause;
     let mut sum = start.zero();
     for place in 0..facts.rows().len() {
-        let weight = weight_at(facts, effect, place)?;
+        let weight = weight_at(facts, quantity, place)?;
         let own = start.share(weight, value_at(kept, place), value_at(before, place))?;
         sum = sum.plus(own)?;
     }
@@ -130,7 +134,7 @@ fn sum_by<E: Estimate, A: Allocator + Copy>(
 
 /// Notes that the transaction does not stand before the reader.
 fn put_out<A: Allocator + Copy>(
-    facts: &Facts<A>,
+    facts: &KnownFacts<A>,
     clause: &[Literal],
     reader: u32,
     out: u32,
@@ -152,45 +156,45 @@ fn put_out<A: Allocator + Copy>(
 pub(crate) fn estimated<E: Estimate, A: Allocator + Copy>(
     alloc: A,
     start: E,
-    facts: &Facts<A>,
+    facts: &KnownFacts<A>,
     clause: &[Literal],
-    effect: Effect,
+    quantity: Quantity,
     reader: u32,
 ) -> Result<Option<E>, OutOfMemory>
-    ensures { IfOk result (λ found. IfSome found (λ sum. Unless facts.now clause.now (λ p. E.says sum (total facts.now.history (net_of facts.now.history effect) p reader)))) }
+    ensures { IfOk result (λ found. IfSome found (λ sum. Unless facts.now clause.now (λ p. E.says sum (total facts.now.history (net_of facts.now.history quantity) p reader)))) }
 {
-    let kept = facts.values(alloc, clause, Question::IsKept)?;
+    let kept = facts.values(alloc, clause, Question::DoesCommit)?;
     let before = facts.values(alloc, clause, Question::StandsBefore(reader))?;
-    Ok(sum_by(start, facts, clause, effect, reader, &kept, &before))
+    Ok(sum_by(start, facts, clause, quantity, reader, &kept, &before))
 }
 
 /// The bounds of what those before the reader come to, where the clause does not hold.
 pub fn sum_bounds<A: Allocator + Copy>(
     alloc: A,
-    facts: &Facts<A>,
+    facts: &KnownFacts<A>,
     clause: &[Literal],
-    effect: Effect,
+    quantity: Quantity,
     reader: u32,
 ) -> Result<Option<Bounds>, OutOfMemory>
-    ensures { IfOk result (λ found. IfSome found (λ bounds. Unless facts.now clause.now (λ p. IsWithin bounds (total facts.now.history (net_of facts.now.history effect) p reader)))) }
+    ensures { IfOk result (λ found. IfSome found (λ bounds. Unless facts.now clause.now (λ p. IsWithin bounds (total facts.now.history (net_of facts.now.history quantity) p reader)))) }
 {
-    estimated(alloc, NOTHING, facts, clause, effect, reader)
+    estimated(alloc, NOTHING, facts, clause, quantity, reader)
 }
 
-/// The same, where one transaction is known not to stand before the reader.
+/// The bounds of what those before the reader come to, where the clause does not hold, and one transaction is known not to stand before the reader.
 pub fn sum_bounds_without<A: Allocator + Copy>(
     alloc: A,
-    facts: &Facts<A>,
+    facts: &KnownFacts<A>,
     clause: &[Literal],
-    effect: Effect,
+    quantity: Quantity,
     reader: u32,
     out: u32,
 ) -> Result<Option<Bounds>, OutOfMemory>
     requires { Unless facts.now clause.now (λ p. stands_before p out reader ≡ false) }
-    ensures { IfOk result (λ found. IfSome found (λ bounds. Unless facts.now clause.now (λ p. IsWithin bounds (total facts.now.history (net_of facts.now.history effect) p reader)))) }
+    ensures { IfOk result (λ found. IfSome found (λ bounds. Unless facts.now clause.now (λ p. IsWithin bounds (total facts.now.history (net_of facts.now.history quantity) p reader)))) }
 {
-    let kept = facts.values(alloc, clause, Question::IsKept)?;
+    let kept = facts.values(alloc, clause, Question::DoesCommit)?;
     let mut before = facts.values(alloc, clause, Question::StandsBefore(reader))?;
     put_out(facts, clause, reader, out, &mut before);
-    Ok(sum_by(NOTHING, facts, clause, effect, reader, &kept, &before))
+    Ok(sum_by(NOTHING, facts, clause, quantity, reader, &kept, &before))
 }

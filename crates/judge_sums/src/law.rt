@@ -2,7 +2,7 @@
 
 ghost use Rattle.std.specs.Prelude.{◌≡◌, IfOk, IfSome, IsTrue};
 ghost use Rattle.judge_clauses.specs.Clauses.{Holds};
-ghost use Rattle.search_model.specs.declared.effect.Effect.TheVariants.{Count, Element};
+ghost use Rattle.search_model.specs.declared.quantity.Quantity.TheVariants.{Count, Element};
 ghost use Rattle.judge_sums.specs.Laws.{ComesTo, CountsFrom, IsSet, IsAskedBy};
 
 use crate::bounds::{NOTHING, estimated};
@@ -10,8 +10,8 @@ use crate::estimate::Estimate;
 use crate::remainder::Remainder;
 use crate::room::has_room;
 use aud_event::{ObjKind, OutOfMemory};
-use judge_clauses::{Facts, Law, Literal};
-use search_model::{Effect, asked, contradict};
+use judge_clauses::{KnownFacts, Law, Literal};
+use search_model::{Quantity, asked, contradict};
 use std::alloc::Allocator;
 
 /// Where no literal of a clause holds, what those before a reader come to lies between bounds, or leaves a remainder, and the number that
@@ -20,7 +20,7 @@ use std::alloc::Allocator;
 pub enum SumLaw {
     /// What the reader finds on the counter.
     Counter(u32, u16),
-    /// The same by what is left where the counts are divided by a number, of which each that is open is a multiple.
+    /// What the reader finds on the counter, by what is left where the counts are divided by a number, of which each that is open is a multiple.
     Remainder(u32, u16, i64),
     /// Whether the reader finds the element in the set.
     Element(u32, u16, i64),
@@ -29,7 +29,7 @@ pub enum SumLaw {
 }
 
 /// The count at which the counter opens, if the object is one.
-fn first_count<A: Allocator + Copy>(facts: &Facts<A>, counter: u16) -> Option<i64>
+fn first_count<A: Allocator + Copy>(facts: &KnownFacts<A>, counter: u16) -> Option<i64>
     ensures { IfSome result (CountsFrom facts.now counter) }
 {
     let decl = facts.history().plan().object(usize::from(counter))?;
@@ -40,7 +40,7 @@ fn first_count<A: Allocator + Copy>(facts: &Facts<A>, counter: u16) -> Option<i6
 }
 
 /// Whether the object is a set.
-fn is_set<A: Allocator + Copy>(facts: &Facts<A>, object: u16) -> bool
+fn is_set<A: Allocator + Copy>(facts: &KnownFacts<A>, object: u16) -> bool
     ensures { IsTrue result → IsSet facts.now object }
 {
     match facts.history().plan().object(usize::from(object)) {
@@ -50,20 +50,24 @@ fn is_set<A: Allocator + Copy>(facts: &Facts<A>, object: u16) -> bool
 }
 
 /// What the reader has to find, by its own answers.
-fn asked_by<A: Allocator + Copy>(facts: &Facts<A>, reader: u32, effect: Effect) -> Option<i64>
-    ensures { IfSome result (IsAskedBy facts.now reader effect) }
+fn asked_by<A: Allocator + Copy>(
+    facts: &KnownFacts<A>,
+    reader: u32,
+    quantity: Quantity,
+) -> Option<i64>
+    ensures { IfSome result (IsAskedBy facts.now reader quantity) }
 {
     let row = facts.row(reader)?;
-    asked(effect, row.block().executions())
+    asked(quantity, row.block().executions())
 }
 
 /// What those before the reader change the count by.
-fn counted<A: Allocator + Copy>(facts: &Facts<A>, reader: u32, counter: u16) -> Option<i64>
+fn counted<A: Allocator + Copy>(facts: &KnownFacts<A>, reader: u32, counter: u16) -> Option<i64>
     ensures { IfSome result (ComesTo facts.now (Count counter) reader) }
 {
     let _history = facts.history();
     let opening = first_count(facts, counter)?;
-    let wanted = asked_by(facts, reader, Effect::Count(counter))?;
+    let wanted = asked_by(facts, reader, Quantity::Count(counter))?;
     if !has_room(facts, counter, opening) {
         return None;
     }
@@ -71,30 +75,35 @@ fn counted<A: Allocator + Copy>(facts: &Facts<A>, reader: u32, counter: u16) -> 
 }
 
 /// What those before the reader come to on the element.
-fn found<A: Allocator + Copy>(facts: &Facts<A>, reader: u32, set: u16, element: i64) -> Option<i64>
+fn found<A: Allocator + Copy>(
+    facts: &KnownFacts<A>,
+    reader: u32,
+    set: u16,
+    element: i64,
+) -> Option<i64>
     ensures { IfSome result (ComesTo facts.now (Element set element) reader) }
 {
     let _history = facts.history();
     if !is_set(facts, set) {
         return None;
     }
-    asked_by(facts, reader, Effect::Element(set, element))
+    asked_by(facts, reader, Quantity::Element(set, element))
 }
 
 /// Whether the sum cannot be the number where the clause does not hold, by what is said of it as `start` says it.
 fn is_excluded<E: Estimate, A: Allocator + Copy>(
     alloc: A,
     start: E,
-    facts: &Facts<A>,
+    facts: &KnownFacts<A>,
     clause: &[Literal],
-    effect: Effect,
+    quantity: Quantity,
     reader: u32,
     number: i64,
 ) -> Result<bool, OutOfMemory>
-    requires { ComesTo facts.now effect reader number }
+    requires { ComesTo facts.now quantity reader number }
     ensures { IfOk result (λ yes. IsTrue yes → Holds facts.now clause.now) }
 {
-    match estimated(alloc, start, facts, clause, effect, reader)? {
+    match estimated(alloc, start, facts, clause, quantity, reader)? {
         Some(sum) => Ok(sum.excludes(number)),
         None => Ok(false),
     }
@@ -102,7 +111,7 @@ fn is_excluded<E: Estimate, A: Allocator + Copy>(
 
 /// Whether the transaction's block contradicts itself on the counter.
 fn is_clash<A: Allocator + Copy>(
-    facts: &Facts<A>,
+    facts: &KnownFacts<A>,
     clause: &[Literal],
     tx: u32,
     counter: u16,
@@ -118,7 +127,7 @@ fn is_clash<A: Allocator + Copy>(
         return false;
     }
     match facts.row(tx) {
-        Some(row) => contradict(Effect::Count(counter), row.block().executions()),
+        Some(row) => contradict(Quantity::Count(counter), row.block().executions()),
         None => false,
     }
 }
@@ -127,14 +136,14 @@ impl Law for SumLaw {
     fn is_right<A: Allocator + Copy>(
         &self,
         alloc: A,
-        facts: &Facts<A>,
+        facts: &KnownFacts<A>,
         clause: &[Literal],
     ) -> Result<bool, OutOfMemory> {
         match self {
             SumLaw::Counter(reader, counter) => match counted(facts, *reader, *counter) {
                 Some(number) => {
-                    let effect = Effect::Count(*counter);
-                    is_excluded(alloc, NOTHING, facts, clause, effect, *reader, number)
+                    let quantity = Quantity::Count(*counter);
+                    is_excluded(alloc, NOTHING, facts, clause, quantity, *reader, number)
                 }
                 None => Ok(false),
             },
@@ -142,8 +151,8 @@ impl Law for SumLaw {
                 match counted(facts, *reader, *counter) {
                     Some(number) => {
                         let start = Remainder::zero_of(*modulus);
-                        let effect = Effect::Count(*counter);
-                        is_excluded(alloc, start, facts, clause, effect, *reader, number)
+                        let quantity = Quantity::Count(*counter);
+                        is_excluded(alloc, start, facts, clause, quantity, *reader, number)
                     }
                     None => Ok(false),
                 }
@@ -151,8 +160,8 @@ impl Law for SumLaw {
             SumLaw::Element(reader, set, element) => {
                 match found(facts, *reader, *set, *element) {
                     Some(number) => {
-                        let effect = Effect::Element(*set, *element);
-                        is_excluded(alloc, NOTHING, facts, clause, effect, *reader, number)
+                        let quantity = Quantity::Element(*set, *element);
+                        is_excluded(alloc, NOTHING, facts, clause, quantity, *reader, number)
                     }
                     None => Ok(false),
                 }

@@ -29,7 +29,7 @@ impl Remainder {
         Remainder { rest: 0, modulus }
     }
 
-    /// The same of the rest alone.
+    /// Of the same modulus, with this rest.
     fn of(self, rest: i64) -> Remainder
         ensures { result ≡ record { rest = rest; modulus = self.modulus } }
     {

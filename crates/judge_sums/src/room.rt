@@ -2,22 +2,22 @@
 
 ghost use Rattle.std.specs.Prelude.{◌≡◌, pos, Some, slice_get, IfSome, IsTrue};
 ghost use Rattle.aud_history.specs.Table.{RowOf, transactions, table_of};
-ghost use Rattle.search_model.specs.declared.effect.Effect.TheVariants.{Count};
-ghost use Rattle.search_model.specs.Effects.{reach_by, reaches, reach_of};
+ghost use Rattle.search_model.specs.declared.quantity.Quantity.TheVariants.{Count};
+ghost use Rattle.search_model.specs.Quantities.{reach_by, reaches, reach_of};
 ghost use Rattle.judge_sums.specs.Sums.{sum_of};
 ghost use Rattle.judge_sums.specs.Room.{HasRoomForAll, IsWider};
 
 use crate::bounds::Bounds;
 use aud_object::Execution;
-use judge_clauses::Facts;
-use search_model::{Effect, change_by};
+use judge_clauses::KnownFacts;
+use search_model::{Quantity, change_by};
 use std::alloc::Allocator;
 
 /// What a count lies between, if it lay between these before the execution.
 fn after_one(room: Bounds, counter: u16, execution: &Execution) -> Option<Bounds>
     ensures { IfSome result (λ wide. IsWider wide room (pos (reach_by (Count counter) execution.now))) }
 {
-    let change = change_by(Effect::Count(counter), execution);
+    let change = change_by(Quantity::Count(counter), execution);
     if change < 0 {
         Some(Bounds {
             low: room.low.checked_add(change)?,
@@ -46,7 +46,7 @@ fn after_some(room: Bounds, counter: u16, executions: &[Execution]) -> Option<Bo
 fn after_row<A: Allocator + Copy>(
     room: Bounds,
     counter: u16,
-    facts: &Facts<A>,
+    facts: &KnownFacts<A>,
     place: usize,
 ) -> Option<Bounds>
     ensures { IfSome result (λ wide. (row : RowOf) → slice_get (table_of facts.now.history) place ≡ Some row → IsWider wide room (pos (reaches (Count counter) row.block.executions))) }
@@ -59,7 +59,11 @@ fn after_row<A: Allocator + Copy>(
 }
 
 /// What a count lies between, if it lay between these before some of the transactions ran.
-fn after_rows<A: Allocator + Copy>(room: Bounds, counter: u16, facts: &Facts<A>) -> Option<Bounds>
+fn after_rows<A: Allocator + Copy>(
+    room: Bounds,
+    counter: u16,
+    facts: &KnownFacts<A>,
+) -> Option<Bounds>
     ensures { IfSome result (λ wide. IsWider wide room (sum_of (λ t. pos (reach_of facts.now.history (Count counter) t)) (transactions facts.now.history))) }
 {
     let mut wide = room;
@@ -70,7 +74,11 @@ fn after_rows<A: Allocator + Copy>(room: Bounds, counter: u16, facts: &Facts<A>)
 }
 
 /// Whether the counter, which opens at the count, stays in its range whichever transactions run.
-pub(crate) fn has_room<A: Allocator + Copy>(facts: &Facts<A>, counter: u16, opening: i64) -> bool
+pub(crate) fn has_room<A: Allocator + Copy>(
+    facts: &KnownFacts<A>,
+    counter: u16,
+    opening: i64,
+) -> bool
     ensures { IsTrue result → HasRoomForAll facts.now counter opening }
 {
     let room = Bounds {

@@ -18,6 +18,7 @@ struct Sign {
     cell: i64,
 }
 
+/// The element, the key, or 0.
 fn number_of(cell: Cell) -> i64 {
     match cell {
         Cell::Whole => 0,
@@ -25,6 +26,7 @@ fn number_of(cell: Cell) -> i64 {
     }
 }
 
+/// What stands for the atom in a map of atoms.
 fn sign_of(atom: Atom) -> Sign {
     let none = Sign {
         case: 0,
@@ -40,7 +42,7 @@ fn sign_of(atom: Atom) -> Sign {
             second,
             ..none
         },
-        Atom::Kept(first) => Sign {
+        Atom::Commits(first) => Sign {
             case: 1,
             first,
             ..none
@@ -78,6 +80,7 @@ struct Saying {
     holds: bool,
 }
 
+/// That the first transaction stands before the second, by the atom that names the smaller number first.
 fn before(first: u32, second: u32) -> Saying {
     if first <= second {
         Saying {
@@ -97,11 +100,11 @@ fn plain(fields: Fields<'_>) -> Option<Saying> {
     match (fields.word()?, fields.len()) {
         ("before", 3) => Some(before(fields.number(1)?, fields.number(2)?)),
         ("commits", 2) => Some(Saying {
-            atom: Atom::Kept(fields.number(1)?),
+            atom: Atom::Commits(fields.number(1)?),
             holds: true,
         }),
         ("aborts", 2) => Some(Saying {
-            atom: Atom::Kept(fields.number(1)?),
+            atom: Atom::Commits(fields.number(1)?),
             holds: false,
         }),
         ("sees", 4) => {
@@ -140,6 +143,7 @@ pub(crate) struct Atoms {
 }
 
 impl Atoms {
+    /// No atoms. It does not allocate.
     pub(crate) fn new(alloc: Global) -> Atoms {
         Atoms {
             atoms: Vec::new(alloc),
@@ -147,10 +151,12 @@ impl Atoms {
         }
     }
 
+    /// The atoms, each at the place of its number.
     pub(crate) fn into_list(self) -> Vec<Atom> {
         self.atoms
     }
 
+    /// The number of the atom, which is the next one if the atom is new.
     fn number(&mut self, atom: Atom) -> Result<u32, OutOfMemory> {
         let sign = sign_of(atom);
         if let Some(number) = self.numbers.get(&sign) {

@@ -30,10 +30,12 @@ impl<'a> Fields<'a> {
         })
     }
 
+    /// How many there are.
     pub(crate) fn len(self) -> usize {
         self.values.len()
     }
 
+    /// The one at the place, if there is one.
     fn value(self, place: usize) -> Option<&'a Value> {
         self.values.get(place)
     }

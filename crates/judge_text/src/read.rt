@@ -129,6 +129,7 @@ struct Steps {
 }
 
 impl Steps {
+    /// Adds a step with the number of its line.
     fn add(&mut self, step: Step<ObjectLaw>, line: usize) -> Result<(), OutOfMemory> {
         self.steps.push(step)?;
         self.lines.push(line)?;

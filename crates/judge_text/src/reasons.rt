@@ -18,6 +18,7 @@ fn numbers(alloc: Global, fields: Fields<'_>) -> Result<Option<Vec<u32>>, OutOfM
     Ok(Some(list))
 }
 
+/// The law of cells that the fields spell, if they spell one.
 fn cell_law(fields: Fields<'_>) -> Option<CellLaw> {
     match (fields.word()?, fields.len()) {
         ("sources", 3) => Some(CellLaw::Sources(fields.read(1)?)),
@@ -35,6 +36,7 @@ fn cell_law(fields: Fields<'_>) -> Option<CellLaw> {
     }
 }
 
+/// The law of sums that the fields spell, if they spell one.
 fn sum_law(fields: Fields<'_>) -> Option<SumLaw> {
     match (fields.word()?, fields.len()) {
         ("counter", 3) => Some(SumLaw::Counter(fields.number(1)?, fields.object(2)?)),
@@ -61,6 +63,7 @@ fn front(fields: Fields<'_>, place: usize) -> Option<Front> {
     })
 }
 
+/// The law of queues that the fields spell, if they spell one.
 fn queue_law(fields: Fields<'_>) -> Option<QueueLaw> {
     match (fields.word()?, fields.len()) {
         ("items", 4) => Some(QueueLaw::Items(fields.take(1)?)),
@@ -95,6 +98,7 @@ fn queue_law(fields: Fields<'_>) -> Option<QueueLaw> {
     }
 }
 
+/// The law of objects that the fields spell, if they spell one.
 fn law(fields: Fields<'_>) -> Option<ObjectLaw> {
     if let Some(law) = cell_law(fields) {
         return Some(ObjectLaw::Cell(law));
@@ -116,7 +120,7 @@ pub(crate) fn reason(
             None => Ok(None),
         },
         Some("turn") => match numbers(alloc, fields)? {
-            Some(circle) => Ok(Some(Reason::Turn(circle))),
+            Some(circle) => Ok(Some(Reason::Circle(circle))),
             None => Ok(None),
         },
         Some(_) => match law(fields) {

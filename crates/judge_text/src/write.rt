@@ -7,6 +7,7 @@ use judge_laws::{CellLaw, ObjectLaw, QueueLaw, SumLaw};
 use search_model::Cell;
 use std::alloc::{Allocator, Global};
 
+/// The part as it is.
 fn text_of(text: &mut Vec<u8>, part: &str) -> Result<(), OutOfMemory> {
     text.extend_from_slice(part.as_bytes())?;
     Ok(())
@@ -51,11 +52,13 @@ fn cell(text: &mut Vec<u8>, plan: &Plan, of: u16, cell: Cell) -> Result<(), OutO
     }
 }
 
+/// A comma, the reader, and the cell.
 fn read(text: &mut Vec<u8>, plan: &Plan, read: Read) -> Result<(), OutOfMemory> {
     number(text, read.reader)?;
     cell(text, plan, read.object, read.cell)
 }
 
+/// A comma, the taker, its queue, and the number of the take.
 fn take(text: &mut Vec<u8>, plan: &Plan, take: Take) -> Result<(), OutOfMemory> {
     number(text, take.taker)?;
     object(text, plan, take.object)?;
@@ -70,6 +73,7 @@ fn sign(text: &mut Vec<u8>, holds: bool) -> Result<(), OutOfMemory> {
     text_of(text, "[\"not\",")
 }
 
+/// The atom, as it is so or not so.
 fn atom(text: &mut Vec<u8>, plan: &Plan, atom: Atom, holds: bool) -> Result<(), OutOfMemory> {
     match atom {
         Atom::Before(first, second) => {
@@ -82,7 +86,7 @@ fn atom(text: &mut Vec<u8>, plan: &Plan, atom: Atom, holds: bool) -> Result<(), 
             number(text, first)?;
             number(text, second)?;
         }
-        Atom::Kept(tx) => {
+        Atom::Commits(tx) => {
             text_of(text, if holds { "[\"commits\"" } else { "[\"aborts\"" })?;
             number(text, tx)?;
         }
@@ -109,6 +113,7 @@ fn atom(text: &mut Vec<u8>, plan: &Plan, atom: Atom, holds: bool) -> Result<(), 
     text_of(text, "]")
 }
 
+/// The literals of the clause, with commas between.
 fn literals<A: Allocator>(
     text: &mut Vec<u8>,
     plan: &Plan,
@@ -127,6 +132,7 @@ fn literals<A: Allocator>(
     Ok(())
 }
 
+/// The word and the numbers.
 fn numbers(text: &mut Vec<u8>, word: &str, list: &[u32]) -> Result<(), OutOfMemory> {
     text_of(text, word)?;
     for of in list {
@@ -135,6 +141,7 @@ fn numbers(text: &mut Vec<u8>, word: &str, list: &[u32]) -> Result<(), OutOfMemo
     Ok(())
 }
 
+/// A comma, and the source, or `null`.
 fn source(text: &mut Vec<u8>, source: Option<u32>) -> Result<(), OutOfMemory> {
     match source {
         Some(tx) => number(text, tx),
@@ -142,6 +149,7 @@ fn source(text: &mut Vec<u8>, source: Option<u32>) -> Result<(), OutOfMemory> {
     }
 }
 
+/// The law of cells, as the fields of a reason.
 fn cell_law(text: &mut Vec<u8>, plan: &Plan, law: CellLaw) -> Result<(), OutOfMemory> {
     match law {
         CellLaw::Sources(seen) => {
@@ -167,6 +175,7 @@ fn cell_law(text: &mut Vec<u8>, plan: &Plan, law: CellLaw) -> Result<(), OutOfMe
     }
 }
 
+/// The law of sums, as the fields of a reason.
 fn sum_law(text: &mut Vec<u8>, plan: &Plan, law: SumLaw) -> Result<(), OutOfMemory> {
     match law {
         SumLaw::Counter(reader, of) => {
@@ -194,6 +203,7 @@ fn sum_law(text: &mut Vec<u8>, plan: &Plan, law: SumLaw) -> Result<(), OutOfMemo
     }
 }
 
+/// The law of queues, as the fields of a reason.
 fn queue_law(text: &mut Vec<u8>, plan: &Plan, law: QueueLaw) -> Result<(), OutOfMemory> {
     match law {
         QueueLaw::Items(taken) => {
@@ -237,6 +247,7 @@ fn queue_law(text: &mut Vec<u8>, plan: &Plan, law: QueueLaw) -> Result<(), OutOf
     }
 }
 
+/// The fields of the reason.
 fn reason<A: Allocator>(
     text: &mut Vec<u8>,
     plan: &Plan,
@@ -244,13 +255,14 @@ fn reason<A: Allocator>(
 ) -> Result<(), OutOfMemory> {
     match reason {
         Reason::Units(list) => numbers(text, "\"units\"", list),
-        Reason::Turn(list) => numbers(text, "\"turn\"", list),
+        Reason::Circle(list) => numbers(text, "\"turn\"", list),
         Reason::Law(ObjectLaw::Cell(law)) => cell_law(text, plan, *law),
         Reason::Law(ObjectLaw::Sum(law)) => sum_law(text, plan, *law),
         Reason::Law(ObjectLaw::Queue(law)) => queue_law(text, plan, *law),
     }
 }
 
+/// The line of the step.
 fn step<A: Allocator>(
     text: &mut Vec<u8>,
     plan: &Plan,

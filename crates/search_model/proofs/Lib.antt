@@ -1,3 +1,4 @@
 pub mod Adding
 pub mod Deeds
 pub mod Lists
+pub mod Yes

@@ -16,6 +16,7 @@ use Rattle.search_model.specs.declared.cell.Cell.{Cell}
 use Rattle.search_model.specs.declared.cell.Cell.TheVariants.{Whole, Element, Key}
 use Rattle.search_model.specs.declared.cell.Need.{Need}
 use Rattle.search_model.specs.declared.cell.Need.TheVariants.{Absent, Present, Holding}
+use Rattle.search_model.specs.Quantities.{is_yes}
 
 -- the state is of the cell's kind
 abbrev pub is_cell : Cell → ObjState → Bool
@@ -52,14 +53,10 @@ cell_of _ = None
 
 -- # An operation that was answered
 
-abbrev pub told_so : Answer → Bool
-told_so (Flag b) = b
-told_so _ = false
-
 -- what a flag tells of the cell
-abbrev pub told : Need → Need → Answer → Option Need
-told so not_so (Flag b) = Some (if b then so else not_so)
-told so not_so _ = None
+abbrev pub flagged : Need → Need → Answer → Option Need
+flagged so not_so (Flag b) = Some (if b then so else not_so)
+flagged so not_so _ = None
 
 abbrev pub looked : Answer → Option Need
 looked (Int v) = Some (Holding v)
@@ -73,23 +70,23 @@ read _ = None
 -- what it needs of the cell
 abbrev pub asks : Cell → Op → Answer → Option Need
 asks Whole op.Read answer = read answer
-asks (Element e) (op.Add v) answer = if int_eq e v then told Absent (Holding (pos 0)) answer else None
-asks (Element e) (op.Remove v) answer = if int_eq e v then told (Holding (pos 0)) Absent answer else None
-asks (Element e) (op.Contains v) answer = if int_eq e v then told (Holding (pos 0)) Absent answer else None
+asks (Element e) (op.Add v) answer = if int_eq e v then flagged Absent (Holding (pos 0)) answer else None
+asks (Element e) (op.Remove v) answer = if int_eq e v then flagged (Holding (pos 0)) Absent answer else None
+asks (Element e) (op.Contains v) answer = if int_eq e v then flagged (Holding (pos 0)) Absent answer else None
 asks (Key k) (op.Look j) answer = if int_eq k j then looked answer else None
-asks (Key k) (op.Del j) answer = if int_eq k j then told Present Absent answer else None
+asks (Key k) (op.Del j) answer = if int_eq k j then flagged Present Absent answer else None
 asks _ _ answer = None
 
 -- what it leaves in the cell, if it changes it
 abbrev pub puts : Cell → Op → Answer → Option (Option ℤ)
 puts Whole (op.Write v) answer = Some (Some v)
-puts (Element e) (op.Add v) answer = if int_eq e v && told_so answer then Some (Some (pos 0)) else None
-puts (Element e) (op.Remove v) answer = if int_eq e v && told_so answer then Some None else None
+puts (Element e) (op.Add v) answer = if int_eq e v && is_yes answer then Some (Some (pos 0)) else None
+puts (Element e) (op.Remove v) answer = if int_eq e v && is_yes answer then Some None else None
 puts (Key k) (op.Put j v) answer = if int_eq k j then Some (Some v) else None
-puts (Key k) (op.Del j) answer = if int_eq k j && told_so answer then Some None else None
+puts (Key k) (op.Del j) answer = if int_eq k j && is_yes answer then Some None else None
 puts _ _ answer = None
 
--- the same of an execution, which may be on another object
+-- what an execution, which may be on another object, needs of the cell, and what it leaves there
 abbrev pub asks_by : Cell → ℕ → Execution → Option Need
 asks_by c x e = if nat_eq e.object x then asks c e.op e.answer else None
 

@@ -1,4 +1,4 @@
 pub mod Cells
-pub mod Effects
+pub mod Quantities
 pub mod Queues
 pub mod Blocks

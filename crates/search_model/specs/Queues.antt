@@ -28,7 +28,7 @@ abbrev pub takes : ℕ → List Execution → ℕ
 takes x [] = 0
 takes x (e ∷ es) = (if nat_eq e.object x && is_take e.op e.answer then 1 else 0) + takes x es
 
--- the same of T in H
+-- how many items T in H adds to the queue, and how many it takes from it
 abbrev pub adds_of : History → ℕ → ℕ → ℕ
 adds_of h x t = adds x (row_of h t).block.executions
 

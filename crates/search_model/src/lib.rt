@@ -5,17 +5,17 @@
 
 mod cell;
 mod cells;
-mod effect;
 mod numbers;
 mod operations;
+mod quantity;
 mod queues;
 
 pub use cell::{Cell, Need};
 pub use cells::{leaves, meets, moves, needs};
-pub use effect::{Effect, object_of};
 pub use numbers::{asked, change_by, contradict, net};
 pub use operations::{
-    added_item, asks, cell_of, count_change, count_told, is_addition, is_addition_of, puts,
+    added_item, asks, cell_of, count_change, count_seen, is_addition, is_addition_of, puts,
     taken_item,
 };
+pub use quantity::{Quantity, object_of};
 pub use queues::{Asked, adds_value, asked_at, count_takes, place_of_take, takes_value};

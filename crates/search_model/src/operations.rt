@@ -3,8 +3,8 @@
 ghost use Rattle.std.specs.Prelude.{◌≡◌, ◌-ℤ◌, ◌&&◌, true, nat_eq, IsTrue};
 ghost use Rattle.aud_event.specs.declared.object.Op.TheVariants.{Deq};
 ghost use Rattle.search_model.specs.Blocks.{is_take_of, is_addition_of, added_item, taken_item};
-ghost use Rattle.search_model.specs.Cells.{cell_of, told_so, told, looked, read, asks, puts};
-ghost use Rattle.search_model.specs.Effects.{is_yes, count_change, element_change, take, addition, member_told, absence_told, element_told, count_told};
+ghost use Rattle.search_model.specs.Cells.{cell_of, flagged, looked, read, asks, puts};
+ghost use Rattle.search_model.specs.Quantities.{is_yes, count_change, element_change, take, addition, member_seen, absence_seen, element_seen, count_seen};
 ghost use Rattle.search_model.specs.Queues.{is_addition, is_take};
 
 use crate::cell::{Cell, Need};
@@ -25,19 +25,9 @@ pub fn cell_of(op: Op) -> Option<Cell>
     }
 }
 
-/// Whether the answer is yes.
-fn told_so(answer: Answer) -> bool
-    ensures { result ≡ told_so answer }
-{
-    match answer {
-        Answer::Flag(flag) => flag,
-        _ => false,
-    }
-}
-
 /// What a flag tells of the cell.
 fn flagged(so: Need, not_so: Need, answer: Answer) -> Option<Need>
-    ensures { result ≡ told so not_so answer }
+    ensures { result ≡ flagged so not_so answer }
 {
     match answer {
         Answer::Flag(flag) => Some(if flag { so } else { not_so }),
@@ -95,14 +85,14 @@ pub fn puts(cell: Cell, op: Op, answer: Answer) -> Option<Option<i64>>
 {
     match (cell, op) {
         (Cell::Whole, Op::Write(value)) => Some(Some(value)),
-        (Cell::Element(element), Op::Add(value)) if element == value && told_so(answer) => {
+        (Cell::Element(element), Op::Add(value)) if element == value && is_yes(answer) => {
             Some(Some(0))
         }
-        (Cell::Element(element), Op::Remove(value)) if element == value && told_so(answer) => {
+        (Cell::Element(element), Op::Remove(value)) if element == value && is_yes(answer) => {
             Some(None)
         }
         (Cell::Key(key), Op::Put(other, value)) if key == other => Some(Some(value)),
-        (Cell::Key(key), Op::Del(other)) if key == other && told_so(answer) => Some(None),
+        (Cell::Key(key), Op::Del(other)) if key == other && is_yes(answer) => Some(None),
         _ => None,
     }
 }
@@ -172,8 +162,8 @@ pub(crate) fn shortening(op: Op, answer: Answer) -> i64
 }
 
 /// 1 where the answer says that the element is in the set, 0 where it says that it is not.
-pub(crate) fn member_told(answer: Answer) -> Option<i64>
-    ensures { result ≡ member_told answer }
+pub(crate) fn member_seen(answer: Answer) -> Option<i64>
+    ensures { result ≡ member_seen answer }
 {
     match answer {
         Answer::Flag(true) => Some(1),
@@ -182,9 +172,9 @@ pub(crate) fn member_told(answer: Answer) -> Option<i64>
     }
 }
 
-/// The same of an answer that says the opposite.
-pub(crate) fn absence_told(answer: Answer) -> Option<i64>
-    ensures { result ≡ absence_told answer }
+/// 0 where the answer says that the element was not in the set and came in, 1 where it says that it was in it.
+pub(crate) fn absence_seen(answer: Answer) -> Option<i64>
+    ensures { result ≡ absence_seen answer }
 {
     match answer {
         Answer::Flag(true) => Some(0),
@@ -194,20 +184,20 @@ pub(crate) fn absence_told(answer: Answer) -> Option<i64>
 }
 
 /// What an operation that answered so tells of the element, as 1 or 0.
-pub(crate) fn element_told(element: i64, op: Op, answer: Answer) -> Option<i64>
-    ensures { result ≡ element_told element op answer }
+pub(crate) fn element_seen(element: i64, op: Op, answer: Answer) -> Option<i64>
+    ensures { result ≡ element_seen element op answer }
 {
     match op {
-        Op::Add(value) if value == element => absence_told(answer),
-        Op::Remove(value) if value == element => member_told(answer),
-        Op::Contains(value) if value == element => member_told(answer),
+        Op::Add(value) if value == element => absence_seen(answer),
+        Op::Remove(value) if value == element => member_seen(answer),
+        Op::Contains(value) if value == element => member_seen(answer),
         _ => None,
     }
 }
 
 /// What an operation that answered so tells of a count.
-pub fn count_told(op: Op, answer: Answer) -> Option<i64>
-    ensures { result ≡ count_told op answer }
+pub fn count_seen(op: Op, answer: Answer) -> Option<i64>
+    ensures { result ≡ count_seen op answer }
 {
     match (op, answer) {
         (Op::Get, Answer::Int(count)) => Some(count),

@@ -5,9 +5,9 @@ use mir.Val.{to_z, of_z}
 use Rattle.base_values.proofs.Bools.{is_false, nat_eq-is}
 use Rattle.judge_clauses.specs.Clauses.{Unless}
 use Rattle.judge_sums.specs.declared.bounds.Bounds.{Bounds}
-use Rattle.search_model.specs.declared.effect.Effect.TheVariants.{Takes, Additions}
+use Rattle.search_model.specs.declared.quantity.Quantity.TheVariants.{Takes, Additions}
 use Rattle.judge_sums.specs.Between.{IsWithin}
-use Rattle.search_model.specs.Effects.{net_of}
+use Rattle.search_model.specs.Quantities.{net_of}
 use Rattle.judge_sums.specs.Sums.{total}
 use Rattle.judge_queues.proofs.Lawful.{taker-behind, valid-place}
 use Rattle.judge_queues.proofs.places.is_other_displaced.Goals as goal

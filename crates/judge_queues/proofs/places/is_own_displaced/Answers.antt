@@ -4,9 +4,9 @@ use Rattle.std.proofs.lemmas.Int.{ints}
 use mir.Val.{to_z, of_z}
 use Rattle.judge_clauses.specs.Clauses.{Unless}
 use Rattle.judge_sums.specs.declared.bounds.Bounds.{Bounds}
-use Rattle.search_model.specs.declared.effect.Effect.TheVariants.{Shortening}
+use Rattle.search_model.specs.declared.quantity.Quantity.TheVariants.{Shortening}
 use Rattle.judge_sums.specs.Between.{IsWithin}
-use Rattle.search_model.specs.Effects.{net_of}
+use Rattle.search_model.specs.Quantities.{net_of}
 use Rattle.judge_sums.specs.Sums.{total}
 use Rattle.judge_queues.proofs.Lawful.{valid-own}
 use Rattle.judge_queues.proofs.places.is_own_displaced.Goals as goal

@@ -4,7 +4,7 @@ use Rattle.std.proofs.Common.{subst, sym, ◌∙◌, arith}
 use Rattle.std.proofs.lemmas.Int.{ints}
 use Rattle.aud_event.specs.declared.object.Answer.{Answer}
 use Rattle.aud_event.specs.declared.object.Answer.TheVariants.{Empty}
-use Rattle.search_model.specs.declared.effect.Effect.TheVariants.{Shortening}
+use Rattle.search_model.specs.declared.quantity.Quantity.TheVariants.{Shortening}
 use Rattle.judge_sums.specs.Laws.{ComesTo}
 use Rattle.judge_queues.specs.Laws.{AsksIn}
 use Rattle.judge_queues.proofs.Lawful.{empty-comes}

@@ -3,7 +3,7 @@ use Rattle.std.specs.Option.{SomeIff}
 use Rattle.std.proofs.Common.{sym, ◌∙◌, subst, rules, w64, arith}
 use Rattle.std.proofs.lemmas.Int.{ints, to_z-of_z}
 use mir.Val.{SFits}
-use Rattle.search_model.specs.declared.effect.Effect.TheVariants.{Count}
+use Rattle.search_model.specs.declared.quantity.Quantity.TheVariants.{Count}
 use Rattle.judge_sums.specs.Laws.{ComesTo}
 use Rattle.judge_sums.specs.Room.{HasRoomForAll}
 use Rattle.judge_sums.proofs.Lawful.{count-comes}

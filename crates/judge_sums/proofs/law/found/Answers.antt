@@ -3,7 +3,7 @@ use Rattle.std.proofs.Common.{subst, w64}
 use Rattle.std.proofs.lemmas.Int.{to_z-of_z}
 use Rattle.std.proofs.lemmas.Option.{IfSome_then}
 use mir.Val.{to_z, of_z}
-use Rattle.search_model.specs.declared.effect.Effect.TheVariants.{Element}
+use Rattle.search_model.specs.declared.quantity.Quantity.TheVariants.{Element}
 use Rattle.judge_sums.specs.Laws.{ComesTo}
 use Rattle.judge_sums.proofs.Lawful.{element-comes}
 use Rattle.judge_sums.proofs.law.found.Goals as goal

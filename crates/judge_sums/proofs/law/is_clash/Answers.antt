@@ -4,8 +4,8 @@ use Rattle.std.proofs.lemmas.Int.{to_z-of_z}
 use mir.Val.{SFits}
 use Rattle.aud_object.specs.Blocks.{BlockOf}
 use Rattle.aud_history.specs.Table.{RowOf, row_of}
-use Rattle.search_model.specs.declared.effect.Effect.TheVariants.{Count}
-use Rattle.search_model.specs.Effects.{Contradict}
+use Rattle.search_model.specs.declared.quantity.Quantity.TheVariants.{Count}
+use Rattle.search_model.specs.Quantities.{Contradict}
 use Rattle.judge_sums.specs.Room.{HasRoomForAll}
 use Rattle.judge_sums.proofs.Lawful.{valid-clash}
 use Rattle.judge_sums.proofs.law.is_clash.Goals as goal

@@ -4,8 +4,8 @@ use Rattle.std.proofs.lemmas.Int.{ints}
 use Rattle.std.proofs.lemmas.Option.{IfSome_then}
 use Rattle.aud_object.specs.Blocks.{BlockOf}
 use Rattle.aud_history.specs.Table.{RowOf, table_of}
-use Rattle.search_model.specs.declared.effect.Effect.TheVariants.{Count}
-use Rattle.search_model.specs.Effects.{reaches}
+use Rattle.search_model.specs.declared.quantity.Quantity.TheVariants.{Count}
+use Rattle.search_model.specs.Quantities.{reaches}
 use Rattle.judge_sums.specs.Room.{IsWider}
 use Rattle.judge_sums.proofs.Adding.{reaches-untouched}
 use Rattle.judge_sums.proofs.Bounding.{found-row}

@@ -4,8 +4,8 @@ use Rattle.std.proofs.lemmas.Int.{ints}
 use Rattle.std.proofs.lemmas.List.{take_all}
 use Rattle.std.proofs.Math.ListN.{length-map}
 use Rattle.aud_history.specs.Table.{transactions, row_of, table_of}
-use Rattle.search_model.specs.declared.effect.Effect.TheVariants.{Count}
-use Rattle.search_model.specs.Effects.{reach_of}
+use Rattle.search_model.specs.declared.quantity.Quantity.TheVariants.{Count}
+use Rattle.search_model.specs.Quantities.{reach_of}
 use Rattle.judge_sums.specs.Room.{IsWider}
 use Rattle.judge_sums.specs.Sums.{sum_of}
 use Rattle.judge_sums.proofs.Adding.{sum_of-more}

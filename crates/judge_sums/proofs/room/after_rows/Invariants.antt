@@ -1,7 +1,7 @@
 use Rattle.std.proofs.Common.{pos, take}
 use Rattle.aud_history.specs.Table.{transactions}
-use Rattle.search_model.specs.declared.effect.Effect.TheVariants.{Count}
-use Rattle.search_model.specs.Effects.{reach_of}
+use Rattle.search_model.specs.declared.quantity.Quantity.TheVariants.{Count}
+use Rattle.search_model.specs.Quantities.{reach_of}
 use Rattle.judge_sums.specs.Room.{IsWider}
 use Rattle.judge_sums.specs.Sums.{sum_of}
 use Rattle.judge_sums.proofs.room.after_rows.Given as goal

@@ -1,6 +1,6 @@
 use Rattle.std.proofs.Common.{arith}
 use Rattle.std.proofs.lemmas.Int.{ints}
-use Rattle.search_model.specs.declared.effect.Effect.TheVariants.{Count}
+use Rattle.search_model.specs.declared.quantity.Quantity.TheVariants.{Count}
 use Rattle.search_model.proofs.Adding.{idle}
 use Rattle.judge_sums.proofs.Adding.{reaches-more}
 use Rattle.judge_sums.proofs.room.after_some.Goals as goal

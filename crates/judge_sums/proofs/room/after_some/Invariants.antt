@@ -1,6 +1,6 @@
 use Rattle.std.proofs.Common.{pos, take}
-use Rattle.search_model.specs.declared.effect.Effect.TheVariants.{Count}
-use Rattle.search_model.specs.Effects.{reaches}
+use Rattle.search_model.specs.declared.quantity.Quantity.TheVariants.{Count}
+use Rattle.search_model.specs.Quantities.{reaches}
 use Rattle.judge_sums.specs.Room.{IsWider}
 use Rattle.judge_sums.proofs.room.after_some.Given as goal
 

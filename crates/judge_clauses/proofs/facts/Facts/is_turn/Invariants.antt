@@ -1,5 +1,0 @@
-use Rattle.judge_clauses.specs.Clauses.{Unless, IsUpTo}
-use Rattle.judge_clauses.proofs.facts.Facts.is_turn.Given as goal
-
-abbrev pub invariant-loop-i : goal.invariant-loop-i
-invariant-loop-i g l = Unless l.self l.clause (λ p. IsUpTo p l.first l.last)

@@ -1,6 +1,0 @@
-use Rattle.std.specs.Prelude.{◌≡◌, length}
-use Rattle.judge_clauses.specs.Values.{atom_of, AreTold}
-use Rattle.judge_clauses.proofs.facts.Facts.sure_values.Given as goal
-
-abbrev pub invariant-loop-row : goal.invariant-loop-row
-invariant-loop-row g l = (length l.values.items ≡ l.row-index) × (AreTold l.self l.clause (atom_of l.question) l.values.items)
