@@ -1,4 +1,4 @@
--- Lists of decisions that are read one after the other.
+-- Prefixes that are read one after the other.
 use Rattle.std.proofs.Common.{◌≡◌, ◌<◌, ◌+◌, ◌*◌, ◌/◌, ◌%◌, ℕ, List, [], ◌∷◌, ◌++◌, length, Some, decimal, flat_map, append_assoc, ap, subst, sym, ◌∙◌, arith}
 use Rattle.std.specs.List.{All}
 use Rattle.std.proofs.lemmas.Fmt.{decimal_digit, decimal_step}

@@ -9,7 +9,7 @@ use aud_event::{Dup, OutOfMemory};
 use aud_order::Shape;
 use aud_witness::{Decision, Prefix};
 use cert_accept::{Cert, CertLine};
-use search_memo::Recorder;
+use search_memo::{Recorder, RefutedBy};
 use std::alloc::{Allocator, Global};
 use std::marker::Model;
 
@@ -78,7 +78,8 @@ impl<'a, A: Allocator + Copy> Lines<'a, A> {
 }
 
 impl<'a, A: Allocator + Copy> Recorder<usize, A> for Lines<'a, A> {
-    ghost use Rattle.std.specs.Prelude.{◌≡◌, Some, map, slice_get};
+    ghost use Rattle.std.specs.Prelude.{◌≡◌, Some, map, slice_get, IfOk};
+    ghost use Rattle.search_memo.specs.Recorders.{IsHearable, IsReason};
     ghost use Rattle.cert_accept.specs.Acceptance.{prefix_in};
     ghost use Rattle.aud_cert.specs.Recorded.{IsLonger, noted_later, shape_later, longer_itself, longer_onward};
 
@@ -92,20 +93,21 @@ impl<'a, A: Allocator + Copy> Recorder<usize, A> for Lines<'a, A> {
         false
     }
 
-    fn note_kids(&mut self, list: &[Decision]) -> Result<usize, OutOfMemory> {
-        let prefix = Prefix::copy_of(self.alloc, list)?;
-        self.add(CertLine::Kids(prefix))
-    }
-
-    fn note_silent(&mut self, list: &[Decision], decision: Decision) -> Result<usize, OutOfMemory> {
-        let prefix = Prefix::copy_of(self.alloc, list)?;
-        self.add(CertLine::Silent(prefix, decision))
-    }
-
-    fn note_same(&mut self, list: &[Decision], note: usize) -> Result<usize, OutOfMemory> {
-        let other = self.prefix(note)?;
-        let prefix = Prefix::copy_of(self.alloc, list)?;
-        self.add(CertLine::Same(prefix, other))
+    fn note(&mut self, prefix: &[Decision], reason: RefutedBy<usize>) -> Result<usize, OutOfMemory>
+        requires { IsHearable (λ shape. self.old.shape ≡ shape) prefix.now
+            (λ shape. IsReason (λ note p. slice_get (map prefix_in self.old.lines) note ≡ Some p) shape prefix.now reason) }
+        ensures noted { IfOk result (λ note. slice_get (map prefix_in self.new.lines) note ≡ Some prefix.now) }
+        ensures grows { IsLonger self.old self.new }
+    {
+        let own = Prefix::copy_of(self.alloc, prefix)?;
+        match reason {
+            RefutedBy::Kids => self.add(CertLine::Kids(own)),
+            RefutedBy::Silent(decision) => self.add(CertLine::Silent(own, decision)),
+            RefutedBy::Same(note) => {
+                let other = self.prefix(note)?;
+                self.add(CertLine::Same(own, other))
+            }
+        }
     }
 
     ghost noted_stays = { λ r s note p on was. noted_later r s note p on was };

@@ -20,7 +20,7 @@ use Rattle.aud_witness.specs.Configurations.{status_allows}
 use Rattle.aud_witness.proofs.Bridge.{row-at, status-allowed}
 use Rattle.search_memo.specs.declared.choice.Choice.{Choice}
 use Rattle.aud_order.specs.Silent.{silent_fate}
-use Rattle.search_memo.specs.declared.choice.Effect.TheVariants.{Silent}
+use Rattle.search_memo.specs.declared.choice.Visibility.TheVariants.{Silent}
 use Rattle.search_memo.specs.Choices.{AreChoices, AreMarked, AreMarkedFrom, key_of, row_choices, both_choices, choices_from}
 
 abbrev Key : Type 0
@@ -258,11 +258,11 @@ marked-none h cs none c there mark = let (i, inside, is) = subst (λ l. Contains
 pub marked-same : (old new : List Choice) (t : ℕ) (silent : Option Fate) → new ≡ old → AreMarkedFrom old new t silent
 marked-same old new t silent same c there = inl (subst (λ l. Contains l c) same there)
 
-pub marked-push : (old new : List Choice) (t : ℕ) (silent : Option Fate) (x : Choice) → new ≡ old ++ x ∷ [] → (x.effect ≡ Silent → silent ≡ Some x.decision.fate) → x.decision.tx ≡ t → AreMarkedFrom old new t silent
+pub marked-push : (old new : List Choice) (t : ℕ) (silent : Option Fate) (x : Choice) → new ≡ old ++ x ∷ [] → (x.visibility ≡ Silent → silent ≡ Some x.decision.fate) → x.decision.tx ≡ t → AreMarkedFrom old new t silent
 marked-push old new t silent x grown mark of c there =
     elim (Contains-push_cases old x c (subst (λ l. Contains l c) grown there)) [
       | inl before ↦ inl before
-      | inr is ↦ inr (λ is_silent. (mark (ap (λ (y : Choice). y.effect) is ∙ is_silent) ∙ ap (λ (y : Choice). Some y.decision.fate) is, sym (ap (λ (y : Choice). y.decision.tx) is) ∙ of))
+      | inr is ↦ inr (λ is_silent. (mark (ap (λ (y : Choice). y.visibility) is ∙ is_silent) ∙ ap (λ (y : Choice). Some y.decision.fate) is, sym (ap (λ (y : Choice). y.decision.tx) is) ∙ of))
     ]
 
 pub marked-more : (h : History) (old mid new : List Choice) (t : ℕ) (silent : Option Fate) → AreMarked h old → AreMarkedFrom old mid t silent → AreMarkedFrom mid new t silent → silent ≡ silent_fate h t → AreMarked h new

@@ -16,40 +16,40 @@ use Rattle.aud_object.proofs.store.Store.TheSendSync as store
 use Rattle.search_memo.specs.declared.recorder.Recorder as recorder
 use Rattle.search_memo.specs.declared.shared.Scene as scene
 use Rattle.search_memo.specs.contracts.memo.Seen as Seen
-use Rattle.search_memo.specs.contracts.shared.Refutation as Refutation
+use Rattle.search_memo.specs.contracts.shared.RefutedEntry as RefutedEntry
 use Rattle.search_memo.specs.contracts.shared.Part as Part
 use Rattle.search_memo.specs.contracts.shared.Shared as Shared
 use Rattle.search_memo.specs.contracts.shared.Sharing as Sharing
-use Rattle.search_memo.specs.contracts.kept.Kept as Kept
+use Rattle.search_memo.specs.contracts.stored_states.StoredStates as StoredStates
 use Rattle.search_memo.specs.contracts.memo.Memo as Memo
 use Rattle.std.specs.contracts.vec.Vec as Vec
 use denote.Struct.Field as Field
 use Rattle.aud_order.specs.contracts.shape.Shape as Shape
-use Rattle.search_memo.specs.contracts.kept.Finder as Finder
+use Rattle.search_memo.specs.contracts.stored_states.Finder as Finder
 use Rattle.search_memo.specs.contracts.index.Index as Index
 use Rattle.search_memo.specs.contracts.visited_set.VisitedSet as VisitedSet
 use Rattle.search_memo.specs.contracts.memo.Transition as Transition
-use Rattle.search_memo.proofs.kept.Finder.TheSendSync as finder
+use Rattle.search_memo.proofs.stored_states.Finder.TheSendSync as finder
 use Rattle.search_memo.proofs.index.Index.TheSendSync as index
 use Rattle.search_memo.proofs.memo.Transition.TheSendSync as transition
 use Rattle.search_memo.proofs.recorder.Unnoted.TheSendSync as unnoted
 use Rattle.search_memo.proofs.visited_set.VisitedSet.TheSendSync as visited
 
 module _ (J A : RattleType) (s : scene.Ghosts J.Denot) (g : alloc.Ghosts A.Denot) where
-  refutation_send : IsSend A → IsSync A → Frees g g.dealloc_token → IsSend (Refutation.the_row J A s g)
-  refutation_send sa ya f = search (store.the_send, store.the_sync, arc.the_send, mark.the_field_send, sendable) depth 60 fits 20000
+  entry_send : IsSend A → IsSync A → Frees g g.dealloc_token → IsSend (RefutedEntry.the_row J A s g)
+  entry_send sa ya f = search (store.the_send, store.the_sync, arc.the_send, mark.the_field_send, sendable) depth 60 fits 20000
 
-  refutation_sync : IsSend A → IsSync A → Frees g g.dealloc_token → IsSync (Refutation.the_row J A s g)
-  refutation_sync sa ya f = search (store.the_send, store.the_sync, arc.the_sync, mark.the_field_sync, sendable) depth 60 fits 20000
+  entry_sync : IsSend A → IsSync A → Frees g g.dealloc_token → IsSync (RefutedEntry.the_row J A s g)
+  entry_sync sa ya f = search (store.the_send, store.the_sync, arc.the_sync, mark.the_field_sync, sendable) depth 60 fits 20000
 
   part_sync : IsSend A → IsSync A → Frees g g.dealloc_token → IsSync (Part.the_row J A s g)
-  part_sync sa ya f = search (refutation_send, refutation_sync, slot.the_send, slot.the_sync, vec.the_send, vec.the_sync, sendable) depth 60 fits 20000
+  part_sync sa ya f = search (entry_send, entry_sync, slot.the_send, slot.the_sync, vec.the_send, vec.the_sync, sendable) depth 60 fits 20000
 
   pub shared_sync : IsSend A → IsSync A → Frees g g.dealloc_token → IsSync (Shared.the_row J A s g)
   shared_sync sa ya f = search (part_sync, vec.the_sync, atomic.the_sync, sendable) depth 60 fits 20000
 
 module _ (κ : NamedLft) (A : RattleType) (g : alloc.Ghosts A.Denot) (c : clone.Ghosts A.Denot) where
-  kept_send : IsSend A → IsSync A → Frees g g.dealloc_token → IsSend (Kept.the_row A g)
+  kept_send : IsSend A → IsSync A → Frees g g.dealloc_token → IsSend (StoredStates.the_row A g)
   kept_send sa ya f = search (store.the_send, sendable) depth 60 fits 20000
 
   vec_send : (T : RattleType) → IsSend T → IsSend A → IsSync A → Frees g g.dealloc_token → IsSend (Vec.the_field T A g).row
@@ -76,7 +76,7 @@ module _ (κ : NamedLft) (A : RattleType) (g : alloc.Ghosts A.Denot) (c : clone.
   pub memo_send : (N R : RattleType) (h : recorder.Ghosts R.Denot N.Denot A.Denot) → IsSend N → IsSend R → IsSend A → IsSync A → Frees g g.dealloc_token → IsSend (Memo.the_row κ N R A h g c)
   memo_send N R h sn sr sa ya f =
       let shape = shape_shared sa ya f in
-      let kept = vec_send (Kept.the_row A g) (kept_send sa ya f) sa ya f in
+      let kept = vec_send (StoredStates.the_row A g) (kept_send sa ya f) sa ya f in
       let finder = finder_send sa ya f in
       let transitions = vec_send Transition.the_row transition.the_send sa ya f in
       let index = index_send sa ya f in

@@ -28,7 +28,7 @@ use Rattle.search_memo.specs.declared.choice.Choice.{Choice}
 use Rattle.search_memo.specs.declared.memo.Transition.{Transition}
 use Rattle.search_memo.specs.declared.memo.Seen.{Seen}
 use Rattle.search_memo.specs.Known.{IsKnown, IsKnownOf}
-use Rattle.search_memo.specs.Kept.{IsMoreOf, LeadsTo}
+use Rattle.search_memo.specs.StoredStates.{IsMoreOf, LeadsTo}
 use Rattle.search_memo.specs.Visited.{EntryOf, AreWith, IsKeptAs}
 use Rattle.search_memo.specs.Memos.{MemoOf, states_reached, Names, NameWay, IsDead, IsTransition, IsTrueMemo, AreSeen, IsGrown, IsFurther, IsStep, IsNext, IsAfter}
 use Rattle.search_memo.specs.Recorders.{IsNotedAlike}
@@ -180,7 +180,7 @@ seen-with all old last n states place named own sound k s at =
           )
     ]
 
--- the same, where it is a question whether there was memory for it
+-- once others may have one more, if there was memory for it
 pub seen-push : {A : Type 0} (all : List (List ObjState)) (old new : List (Option (Seen A))) (last : Option (Seen A)) (n : ℕ) (states : List ObjState) (pushed : Bool) → new ≡ (if pushed then old ++ last ∷ [] else old) → n ≡ length old →
     slice_get all n ≡ Some states → IfSome last (λ s. s.states.value.now ≡ states) → AreSeen all old → AreSeen all new
 seen-push all old new last n states true is place named own sound = subst (λ l. AreSeen all l) (sym is) (seen-with all old last n states place named own sound)
@@ -305,7 +305,7 @@ step-transitions memo n c at fine within good s commits = (
   ),
 )
 
--- # Refuted lists
+-- # Refuted prefixes
 
 -- the entry of a refuted prefix
 pub dead-here : (shape : ShapeOf) (all : List (List ObjState)) (P : List Decision → Type 0) (placed : List Bool) (n : ℕ) (at : CursorOf) → shape ≡ at.shape → IsGood (objects_of at.shape) (history_of at.shape) at.path → Refuted (objects_of at.shape) (history_of at.shape) at.path →
@@ -318,7 +318,7 @@ dead-here shape all P placed n at same good refuted is names noted =
 pub rows-placed : (shape : ShapeOf) (placed : List Bool) (at : CursorOf) → shape ≡ at.shape → placed ≡ map (is_named at.path) (transactions (history_of at.shape)) → length placed ≡ length (transactions (history_of shape))
 rows-placed shape placed at same is = ap length is ∙ length-map (transactions (history_of at.shape)) (is_named at.path) ∙ ap (λ (x : ShapeOf). length (transactions (history_of x))) (sym same)
 
--- the list of an entry is the same to what comes after it
+-- the prefix of an entry is the same to what comes after it
 pub dead-alike : (shape : ShapeOf) (all : List (List ObjState)) (P : List Decision → Type 0) (placed : List Bool) (n : ℕ) (at : CursorOf) → shape ≡ at.shape →
     placed ≡ map (is_named at.path) (transactions (history_of at.shape)) → Names all (Some n) (states_reached at.shape at.path) → IsDead shape all P (record { placed = placed; states = n }) → IsNotedAlike at.shape P at.path
 dead-alike shape all P placed n at same is names dead =
@@ -330,7 +330,7 @@ dead-alike shape all P placed n at same is names dead =
       states = one-at (states_reached at.shape at.path) (states_reached at.shape d.path) (slice_get all n) names d.states;
     }
 
--- a list of which an entry is there is refuted
+-- a prefix of which an entry is there is refuted
 pub dead-refuted : (shape : ShapeOf) (all : List (List ObjState)) (P : List Decision → Type 0) (placed : List Bool) (n : ℕ) (at : CursorOf) → shape ≡ at.shape → IsWellFormed (history_of at.shape) → IsWithinLimits (plan_of at.shape) (history_of at.shape) →
     IsGood (objects_of at.shape) (history_of at.shape) at.path → placed ≡ map (is_named at.path) (transactions (history_of at.shape)) → Names all (Some n) (states_reached at.shape at.path) → IsDead shape all P (record { placed = placed; states = n }) →
     Refuted (objects_of at.shape) (history_of at.shape) at.path
@@ -339,7 +339,7 @@ dead-refuted shape all P placed n at same fine within good is names dead rest sh
     d.refuted rest (shown-same (plan_of at.shape) (history_of at.shape) at.path d.path rest fine within good d.good (sym is ∙ d.placed)
     (one-at (states_reached at.shape at.path) (states_reached at.shape d.path) (slice_get all n) names d.states) shown)
 
--- # The choice after a list
+-- # The choice after a prefix
 
 named-own : (p : List Decision) (d : Decision) → is_named (p ++ d ∷ []) d.tx ≡ true
 named-own p d = is_named-append p (d ∷ []) d.tx ∙ or_right (is_named p d.tx) (nat_eq d.tx d.tx || false) (true_or (nat_eq d.tx d.tx) false (nat_eq-refl d.tx))

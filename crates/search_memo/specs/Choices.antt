@@ -9,7 +9,7 @@ use Rattle.aud_witness.specs.declared.decision.Decision.{Decision}
 use Rattle.aud_witness.specs.Orders.{is_allowed}
 use Rattle.aud_witness.specs.Configurations.{status_allows}
 use Rattle.aud_order.specs.Silent.{silent_fate}
-use Rattle.search_memo.specs.declared.choice.Effect.TheVariants.{Silent}
+use Rattle.search_memo.specs.declared.choice.Visibility.TheVariants.{Silent}
 use Rattle.search_memo.specs.declared.choice.Choice.{Choice}
 
 -- what a choice chooses, and where its row is
@@ -31,7 +31,7 @@ choices_from n (r ∷ rs) = both_choices n r ++ choices_from (suc n) rs
 
 -- what is marked as silent is the decision of a silent transaction with its silent fate
 abbrev pub AreMarked : History → List Choice → Type 0
-AreMarked h cs = (c : Choice) → Contains cs c → c.effect ≡ Silent → silent_fate h c.decision.tx ≡ Some c.decision.fate
+AreMarked h cs = (c : Choice) → Contains cs c → c.visibility ≡ Silent → silent_fate h c.decision.tx ≡ Some c.decision.fate
 
 -- the new choices are marked rightly if the old ones are
 abbrev pub StayMarked : History → List Choice → List Choice → Type 0
@@ -39,7 +39,7 @@ StayMarked h old new = AreMarked h old → AreMarked h new
 
 -- what came to some choices is of T, and marked as silent only with the silent fate of T
 abbrev pub AreMarkedFrom : List Choice → List Choice → ℕ → Option Fate → Type 0
-AreMarkedFrom old new t silent = (c : Choice) → Contains new c → Contains old c ⊎ (c.effect ≡ Silent → (silent ≡ Some c.decision.fate) × (c.decision.tx ≡ t))
+AreMarkedFrom old new t silent = (c : Choice) → Contains new c → Contains old c ⊎ (c.visibility ≡ Silent → (silent ≡ Some c.decision.fate) × (c.decision.tx ≡ t))
 
 -- the choice is of the transaction of its row
 abbrev pub IsOfRow : History → Choice → Type 0
@@ -50,4 +50,4 @@ pub record AreChoices (h : History) (cs : List Choice) : Type 0 where
   pub rows : (k : ℕ) (c : Choice) → slice_get cs k ≡ Some c → (r : RowOf) × ((slice_get (table_of h) c.place ≡ Some r) × (r.tx ≡ c.decision.tx))
   pub whole : (d : Decision) → is_in h d.tx ≡ true → is_allowed h d.tx d.fate ≡ true → (k : ℕ) × ((c : Choice) × ((slice_get cs k ≡ Some c) × (c.decision ≡ d)))
   pub once : (j k : ℕ) (c e : Choice) → j < k → slice_get cs j ≡ Some c → slice_get cs k ≡ Some e → c.decision ≡ e.decision → ⊥
-  pub silent : (k : ℕ) (c : Choice) → slice_get cs k ≡ Some c → c.effect ≡ Silent → silent_fate h c.decision.tx ≡ Some c.decision.fate
+  pub silent : (k : ℕ) (c : Choice) → slice_get cs k ≡ Some c → c.visibility ≡ Silent → silent_fate h c.decision.tx ≡ Some c.decision.fate

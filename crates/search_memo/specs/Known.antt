@@ -9,7 +9,7 @@ use Rattle.aud_order.specs.Shapes.{ShapeOf, objects_of, history_of}
 use Rattle.search_memo.specs.Memos.{states_reached}
 
 -- how contracts see a refuted prefix that threads share: the word that marks what is placed, and the states
-pub record RefutationOf : Type 0 where
+pub record RefutedEntryOf : Type 0 where
   pub word : ℕ
   pub states : List ObjState
 
@@ -22,15 +22,15 @@ pub record IsKnown (shape : ShapeOf) (P : List Decision → Type 0) (states : Li
   pub left : states ≡ states_reached shape path
   pub noted : P path
 
--- the same of prefixes of which nothing else is asked
+-- a good prefix that is refuted places the transactions that are marked, and leaves the states
 abbrev pub IsRefutedTo : ShapeOf → List ObjState → List Bool → Type 0
 IsRefutedTo shape states placed = IsKnown shape (λ p. Unit {0}) states placed
 
--- the same of each shape that a search may be of
+-- of each shape that a search may be of, a good prefix that is refuted, and of which P holds, places and leaves that
 abbrev pub IsKnownFor : (ShapeOf → Type 0) → (List Decision → Type 0) → List ObjState → List Bool → Type 0
 IsKnownFor is_for P states placed = (shape : ShapeOf) → is_for shape → IsKnown shape P states placed
 
--- the same of some shape that a search is of
+-- of some shape that a search is of, a good prefix that is refuted, and of which P holds, places and leaves that
 abbrev pub IsKnownOf : (ShapeOf → Type 0) → (List Decision → Type 0) → List ObjState → List Bool → Type 0
 IsKnownOf is_for P states placed = (shape : ShapeOf) × (is_for shape × IsKnown shape P states placed)
 
@@ -38,7 +38,7 @@ IsKnownOf is_for P states placed = (shape : ShapeOf) × (is_for shape × IsKnown
 abbrev pub IsMarkedBy : ℕ → List Bool → Type 0
 IsMarkedBy word marks = marks ≡ marks_of (word ∷ []) (length marks)
 
--- the same of what one word marks of the history's transactions
+-- a good prefix that is refuted places those of the history's transactions that one word marks, and leaves the states
 abbrev pub IsRefutedBy : ShapeOf → List ObjState → ℕ → Type 0
 IsRefutedBy shape states word = IsRefutedTo shape states (marks_of (word ∷ []) (length (transactions (history_of shape))))
 

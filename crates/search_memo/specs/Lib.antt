@@ -1,6 +1,6 @@
 pub mod Choices
 pub mod Visited
 pub mod Memos
-pub mod Kept
+pub mod StoredStates
 pub mod Recorders
 pub mod Known

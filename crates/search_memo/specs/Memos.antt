@@ -12,7 +12,7 @@ use Rattle.aud_witness.specs.Orders.{is_named, kept, IsGood, Refuted}
 use Rattle.aud_order.specs.Shapes.{ShapeOf, objects_of, history_of}
 use Rattle.aud_order.specs.Cursors.{CursorOf}
 use Rattle.aud_order.specs.Silent.{silent_fate}
-use Rattle.search_memo.specs.declared.choice.Effect.TheVariants.{Silent}
+use Rattle.search_memo.specs.declared.choice.Visibility.TheVariants.{Silent}
 use Rattle.search_memo.specs.declared.choice.Choice.{Choice}
 use Rattle.search_memo.specs.declared.memo.Transition.{Transition}
 use Rattle.search_memo.specs.declared.memo.Seen.{Seen}
@@ -95,18 +95,18 @@ pub record IsStep {V : Type 0} (memo : MemoOf V) (from : Option ℕ) (c : Choice
   pub path : List Decision
   pub on : at.path ≡ path ++ c.decision ∷ []
   pub names : Names memo.states from (states_reached at.shape path)
-  pub silent : c.effect ≡ Silent → silent_fate (history_of at.shape) c.decision.tx ≡ Some c.decision.fate
+  pub silent : c.visibility ≡ Silent → silent_fate (history_of at.shape) c.decision.tx ≡ Some c.decision.fate
 
 -- after the cursor's prefix, where the states have the number, the choice is one of its row's transaction
 pub record IsNext {V : Type 0} (memo : MemoOf V) (states : Option ℕ) (c : Choice) (at : CursorOf) : Type 0 where
   pub shape : memo.shape ≡ at.shape
   pub names : Names memo.states states (states_reached at.shape at.path)
-  pub silent : c.effect ≡ Silent → silent_fate (history_of at.shape) c.decision.tx ≡ Some c.decision.fate
+  pub silent : c.visibility ≡ Silent → silent_fate (history_of at.shape) c.decision.tx ≡ Some c.decision.fate
   pub row : (r : RowOf) × ((slice_get (table_of (history_of at.shape)) c.place ≡ Some r) × (r.tx ≡ c.decision.tx))
 
 -- a choice to abort leaves the states, and one marked as silent; what is left is one to commit
 abbrev pub LeavesStates : Choice → Bool → Type 0
-LeavesStates c true = (c.decision.fate ≡ A) ⊎ (c.effect ≡ Silent)
+LeavesStates c true = (c.decision.fate ≡ A) ⊎ (c.visibility ≡ Silent)
 LeavesStates c false = c.decision.fate ≡ C
 
 -- after the choice the states have the number: it leaves them, or a transition of its block is known
@@ -117,6 +117,6 @@ IsAfter memo n c to = (LeavesStates c true × (to ≡ n)) ⊎ ((c.decision.fate 
 abbrev pub IsRefutedAt : CursorOf → Type 0
 IsRefutedAt c = Refuted (objects_of c.shape) (history_of c.shape) c.path
 
--- the same of the cursor's prefix with the decision after it
+-- no prefix that begins with the cursor's and the decision after it shows the history
 abbrev pub IsRefutedAfter : CursorOf → Decision → Type 0
 IsRefutedAfter c d = Refuted (objects_of c.shape) (history_of c.shape) (c.path ++ d ∷ [])

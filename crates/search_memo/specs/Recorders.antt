@@ -5,10 +5,10 @@ use Rattle.aud_witness.specs.declared.decision.Decision.{Decision}
 use Rattle.aud_witness.specs.Orders.{is_named, IsFull, IsGood, IsGoodNext}
 use Rattle.aud_order.specs.Shapes.{ShapeOf, objects_of, history_of}
 use Rattle.aud_order.specs.Silent.{silent_fate}
-use Rattle.search_memo.specs.declared.choice.Effect.TheVariants as effect
+use Rattle.search_memo.specs.declared.choice.Visibility.TheVariants as visibility
 use Rattle.search_memo.specs.declared.choice.Choice.{Choice}
-use Rattle.search_memo.specs.declared.memo.Reason.{Reason}
-use Rattle.search_memo.specs.declared.memo.Reason.TheVariants.{Kids, Silent, Same}
+use Rattle.search_memo.specs.declared.recorder.RefutedBy.{RefutedBy}
+use Rattle.search_memo.specs.declared.recorder.RefutedBy.TheVariants.{Kids, Silent, Same}
 use Rattle.search_memo.specs.Memos.{states_reached}
 use Rattle.aud_order.specs.Cursors.{CursorOf, IsGoodAt}
 
@@ -40,7 +40,7 @@ pub record HasSilent (shape : ShapeOf) (P : List Decision → Type 0) (p : List 
   pub noted : P (p ++ d ∷ [])
 
 -- why p is refuted
-abbrev pub IsReason : {N : Type 0} → (N → List Decision → Type 0) → ShapeOf → List Decision → Reason N → Type 0
+abbrev pub IsReason : {N : Type 0} → (N → List Decision → Type 0) → ShapeOf → List Decision → RefutedBy N → Type 0
 IsReason noted shape p Kids = HasKids shape (HasNote noted) p
 IsReason noted shape p (Silent d) = HasSilent shape (HasNote noted) p d
 IsReason noted shape p (Same note) = IsNotedAlike shape (noted note) p
@@ -58,11 +58,11 @@ AreKept P shape cs p from to = (j : ℕ) (c : Choice) → from ≤ j → j < to 
 
 -- the decision of the choice at a place, if it is marked as silent
 abbrev pub IsSilentAt : List Choice → ℕ → Option Decision → Type 0
-IsSilentAt cs k None = (c : Choice) → slice_get cs k ≡ Some c → c.effect ≡ effect.Silent → ⊥
-IsSilentAt cs k (Some d) = (c : Choice) → slice_get cs k ≡ Some c → (c.effect ≡ effect.Silent) × (c.decision ≡ d)
+IsSilentAt cs k None = (c : Choice) → slice_get cs k ≡ Some c → c.visibility ≡ visibility.Silent → ⊥
+IsSilentAt cs k (Some d) = (c : Choice) → slice_get cs k ≡ Some c → (c.visibility ≡ visibility.Silent) × (c.decision ≡ d)
 
 -- what refutes a prefix once a silent choice does, if there is one
-abbrev pub reason_by : {N : Type 0} → Option Decision → Reason N
+abbrev pub reason_by : {N : Type 0} → Option Decision → RefutedBy N
 reason_by None = Kids
 reason_by (Some d) = Silent d
 

@@ -10,13 +10,13 @@ use aud_order::Shape;
 use aud_witness::{Decision, Fate, allows};
 use std::alloc::Allocator;
 
-/// What others see of a transaction with a fate.
+/// Whether others see anything of a transaction with a fate.
 #[derive(Clone, Copy, PartialEq, Eq, PartialOrd, Ord)]
-pub enum Effect {
-    /// Nothing, whatever its fate: it may be placed at once wherever it is good.
+pub enum Visibility {
+    /// They see nothing, whatever its fate: it may be placed at once wherever it is good.
     Silent,
-    /// What it did, or that it did not.
-    Seen,
+    /// They see what it did, or that it did not.
+    Visible,
 }
 
 /// In which order a search tries transactions.
@@ -45,27 +45,27 @@ impl Order {
 /// most memories let their transactions take effect about when they end.
 #[derive(Clone, Copy, PartialEq, Eq, PartialOrd, Ord)]
 pub struct Choice {
-    pub effect: Effect,
+    pub visibility: Visibility,
     pub is_late: bool,
     pub rank: u32,
     pub place: usize,
     pub decision: Decision,
 }
 
-/// What others see of a transaction with the fate.
-fn effect_of(silent: Option<Fate>, fate: Fate) -> Effect
-    ensures { result ≡ Effect.Silent → silent ≡ Some fate }
+/// Whether others see anything of a transaction with the fate.
+fn visibility_of(silent: Option<Fate>, fate: Fate) -> Visibility
+    ensures { result ≡ Visibility.Silent → silent ≡ Some fate }
 {
     match fate {
         Fate::C => match silent {
-            Some(Fate::C) => Effect::Silent,
-            Some(Fate::A) => Effect::Seen,
-            None => Effect::Seen,
+            Some(Fate::C) => Visibility::Silent,
+            Some(Fate::A) => Visibility::Visible,
+            None => Visibility::Visible,
         },
         Fate::A => match silent {
-            Some(Fate::C) => Effect::Seen,
-            Some(Fate::A) => Effect::Silent,
-            None => Effect::Seen,
+            Some(Fate::C) => Visibility::Visible,
+            Some(Fate::A) => Visibility::Silent,
+            None => Visibility::Visible,
         },
     }
 }
@@ -83,11 +83,11 @@ fn add_choice<A: Allocator>(
     ensures added { OnOk result (map key_of choices.new.items ≡ map key_of choices.old.items ++ row_choices place row.now fate) }
 {
     if allows(row.status(), fate) {
-        let effect = effect_of(silent, fate);
+        let visibility = visibility_of(silent, fate);
         let decision = Decision { tx: row.tx(), fate };
         let (is_late, rank) = order.rank(row);
         choices.push(Choice {
-            effect,
+            visibility,
             is_late,
             rank,
             place,

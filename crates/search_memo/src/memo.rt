@@ -8,16 +8,16 @@ ghost use Rattle.aud_witness.specs.declared.decision.Fate.TheVariants.{C};
 ghost use Rattle.aud_witness.specs.Orders.{Refuted};
 ghost use Rattle.aud_history.specs.Table.{transactions};
 ghost use Rattle.aud_order.specs.Shapes.{history_of};
-ghost use Rattle.search_memo.specs.Kept.{LeadsTo};
+ghost use Rattle.search_memo.specs.StoredStates.{LeadsTo};
 ghost use Rattle.search_memo.specs.Memos.{states_reached, Names, IsTransition, IsGrown, IsReported, IsStep, IsNext, IsAfter, LeavesStates, IsDead, IsRefutedAt, IsRefutedAfter};
 ghost use Rattle.search_memo.specs.Recorders.{IsReason, IsNotedAlike, HasNote, IsNotedAfter};
 ghost use Rattle.search_memo.specs.Visited.{AreWith, entry, with_place};
 
-use crate::choice::{Choice, Effect};
+use crate::choice::{Choice, Visibility};
 use crate::index::{Index, Look, hash_of};
-use crate::kept::{Finder, Kept, Step, keep_states, size_of_shared};
-use crate::recorder::Recorder;
+use crate::recorder::{Recorder, RefutedBy};
 use crate::room::{gives, reserves, takes};
+use crate::stored_states::{Finder, Step, StoredStates, keep_states, size_of_shared};
 use crate::visited_set::{VisitedSet, forget_first};
 use aud_event::OutOfMemory;
 use aud_object::Store;
@@ -44,17 +44,6 @@ pub struct Seen<A: Allocator> {
     digest: u64,
 }
 
-/// Why a prefix is refuted.
-#[derive(Clone, Copy)]
-pub enum Reason<N> {
-    /// It is not full, and each good prefix that is one decision longer was noted.
-    Kids,
-    /// The decision is of a silent transaction and good after the prefix, and the prefix after it was noted.
-    Silent(Decision),
-    /// The note is of a good prefix that places the same transactions and leaves the same states.
-    Same(N),
-}
-
 /// Configurations of refuted prefixes of one shape, and where blocks lead. States that many of them share are kept once, under a number.
 ///
 /// A configuration is which transactions a prefix placed, and the states that it leaves. It is kept as words: the number of the states,
@@ -68,7 +57,7 @@ pub enum Reason<N> {
 pub struct Memo<'a, N: Copy, R: Recorder<N, A>, A: Allocator + Copy = Global> {
     alloc: A,
     shape: &'a Shape<A>,
-    kept: Vec<Kept<A>, A>,
+    kept: Vec<StoredStates<A>, A>,
     finder: Finder<A>,
     transitions: Vec<Transition, A>,
     transitions_by_hash: Index<A>,
@@ -85,7 +74,7 @@ pub struct Memo<'a, N: Copy, R: Recorder<N, A>, A: Allocator + Copy = Global> {
 
 impl<'a, N: Copy, R: Recorder<N, A>, A: Allocator + Copy> Model for Memo<'a, N, R, A> {
     ghost use Rattle.aud_order.specs.Shapes.{history_of};
-    ghost use Rattle.search_memo.specs.Kept.{states_of};
+    ghost use Rattle.search_memo.specs.StoredStates.{states_of};
     ghost use Rattle.search_memo.specs.Memos.{MemoOf, entries_of, IsTrueMemo, AreSeen};
 
     ghost Value = { MemoOf R };
@@ -203,7 +192,7 @@ fn leaves_states(choice: &Choice) -> bool
 {
     match choice.decision.fate {
         Fate::A => true,
-        Fate::C => choice.effect == Effect::Silent,
+        Fate::C => choice.visibility == Visibility::Silent,
     }
 }
 
@@ -263,18 +252,13 @@ impl<'a, N: Copy, R: Recorder<N, A>, A: Allocator + Copy> Memo<'a, N, R, A> {
     }
 
     /// Notes the cursor's prefix, which is refuted for the reason.
-    pub fn note(&mut self, cursor: &Cursor<A>, reason: Reason<N>) -> Result<N, OutOfMemory>
+    pub fn note(&mut self, cursor: &Cursor<A>, reason: RefutedBy<N>) -> Result<N, OutOfMemory>
         requires shape { self.old.shape ≡ cursor.now.shape }
         requires reason { IsReason (R.noted self.old.recorder) cursor.now.shape cursor.now.path reason }
         ensures noted { IfOk result (λ note. R.noted self.new.recorder note cursor.now.path) }
         ensures reported { IsReported R.grows self.old self.new }
     {
-        let list = cursor.prefix();
-        match reason {
-            Reason::Kids => self.recorder.note_kids(list),
-            Reason::Silent(decision) => self.recorder.note_silent(list, decision),
-            Reason::Same(note) => self.recorder.note_same(list, note),
-        }
+        self.recorder.note(cursor.prefix(), reason)
     }
 
     /// Whether nothing needs to be noted.

@@ -5,7 +5,7 @@ ghost use Rattle.aud_witness.specs.declared.decision.Decision.{Decision};
 ghost use Rattle.aud_order.specs.Shapes.{ShapeOf};
 ghost use Rattle.search_memo.specs.Known.{MarksRows, IsKnownFor, IsKnownOf};
 ghost use Rattle.search_memo.specs.Visited.{with_place};
-ghost use Rattle.search_memo.specs.Recorders.{IsHearable, HasNote, HasKids, HasSilent, IsNotedAlike};
+ghost use Rattle.search_memo.specs.Recorders.{IsHearable, HasNote, IsReason};
 
 use aud_event::OutOfMemory;
 use aud_object::Store;
@@ -13,6 +13,17 @@ use aud_witness::Decision;
 use base_bits::Marks;
 use std::alloc::Allocator;
 use std::sync::Arc;
+
+/// Why a prefix is refuted.
+#[derive(Clone, Copy)]
+pub enum RefutedBy<N> {
+    /// It is not full, and each good prefix that is one decision longer was noted.
+    Kids,
+    /// The decision is of a silent transaction and good after the prefix, and the prefix after it was noted.
+    Silent(Decision),
+    /// The note is of a good prefix that places the same transactions and leaves the same states.
+    Same(N),
+}
 
 /// What hears of each good prefix that a search refutes, in the order in which they are refuted. A prefix that it noted is named by
 /// its note.
@@ -60,22 +71,10 @@ pub trait Recorder<N: Copy, A: Allocator>: Drop {
         false
     }
 
-    /// Notes the good prefix: it is not full, and each good prefix that is one decision longer was noted.
-    fn note_kids(&mut self, list: &[Decision]) -> Result<N, OutOfMemory>
-        requires { IsHearable (is_for self.old) list.now (λ shape. HasKids shape (HasNote (noted self.old)) list.now) }
-        ensures noted { IfOk result (λ note. noted self.new note list.now) }
-        ensures grows { grows self.old self.new };
-
-    /// Notes the good prefix: the decision is of a silent transaction and good after it, and the prefix after it was noted.
-    fn note_silent(&mut self, list: &[Decision], decision: Decision) -> Result<N, OutOfMemory>
-        requires { IsHearable (is_for self.old) list.now (λ shape. HasSilent shape (HasNote (noted self.old)) list.now decision) }
-        ensures noted { IfOk result (λ note. noted self.new note list.now) }
-        ensures grows { grows self.old self.new };
-
-    /// Notes the good prefix: the note is of a good prefix that places the same transactions and leaves the same states.
-    fn note_same(&mut self, list: &[Decision], note: N) -> Result<N, OutOfMemory>
-        requires { IsHearable (is_for self.old) list.now (λ shape. IsNotedAlike shape (noted self.old note) list.now) }
-        ensures noted { IfOk result (λ own. noted self.new own list.now) }
+    /// Notes the good prefix, which is refuted for the reason.
+    fn note(&mut self, prefix: &[Decision], reason: RefutedBy<N>) -> Result<N, OutOfMemory>
+        requires { IsHearable (is_for self.old) prefix.now (λ shape. IsReason (noted self.old) shape prefix.now reason) }
+        ensures noted { IfOk result (λ note. noted self.new note prefix.now) }
         ensures grows { grows self.old self.new };
 
     ghost noted_stays: { (r s : Self) (note : N) (p : List Decision) → grows r s → noted r note p → noted s note p };
@@ -96,6 +95,8 @@ pub struct Unnoted;
 pub struct Unrecorded;
 
 impl<A: Allocator> Recorder<Unnoted, A> for Unrecorded {
+    ghost use Rattle.std.specs.Prelude.{◌≡◌};
+
     ghost is_for = { λ r shape. Unit {0} };
 
     ghost noted = { λ r note p. Unit {0} };
@@ -106,19 +107,13 @@ impl<A: Allocator> Recorder<Unnoted, A> for Unrecorded {
         true
     }
 
-    fn note_kids(&mut self, _list: &[Decision]) -> Result<Unnoted, OutOfMemory> {
-        Ok(Unnoted)
-    }
-
-    fn note_silent(
+    fn note(
         &mut self,
-        _list: &[Decision],
-        _decision: Decision,
-    ) -> Result<Unnoted, OutOfMemory> {
-        Ok(Unnoted)
-    }
-
-    fn note_same(&mut self, _list: &[Decision], _note: Unnoted) -> Result<Unnoted, OutOfMemory> {
+        _prefix: &[Decision],
+        _reason: RefutedBy<Unnoted>,
+    ) -> Result<Unnoted, OutOfMemory>
+        ensures { self.new ≡ self.old }
+    {
         Ok(Unnoted)
     }
 

@@ -8,9 +8,9 @@ ghost use Rattle.search_memo.specs.Known.{IsMarkedBy, IsRefutedBy, IsRefutedTo};
 ghost use Rattle.search_memo.specs.Visited.{with_place};
 
 use crate::index::{hash_of, spread};
-use crate::kept::size_of_shared;
-use crate::recorder::{Recorder, Unnoted};
+use crate::recorder::{Recorder, RefutedBy, Unnoted};
 use crate::room::BOUND;
+use crate::stored_states::size_of_shared;
 use crate::visited_set::with_further;
 use aud_event::OutOfMemory;
 use aud_object::Store;
@@ -48,16 +48,16 @@ impl<T> SlotRule<T> for Any {
 
 /// A prefix that was refuted: the one word that marks the rows that it placed, and the states after it.
 #[derive(Drop)]
-pub struct Refutation<J: Scene, A: Allocator> {
+pub struct RefutedEntry<J: Scene, A: Allocator> {
     word: u64,
     states: Arc<Store<A>, A>,
     scene: PhantomData<J>,
 }
 
-impl<J: Scene, A: Allocator> Model for Refutation<J, A> {
-    ghost use Rattle.search_memo.specs.Known.{RefutationOf, IsRefutedBy};
+impl<J: Scene, A: Allocator> Model for RefutedEntry<J, A> {
+    ghost use Rattle.search_memo.specs.Known.{RefutedEntryOf, IsRefutedBy};
 
-    ghost Value = { RefutationOf };
+    ghost Value = { RefutedEntryOf };
 
     ghost view = { λ r. record { word = r.word; states = r.states.value.now } };
 
@@ -67,7 +67,7 @@ impl<J: Scene, A: Allocator> Model for Refutation<J, A> {
 /// Slots that follow one another, which are made when one of them is needed first.
 #[derive(Drop)]
 pub struct Part<J: Scene, A: Allocator> {
-    slots: OnceSlot<Vec<OnceSlot<Refutation<J, A>, Any>, A>, Any>,
+    slots: OnceSlot<Vec<OnceSlot<RefutedEntry<J, A>, Any>, A>, Any>,
 }
 
 /// How many rows one word of marks is enough for.
@@ -90,7 +90,7 @@ const NEAR: usize = 4;
 const ROOM: usize = BOUND / 4 * 3;
 
 /// How many bytes the slots of a part take.
-const SLOTS: usize = PART * size_of::<OnceSlot<Refutation<Brand, Global>, Any>>();
+const SLOTS: usize = PART * size_of::<OnceSlot<RefutedEntry<Brand, Global>, Any>>();
 
 /// Refuted prefixes of one history of at most 63 transactions, of which all threads know that search it. Each stands in a slot that is
 /// written once, so nobody waits for another. It takes memory as more is known. The memos of the searches and what they share here
@@ -163,7 +163,7 @@ fn word_of<A: Allocator + Drop>(placed: &Marks<A>, further: Option<usize>) -> Op
 /// So many free slots as a part has.
 fn free_slots<J: Scene, A: Allocator + Copy>(
     alloc: A,
-) -> Result<Vec<OnceSlot<Refutation<J, A>, Any>, A>, OutOfMemory> {
+) -> Result<Vec<OnceSlot<RefutedEntry<J, A>, Any>, A>, OutOfMemory> {
     let tag = Tag::empty();
     let mut slots = Vec::with_capacity(alloc, PART)?;
     for _ in 0..PART {
@@ -172,7 +172,7 @@ fn free_slots<J: Scene, A: Allocator + Copy>(
     Ok(slots)
 }
 
-impl<J: Scene, A: Allocator + Copy> Refutation<J, A> {
+impl<J: Scene, A: Allocator + Copy> RefutedEntry<J, A> {
     /// Whether it is of the rows that the word marks, and of the states.
     fn is_of(&self, word: u64, states: &Store<A>) -> bool
         ensures { IsTrue result → IsRefutedBy J.shape states.now.now word }
@@ -183,7 +183,7 @@ impl<J: Scene, A: Allocator + Copy> Refutation<J, A> {
 
 impl<J: Scene, A: Allocator + Copy> Part<J, A> {
     /// The slot at the place, if the slots are made.
-    fn slot(&self, place: usize) -> Option<&OnceSlot<Refutation<J, A>, Any>> {
+    fn slot(&self, place: usize) -> Option<&OnceSlot<RefutedEntry<J, A>, Any>> {
         self.slots.get()?.get(place % PART)
     }
 
@@ -260,7 +260,7 @@ impl<J: Scene, A: Allocator + Copy> Shared<J, A> {
     }
 
     /// What stands where a step looks.
-    fn at(&self, configuration: Probe, step: usize) -> Option<&Refutation<J, A>> {
+    fn at(&self, configuration: Probe, step: usize) -> Option<&RefutedEntry<J, A>> {
         let place = place_at(configuration, step);
         self.part(place)?.slot(place)?.get()
     }
@@ -310,8 +310,8 @@ impl<J: Scene, A: Allocator + Copy> Shared<J, A> {
     }
 
     /// Puts the refuted prefix where a search looks for it, if there is a free slot and memory for it.
-    fn put(&self, configuration: Probe, refutation: Refutation<J, A>) -> bool {
-        let mut left = refutation;
+    fn put(&self, configuration: Probe, entry: RefutedEntry<J, A>) -> bool {
+        let mut left = entry;
         for step in 0..LOOKS {
             let place = place_at(configuration, step);
             let Some(part) = self.part(place) else {
@@ -339,12 +339,12 @@ impl<J: Scene, A: Allocator + Copy> Shared<J, A> {
         let Ok(states) = Arc::try_clone(states) else {
             return false;
         };
-        let refutation = Refutation {
+        let entry = RefutedEntry {
             word: configuration.word,
             states,
             scene: PhantomData,
         };
-        self.put(configuration, refutation)
+        self.put(configuration, entry)
     }
 
     /// Has all threads know of the refuted prefix, if there is room and memory for it. Room is taken for its states where they stand
@@ -378,7 +378,7 @@ pub struct Sharing<'a, J: Scene, A: Allocator + Copy> {
 }
 
 impl<'a, J: Scene, A: Allocator + Copy> Recorder<Unnoted, A> for Sharing<'a, J, A> {
-    ghost use Rattle.std.specs.Prelude.{◌≡◌};
+    ghost use Rattle.std.specs.Prelude.{◌≡◌, IfOk};
 
     ghost is_for = { λ r shape. shape ≡ J.shape };
 
@@ -422,19 +422,14 @@ impl<'a, J: Scene, A: Allocator + Copy> Recorder<Unnoted, A> for Sharing<'a, J, 
         }
     }
 
-    fn note_kids(&mut self, _list: &[Decision]) -> Result<Unnoted, OutOfMemory> {
-        Ok(Unnoted)
-    }
-
-    fn note_silent(
+    fn note(
         &mut self,
-        _list: &[Decision],
-        _decision: Decision,
-    ) -> Result<Unnoted, OutOfMemory> {
-        Ok(Unnoted)
-    }
-
-    fn note_same(&mut self, _list: &[Decision], _note: Unnoted) -> Result<Unnoted, OutOfMemory> {
+        _prefix: &[Decision],
+        _reason: RefutedBy<Unnoted>,
+    ) -> Result<Unnoted, OutOfMemory>
+        ensures noted { IfOk result (λ note. Unit {0}) }
+        ensures grows { Unit {0} }
+    {
         Ok(Unnoted)
     }
 

@@ -53,7 +53,7 @@ below-extends objects h p cs es (g ∷ gs) path (q, (d, (is, _, _, rest))) =
     let (r, so) = below-extends objects h p cs es gs q rest in
     (r ++ d ∷ [], is ∙ ap (λ l. l ++ d ∷ []) so ∙ append_assoc p r (d ∷ []))
 
--- a longer list was expanded
+-- a longer prefix was expanded
 below-more : (objects : List Declared) (h : History) (p : List Decision) (cs : List Choice) (es : Lists) (gs : List ℕ) (path new : List Decision) → length path < length new →
     AreBelow objects h p cs es gs path → AreBelow objects h p cs (new ∷ es) gs path
 below-more objects h p cs es [] path new longer is = is
@@ -122,7 +122,7 @@ tried-next objects h cs path k c at tried refuted = λ j e below there.
           subst (λ (x : Choice). Refuted objects h (path ++ x.decision ∷ [])) is refuted
     ]
 
--- a full good list is not one decision longer than one as long as a good one that is not full
+-- a full good prefix is not one decision longer than one as long as a good one that is not full
 not_full : (objects : List Declared) (h : History) (path : List Decision) (c d : Decision) → IsGood objects h (path ++ c ∷ []) → (IsFull h (path ++ c ∷ []) → ⊥) →
     IsGood objects h (path ++ d ∷ []) → IsFull h (path ++ d ∷ []) → ⊥
 not_full objects h path c d good unfull other full =
@@ -139,7 +139,7 @@ tried-after plan h cs path k g c fine within choices behind at tried good refute
           λ j e below there. Refuted-append plan.objects h path (e.decision ∷ []) all
     ]
 
--- a choice is passed over whose list is known to be refuted
+-- a choice is passed over whose prefix is known to be refuted
 pub search-on : (objects : List Declared) (h : History) (p : List Decision) (cs : List Choice) (used : ℕ) (path : List Decision) (next : ℕ) (gs : List ℕ) (g : ℕ) →
     IsSearching objects h p cs used path next gs → next ≤ g → AreTried objects h cs path g → IsSearching objects h p cs used path g gs
 search-on objects h p cs used path next gs g s past tried = record {
@@ -156,7 +156,7 @@ search-on objects h p cs used path next gs g s past tried = record {
   levels = s.levels;
 }
 
--- a good choice is followed, and its list expanded
+-- a good choice is followed, and its prefix expanded
 pub search-deeper : (objects : List Declared) (h : History) (p : List Decision) (cs : List Choice) (used : ℕ) (path : List Decision) (next : ℕ) (gs : List ℕ) (k g : ℕ) (c : Choice) →
     AreChoices h cs → IsSearching objects h p cs used path next gs → next ≤ k → k < g → slice_get cs k ≡ Some c → (Refuted objects h (path ++ c.decision ∷ []) → AreTried objects h cs path g) →
     IsGood objects h (path ++ c.decision ∷ []) → (IsFull h (path ++ c.decision ∷ []) → ⊥) → IsSearching objects h p cs (used + 1) (path ++ c.decision ∷ []) 0 (g ∷ gs)
@@ -259,7 +259,7 @@ search-unspent objects h p good unfull = (
   ),
 )
 
--- where all choices are refuted after a list, it is refuted
+-- where all choices are refuted after a prefix, it is refuted
 pub refuted-here : (objects : List Declared) (h : History) (p : List Decision) (cs : List Choice) (used : ℕ) (path : List Decision) (next : ℕ) (gs : List ℕ) →
     AreChoices h cs → IsSearching objects h p cs used path next gs → AreTried objects h cs path (length cs) → Refuted objects h path
 refuted-here objects h p cs used path next gs choices s tried =
@@ -301,7 +301,7 @@ pub search-refuted : (objects : List Declared) (h : History) (p : List Decision)
     IsSearching objects h p cs used path next [] → Refuted objects h path → Refuted objects h p
 search-refuted objects h p cs used path next s refuted = subst (λ l. Refuted objects h l) s.levels refuted
 
--- the list that was found begins with the prefix
+-- the prefix that was found begins with the prefix
 pub search-begins : (objects : List Declared) (h : History) (p : List Decision) (cs : List Choice) (used : ℕ) (path : List Decision) (next : ℕ) (gs : List ℕ) (d : Decision) →
     IsSearching objects h p cs used path next gs → BeginsWith p (path ++ d ∷ [])
 search-begins objects h p cs used path next gs d s =

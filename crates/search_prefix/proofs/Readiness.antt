@@ -68,7 +68,7 @@ only-row h t k r at is =
     ap (position (nat_eq t)) (tx-rows h (transactions h)) ∙ ap (λ n. position (nat_eq n) (transactions h)) (sym (tx ∙ is))
     ∙ position-at (transactions h) k (different-transactions h) inside
 
--- # Longer lists
+-- # Longer prefixes
 
 pub named-on : (p : List Decision) (d : Decision) (t : ℕ) → is_named p t ≡ true → is_named (p ++ d ∷ []) t ≡ true
 named-on p d t named = is_named-append p (d ∷ []) t ∙ true_or (is_named p t) (is_named (d ∷ []) t) named
@@ -85,7 +85,7 @@ named-back p d t named =
       | inr last ↦ elim (or_true (nat_eq d.tx t) false last) [ inl own ↦ inr (nat_eq-is d.tx t own) | inr no_more ↦ absurd (cc) ]
     ]
 
--- what waits after a longer list waits after a shorter one
+-- what waits after a longer prefix waits after a shorter one
 late-back : (h : History) (p : List Decision) (d : Decision) (u : ℕ) → is_enabled h (p ++ d ∷ []) u ≡ false → is_enabled h p u ≡ false
 late-back h p d u late = is_false (is_enabled h p u) (λ enabled. let more : is_enabled h (p ++ d ∷ []) u ≡ true = go h enabled in cc)
   where

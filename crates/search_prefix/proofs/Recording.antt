@@ -11,7 +11,7 @@ use Rattle.aud_order.specs.Cursors.{CursorOf, IsGoodAt}
 use Rattle.aud_order.specs.Silent.{silent_fate}
 use Rattle.aud_order.proofs.Lists.{take-push}
 use Rattle.search_memo.specs.declared.choice.Choice.{Choice}
-use Rattle.search_memo.specs.declared.memo.Reason.{Reason}
+use Rattle.search_memo.specs.declared.recorder.RefutedBy.{RefutedBy}
 use Rattle.search_prefix.specs.declared.searching.Frame.{Frame}
 use Rattle.search_memo.specs.Choices.{AreChoices}
 use Rattle.search_prefix.specs.Levels.{IsSearching}
@@ -24,14 +24,14 @@ use Rattle.search_prefix.proofs.Levels.{there-below}
 use Rattle.search_prefix.proofs.Readiness.{bad-until}
 use Rattle.search_prefix.proofs.Steps.{Follows, no_choice, choice-at, bad-none, next_of, states_of}
 
--- # After one list
+-- # After one prefix
 
--- P holds of what was tried after a list: of all up to a place, or of the list behind one of a silent transaction
+-- P holds of what was tried after a prefix: of all up to a place, or of the prefix after one of a silent transaction
 abbrev pub IsHeard : (List Decision → Type 0) → ShapeOf → List Choice → List Decision → ℕ → Option Decision → Type 0
 IsHeard P shape cs p next None = AreKept P shape cs p 0 next
 IsHeard P shape cs p next (Some d) = HasSilent shape P p d × (length cs ≤ next)
 
--- the list behind a choice is searched, and P holds of what was tried before it
+-- the prefix after a choice is searched, and P holds of what was tried before it
 pub record IsOpen (P : List Decision → Type 0) (shape : ShapeOf) (cs : List Choice) (p : List Decision) (d : Decision) (t : Frame) : Type 0 where
   pub place : ℕ
   pub choice : Choice
@@ -41,7 +41,7 @@ pub record IsOpen (P : List Decision → Type 0) (shape : ShapeOf) (cs : List Ch
   pub good : IsGoodNext (objects_of shape) (history_of shape) p d
   pub next : ((t.silent ≡ None) × (t.next ≡ place + 1)) ⊎ ((t.silent ≡ Some d) × (silent_fate (history_of shape) d.tx ≡ Some d.fate) × (length cs ≤ t.next))
 
--- the same of each beginning of a list, the longest first
+-- after each beginning of a prefix, the longest first, the next one is searched, and P holds of what was tried before it
 abbrev pub AreOpen : (List Decision → Type 0) → ShapeOf → List Choice → List Frame → List Decision → Type 0
 AreOpen P shape cs [] path = Unit {0}
 AreOpen P shape cs (t ∷ ts) path = (q : List Decision) × ((d : Decision) × ((path ≡ q ++ d ∷ []) × IsOpen P shape cs q d t × AreOpen P shape cs ts q))
@@ -123,7 +123,7 @@ module _ (P : List Decision → Type 0) (shape : ShapeOf) (cs : List Choice) whe
         inr (is ∙ ap (λ (x : Decision). Some x) (sym own), choices.silent k c at silent, omega arith);
   }
 
-  -- and its list is refuted
+  -- and its prefix is refuted
   pub open-done : (p : List Decision) (d : Decision) (t : Frame) → IsOpen P shape cs p d t → P (p ++ d ∷ []) → IsHeard P shape cs p t.next t.silent
   open-done p d t o noted = elim o.next [
     | inl (none, one) ↦ subst (λ n. IsHeard P shape cs p n t.silent) (sym one) (subst (λ (s : Option Decision). IsHeard P shape cs p (o.place + 1) s) (sym none)
@@ -131,7 +131,7 @@ module _ (P : List Decision → Type 0) (shape : ShapeOf) (cs : List Choice) whe
     | inr (quiet, silent, over) ↦ subst (λ (s : Option Decision). IsHeard P shape cs p t.next s) (sym quiet) (record { silent = silent; good = o.good; noted = noted }, over)
   ]
 
--- why a list is refuted after which nothing is left
+-- why a prefix is refuted after which nothing is left
 pub heard-reason : {N : Type 0} (noted : N → List Decision → Type 0) (shape : ShapeOf) (cs : List Choice) (p : List Decision) (from : ℕ) (silent : Option Decision) → AreChoices (history_of shape) cs → (IsFull (history_of shape) p → ⊥) →
     IsHeard (HasNote noted) shape cs p from silent → AreBad shape cs p from (length cs) → IsReason noted shape p (reason_by silent)
 heard-reason noted shape cs p from None choices unfull heard bad = record {
@@ -247,22 +247,22 @@ module _ {V N : Type 0} {noted : V → N → List Decision → Type 0} {start cu
   pub round-follows : (new : CursorOf) (k : ℕ) → IsFound cur new cs from (Some k) → Follows start cur new cs here.next k
   round-follows new k found = passed-follows start cur new cs used here.next from k (reverse (map next_of frames)) r.same r.before r.passed found
 
-  -- why the list is refuted after which nothing is left
-  pub round-reason : (new : CursorOf) (reason : Reason N) → AreChoices (history_of start.shape) cs → IsFound cur new cs from None → reason ≡ reason_by here.silent → IsReason (noted memo.recorder) new.shape new.path reason
+  -- why the prefix is refuted after which nothing is left
+  pub round-reason : (new : CursorOf) (reason : RefutedBy N) → AreChoices (history_of start.shape) cs → IsFound cur new cs from None → reason ≡ reason_by here.silent → IsReason (noted memo.recorder) new.shape new.path reason
   round-reason new reason choices (stays, bad) is =
-      subst (λ (x : Reason N). IsReason (noted memo.recorder) new.shape new.path x) (sym is)
+      subst (λ (x : RefutedBy N). IsReason (noted memo.recorder) new.shape new.path x) (sym is)
       (subst (λ (v : CursorOf). IsReason (noted memo.recorder) v.shape v.path (reason_by here.silent)) (sym stays)
       (subst (λ (s : ShapeOf). IsReason (noted memo.recorder) s cur.path (reason_by here.silent)) (sym r.same)
       (heard-reason (noted memo.recorder) start.shape cs cur.path from here.silent choices (r.searching.opens cur.path r.searching.here).1 r.heard (λ j c after below there good. bad j c after there (there-good c.decision good)))))
 
-  -- the first list is refuted
+  -- the first prefix is refuted
   pub round-over : (new : CursorOf) (recorder : V) (note : N) → IsFound cur new cs from None → frames ≡ [] → noted recorder note new.path → noted recorder note start.path
   round-over new recorder note (stays, bad) none holds =
       let last = subst (λ (l : List Frame). IsSearching (objects_of start.shape) (history_of start.shape) start.path cs used cur.path from (reverse (map next_of l))) none r.searching in
       subst (λ (l : List Decision). noted recorder note l) (ap (λ (v : CursorOf). v.path) stays ∙ last.levels) holds
 
   module _ (recorder : V) (on : (p : List Decision) → HasNote (noted memo.recorder) p → HasNote (noted recorder) p) where
-    -- a list is refuted, and the search goes back
+    -- a prefix is refuted, and the search goes back
     pub round-back : (new : CursorOf) (p : List Decision) (less : List Frame) (t : Frame) (note : N) → IsFound cur new cs from None → frames ≡ less ++ t ∷ [] → noted recorder note new.path → p ≡ take (length cur.path - 1) cur.path →
         IsHeard (HasNote (noted recorder)) start.shape cs p t.next t.silent × AreOpen (HasNote (noted recorder)) start.shape cs (reverse less) p
     round-back new p less t note (stays, bad) shorter holds back =
@@ -283,7 +283,7 @@ module _ {V N : Type 0} {noted : V → N → List Decision → Type 0} {start cu
         (λ j e after below there ok. bad j e after below there (there-good e.decision ok)))
         (good-there c.decision good) behind quiet next own
 
-    -- its list is known to be refuted, and was noted
+    -- its prefix is known to be refuted, and was noted
     pub round-known : (new : CursorOf) (p : List Decision) (k g : ℕ) (silent : Option Decision) (note : N) → AreChoices (history_of start.shape) cs → IsFound cur new cs from (Some k) → IsNextPlace cs k g → IsSilentAt cs k silent → noted recorder note new.path → p ≡ cur.path →
         IsHeard (HasNote (noted recorder)) start.shape cs p g silent × AreOpen (HasNote (noted recorder)) start.shape cs (reverse frames) p
     round-known new p k g silent note choices found behind quiet holds back =
@@ -294,7 +294,7 @@ module _ {V N : Type 0} {noted : V → N → List Decision → Type 0} {start cu
           opens-on (HasNote (noted memo.recorder)) (HasNote (noted recorder)) start.shape cs on (reverse frames) cur.path r.opens,
         )
 
-    -- its list is searched
+    -- its prefix is searched
     pub round-deeper : (new : CursorOf) (k g : ℕ) (silent : Option Decision) (t : Frame) (more : List Frame) → AreChoices (history_of start.shape) cs → IsFound cur new cs from (Some k) → IsNextPlace cs k g → IsSilentAt cs k silent → t.next ≡ g → t.silent ≡ silent → more ≡ frames ++ t ∷ [] →
         AreOpen (HasNote (noted recorder)) start.shape cs (reverse more) new.path
     round-deeper new k g silent t more choices found behind quiet next own grown =

@@ -22,7 +22,7 @@ use Rattle.aud_order.specs.Silent.{silent_fate}
 use Rattle.aud_order.proofs.KidLemmas.{good-from_next}
 use Rattle.aud_order.proofs.Lists.{length-push, take-push}
 use Rattle.aud_order.proofs.Lengths.{length-good}
-use Rattle.search_memo.specs.declared.choice.Effect.TheVariants.{Silent}
+use Rattle.search_memo.specs.declared.choice.Visibility.TheVariants.{Silent}
 use Rattle.search_memo.specs.declared.choice.Choice.{Choice}
 use Rattle.search_prefix.specs.declared.outcome.Outcome.{Outcome}
 use Rattle.search_prefix.specs.declared.searching.Frame.{Frame}
@@ -51,7 +51,7 @@ ready-good objects h p d next =
     (λ i. not (next.new i) && enabled i)
 
 abbrev pub no_choice : Choice
-no_choice = record { effect = Silent; is_late = false; rank = 0; place = 0; decision = no_decision }
+no_choice = record { visibility = Silent; is_late = false; rank = 0; place = 0; decision = no_decision }
 
 pub choice-at : (cs : List Choice) (k : ℕ) → k < length cs → slice_get cs k ≡ Some (slice_index_or cs k no_choice)
 choice-at [] k inside = absurd (omega arith)
@@ -196,7 +196,7 @@ pub loop-spent : (start cur new : CursorOf) (cs : List Choice) (used next k : �
 loop-spent start cur new cs used next k gs s f unfull =
     search-spent (objects_of start.shape) (history_of start.shape) start.path cs used cur.path next gs k f.choice s f.past f.at f.good (λ full. unfull (full-here start cur new cs next k f full))
 
--- the search ends with a list that shows the history
+-- the search ends with a prefix that shows the history
 pub reports-witness : (N X : Type 0) (noted : N → List Decision → Type 0) (objects : List Declared) (h : History) (p q : List Decision) (budget : Option ℕ) (e : Ended N X) → IsWitnessOf q e → BeginsWith p q × Shows objects h q →
     ReportsFrom {N = N} {X = X} objects h noted p budget e
 reports-witness N X noted objects h p q budget (ended.Refuted note) is reported = absurd is
@@ -227,7 +227,7 @@ loop-deeper start cur new cs used next k g below more on s f unfull behind grown
     (subst (λ l. IsSearching (objects_of start.shape) (history_of start.shape) start.path cs (used + 1) l 0 (g ∷ reverse below)) (sym f.path)
     (search-deeper (objects_of start.shape) (history_of start.shape) start.path cs used cur.path next (reverse below) k g f.choice on.choices s f.past behind.past f.at (followed-tried start cur new cs next k g on f behind) f.good (λ full. unfull (full-here start cur new cs next k f full))))
 
--- a followed list that is known to be refuted
+-- a followed prefix that is known to be refuted
 followed-refuted : (start cur new : CursorOf) (cs : List Choice) (next k : ℕ) → (f : Follows start cur new cs next k) → Refuted (objects_of new.shape) (history_of new.shape) new.path →
     Refuted (objects_of start.shape) (history_of start.shape) (cur.path ++ f.choice.decision ∷ [])
 followed-refuted start cur new cs next k f refuted =
@@ -241,7 +241,7 @@ went-back start cur new popped cs next k f is = (
   ap (λ (v : CursorOf). v.path) is ∙ ap (λ l. take (length l - 1) l) f.path ∙ take-push cur.path f.choice.decision,
 )
 
--- a choice is passed over, as its list is known to be refuted
+-- a choice is passed over, as its prefix is known to be refuted
 pub loop-known : (start cur new popped : CursorOf) (cs : List Choice) (used next k g : ℕ) (below : List ℕ) → Grounds start.shape cs →
     IsSearching (objects_of start.shape) (history_of start.shape) start.path cs used cur.path next (reverse below) →
     Follows start cur new cs next k → IsNextPlace cs k g → Refuted (objects_of new.shape) (history_of new.shape) new.path →
@@ -253,7 +253,7 @@ loop-known start cur new popped cs used next k g below on s f behind refuted is 
     (search-on (objects_of start.shape) (history_of start.shape) start.path cs used cur.path next (reverse below) g s (omega arith)
     (followed-tried start cur new cs next k g on f behind (followed-refuted start cur new cs next k f refuted)))
 
--- the followed choice is a step on from a list after which the states have the number
+-- the followed choice is a step on from a prefix after which the states have the number
 pub step-at : {V : Type 0} (start cur new : CursorOf) (cs : List Choice) (next k : ℕ) (memo : MemoOf V) (n : Option ℕ) (ns : List (Option ℕ)) → Grounds start.shape cs → Follows start cur new cs next k → memo.shape ≡ start.shape →
     NameWay start.shape memo.states (n ∷ ns) cur.path → IsStep memo n (slice_index_or cs k no_choice) new
 step-at start cur new cs next k memo n ns on f same way =
@@ -302,7 +302,7 @@ loop-over start cur new cs used next below same choices s found none =
     (subst (λ l. IsSearching (objects_of start.shape) (history_of start.shape) start.path cs used cur.path next l) (ap reverse none) s)
     (loop-refuted start cur new cs used next (reverse below) same choices s found)
 
--- taking back at the empty list is as taking nothing
+-- taking back at the empty prefix is as taking nothing
 pub back-same : (old new : CursorOf) (b : Bool) → (b ≡ false → (old.path ≡ []) × (new ≡ old)) → (b ≡ true → (old.path ≡ [] → ⊥) × (new ≡ record { shape = old.shape; path = take (length old.path - 1) old.path })) →
     new ≡ record { shape = old.shape; path = take (length old.path - 1) old.path }
 back-same old new true root back = (back refl).1

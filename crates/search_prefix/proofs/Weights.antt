@@ -12,7 +12,7 @@ power b (suc n) = power b n + (b + 1) * power b n
 abbrev pub level : ℕ → ℕ → ℕ → ℕ
 level b left height = (left + 1) * power b height
 
--- the levels below a list of a length
+-- the levels below a prefix of a length
 abbrev pub under : ℕ → ℕ → ℕ → List ℕ → ℕ
 under b n depth [] = 0
 under b n depth (g ∷ gs) = level b (b - g) (n - (depth - 1)) + under b n (depth - 1) gs
@@ -71,6 +71,6 @@ lighter-on b n depth next k g gs past inside behind =
     let high : (((b - g) + 1) + 1) * P ≤ ((b - next) + 1) * P = mul-le-mul_right P (omega arith) in
     omega arith
 
--- a list was left
+-- a prefix was left
 pub lighter-back : (b n depth next g : ℕ) (gs : List ℕ) → weigh b n (depth - 1) g gs < weigh b n depth next (g ∷ gs)
 lighter-back b n depth next g gs = let some : 1 ≤ level b (b - next) (n - depth) = level-some b (b - next) (n - depth) in omega arith

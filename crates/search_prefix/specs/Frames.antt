@@ -25,7 +25,7 @@ abbrev pub IsClosed : {N : Type 0} → (N → List Decision → Type 0) → Curs
 IsClosed noted old new frames less here (Some note) = (frames ≡ []) × noted note old.path × (new ≡ old)
 IsClosed noted old new frames less here None = (frames ≡ less ++ here ∷ []) × HasNote noted old.path × (new ≡ cursor_back old)
 
--- the same frame, but the states have no number
+-- the frame without the number of the states
 abbrev pub unnumbered : Frame → Frame
 unnumbered t = record { next = t.next; states = None; silent = t.silent }
 

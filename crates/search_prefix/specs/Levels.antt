@@ -16,7 +16,8 @@ AreTried objects h cs path count = (k : ℕ) (c : Choice) → k < count → slic
 abbrev pub AreFresh : List Choice → List (List Decision) → List Decision → ℕ → Type 0
 AreFresh cs es path count = (k : ℕ) (c : Choice) → count ≤ k → slice_get cs k ≡ Some c → Contains es (path ++ c.decision ∷ []) → ⊥
 
--- the same of each beginning of the prefix from p on, the longest first, once the prefix itself is refuted
+-- after each beginning of the prefix from p on, the longest first, the first choices are refuted, once the prefix itself is, and none of the others
+-- was expanded
 abbrev pub AreBelow : List Declared → History → List Decision → List Choice → List (List Decision) → List ℕ → List Decision → Type 0
 AreBelow objects h p cs es [] path = path ≡ p
 AreBelow objects h p cs es (g ∷ gs) path =

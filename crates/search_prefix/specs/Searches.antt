@@ -55,12 +55,12 @@ abbrev pub Decides : {X : Type 0} → List Declared → History → Decided X �
 Decides objects h (decided.Opaque q) = Shows objects h q
 Decides objects h decided.NotOpaque = orders.Opaque objects h → ⊥
 
--- the same by the letter of 2008: a completion of the history and a sequential history equivalent to it show it, or none do
+-- what is said of a history by the letter of 2008: a completion of the history and a sequential history equivalent to it show it, or none do
 abbrev pub DecidesByLetter : {X : Type 0} → List Declared → History → Decided X → Type 0
 DecidesByLetter objects h (decided.Opaque q) = Letter objects h
 DecidesByLetter objects h decided.NotOpaque = Letter objects h → ⊥
 
--- the same of a search over a recorder, which has a note of the empty prefix where no prefix shows the history
+-- what is said by a search over a recorder: a prefix shows the history, or none does, and the recorder has a note of the empty prefix
 abbrev pub ReportsWith : {R N X : Type 0} → List Declared → History → (R → N → List Decision → Type 0) → Searched R N X → Type 0
 ReportsWith objects h noted (searched.Opaque q) = Shows objects h q
 ReportsWith objects h noted (searched.NotOpaque r note) = (orders.Opaque objects h → ⊥) × noted r note []

@@ -7,7 +7,7 @@ use Rattle.aud_witness.specs.Prefixes.{BeginsWith}
 use Rattle.aud_witness.specs.Orders.{Shows, Refuted}
 use Rattle.aud_order.specs.Shapes.{objects_of, history_of}
 use Rattle.aud_order.specs.Cursors.{CursorOf, IsGoodAt, cursor_with}
-use Rattle.search_memo.specs.declared.choice.Effect.TheVariants.{Silent}
+use Rattle.search_memo.specs.declared.choice.Visibility.TheVariants.{Silent}
 use Rattle.search_memo.specs.declared.choice.Choice.{Choice}
 use Rattle.search_prefix.specs.declared.outcome.Outcome.{Outcome}
 use Rattle.search_prefix.specs.declared.outcome.Outcome.TheVariants as outcome
@@ -35,8 +35,8 @@ ArePassed at cs from to = (from ≤ to) × ((j : ℕ) (c : Choice) → from ≤ 
 pub record IsNextPlace (cs : List Choice) (k g : ℕ) : Type 0 where
   pub past : k < g
   pub inside : g ≤ length cs
-  pub silent : (c : Choice) → slice_get cs k ≡ Some c → (g ≡ k + 1) ⊎ (c.effect ≡ Silent)
-  pub over : (c : Choice) → slice_get cs k ≡ Some c → c.effect ≡ Silent → g ≡ length cs
+  pub silent : (c : Choice) → slice_get cs k ≡ Some c → (g ≡ k + 1) ⊎ (c.visibility ≡ Silent)
+  pub over : (c : Choice) → slice_get cs k ≡ Some c → c.visibility ≡ Silent → g ≡ length cs
 
 -- of a budget some is used, and the rest is left; one expansion is not of the budget
 abbrev pub Spends : Option ℕ → ℕ → Option ℕ → Type 0
@@ -58,12 +58,12 @@ IsWitnessOf p (ended.Refuted note) = ⊥
 IsWitnessOf p (ended.Witness q) = q ≡ p
 IsWitnessOf p ended.Spent = ⊥
 
--- the same without the note
+-- how the search ended, without the note
 abbrev pub outcome_of : {N X : Type 0} → Ended N X → Outcome X
 outcome_of (ended.Refuted note) = outcome.Refuted
 outcome_of (ended.Witness q) = outcome.Witness q
 outcome_of ended.Spent = outcome.Spent
 
--- the same of the prefixes that begin with the cursor's
+-- what is reported of the prefixes that begin with the cursor's, where so much of the budget is left
 abbrev pub ReportsAt : {N X : Type 0} → CursorOf → (N → List Decision → Type 0) → Option ℕ → Ended N X → Type 0
 ReportsAt at noted left e = ReportsFrom (objects_of at.shape) (history_of at.shape) noted at.path left e

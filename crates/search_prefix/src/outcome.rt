@@ -38,7 +38,7 @@ pub enum Ended<N: Copy, A: Allocator = Global> {
 }
 
 impl<N: Copy, A: Allocator> Ended<N, A> {
-    /// The same without the note.
+    /// How the search ended, without the note.
     pub fn outcome(self) -> Outcome<A>
         ensures { result ≡ outcome_of self }
     {

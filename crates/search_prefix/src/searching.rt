@@ -22,7 +22,7 @@ use aud_order::{Cursor, Pushed, Shape};
 use aud_witness::{Decision, Prefix};
 use base_values::spend;
 use search_memo::{
-    BOUND, Choice, Effect, Memo, Order, Reason, Recorder, Unnoted, Unrecorded, choices_of,
+    BOUND, Choice, Memo, Order, Recorder, RefutedBy, Unnoted, Unrecorded, Visibility, choices_of,
 };
 use std::alloc::Allocator;
 
@@ -79,7 +79,7 @@ fn pass<N: Copy, R: Recorder<N, A>, A: Allocator + Copy>(
     if !try_decision(cursor, decision)? {
         return Ok(());
     }
-    memo.note(cursor, Reason::Same(note))?;
+    memo.note(cursor, RefutedBy::Same(note))?;
     let _ = cursor.pop();
     Ok(())
 }
@@ -152,9 +152,9 @@ fn next_place(choices: &[Choice], place: usize) -> usize
     requires { place < length choices.now }
     ensures { IsNextPlace choices.now place result }
 {
-    match choices[place].effect {
-        Effect::Silent => choices.len(),
-        Effect::Seen => place + 1,
+    match choices[place].visibility {
+        Visibility::Silent => choices.len(),
+        Visibility::Visible => place + 1,
     }
 }
 
@@ -163,19 +163,19 @@ fn silent_at(choices: &[Choice], place: usize) -> Option<Decision>
     requires { place < length choices.now }
     ensures { IsSilentAt choices.now place result }
 {
-    match choices[place].effect {
-        Effect::Silent => Some(choices[place].decision),
-        Effect::Seen => None,
+    match choices[place].visibility {
+        Visibility::Silent => Some(choices[place].decision),
+        Visibility::Visible => None,
     }
 }
 
 /// Why a prefix is refuted, once all its choices are, or once the one of a silent transaction is.
-fn reason_of<N>(silent: Option<Decision>) -> Reason<N>
+fn reason_of<N>(silent: Option<Decision>) -> RefutedBy<N>
     ensures { result ≡ reason_by silent }
 {
     match silent {
-        None => Reason::Kids,
-        Some(decision) => Reason::Silent(decision),
+        None => RefutedBy::Kids,
+        Some(decision) => RefutedBy::Silent(decision),
     }
 }
 
@@ -200,7 +200,7 @@ impl Frame {
         }
     }
 
-    /// The same, but the states have no number.
+    /// The frame without the number of the states.
     fn unnumbered(self) -> Frame
         ensures { result ≡ unnumbered self }
     {
@@ -281,7 +281,7 @@ fn arrive<N: Copy, R: Recorder<N, A>, A: Allocator + Copy>(
     let Some(note) = memo.knows(states, cursor) else {
         return Ok(Arrival::Fresh(states));
     };
-    memo.note(cursor, Reason::Same(note))?;
+    memo.note(cursor, RefutedBy::Same(note))?;
     take_back(cursor, memo);
     Ok(Arrival::Known)
 }

@@ -1,7 +1,7 @@
 use Rattle.std.specs.Prelude.{◌≡◌, [], refl}
 use Rattle.std.proofs.Common.{sym, ◌∙◌, ap, subst, arith}
 use Rattle.std.proofs.lemmas.List.{nil_from_length}
-use Rattle.search_memo.specs.declared.memo.Reason.{Reason}
+use Rattle.search_memo.specs.declared.recorder.RefutedBy.{RefutedBy}
 use Rattle.search_memo.specs.Memos.{MemoOf, states_reached, Names, IsFurther}
 use Rattle.search_memo.specs.Recorders.{IsReason}
 use Rattle.search_prefix.proofs.Recording.{reported-alone, reported-further}
@@ -10,7 +10,7 @@ use Rattle.search_prefix.proofs.searching.close.Goals as goal
 pub note-requires-clause-reason : goal.note-requires-clause-reason
 note-requires-clause-reason g c =
     let at = c.args.cursor.now in
-    subst (λ (r : Reason _). IsReason (g.R.Recorder.noted c.args.memo.now.recorder) at.shape at.path r) (sym c.reason_of.ensures) c.requires.reason
+    subst (λ (r : RefutedBy _). IsReason (g.R.Recorder.noted c.args.memo.now.recorder) at.shape at.path r) (sym c.reason_of.ensures) c.requires.reason
 
 pub returns-in_default-clause-closed : goal.returns-in_default-clause-closed
 returns-in_default-clause-closed g c =

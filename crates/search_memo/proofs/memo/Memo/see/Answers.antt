@@ -1,7 +1,7 @@
 use Rattle.std.specs.Prelude.{Some, is_ok, length}
 use Rattle.std.proofs.Common.{sym, ◌∙◌, ap, subst}
 use Rattle.aud_order.specs.Shapes.{history_of}
-use Rattle.search_memo.specs.Kept.{states_of}
+use Rattle.search_memo.specs.StoredStates.{states_of}
 use Rattle.search_memo.specs.Memos.{MemoOf, Names, AreSeen}
 use Rattle.search_memo.proofs.MemoLemmas.{seen-push}
 use Rattle.search_memo.proofs.memo.Memo.see.Goals as goal

@@ -1,9 +1,9 @@
 use Rattle.std.specs.Prelude.{reverse}
 use Rattle.std.proofs.Common.{subst, List, ℕ}
 use Rattle.aud_order.specs.Shapes.{history_of}
-use Rattle.search_memo.specs.Kept.{LeadsFrom, IsWay, states_of}
+use Rattle.search_memo.specs.StoredStates.{LeadsFrom, IsWay, states_of}
 use Rattle.search_memo.proofs.Keeping.{transitions-way}
-use Rattle.search_memo.proofs.kept.is_kept.Goals as goal
+use Rattle.search_memo.proofs.stored_states.is_kept.Goals as goal
 
 pub returns-in-Some-get_mut-clause-reported : goal.returns-in-Some-get_mut-clause-reported
 returns-in-Some-get_mut-clause-reported g c =

@@ -1,9 +1,9 @@
 use Rattle.std.specs.Prelude.{◌++◌, ◌∷◌, [], length}
 use Rattle.std.proofs.Common.{sym, ◌∙◌, ap, arith}
 use Rattle.aud_order.specs.Shapes.{history_of}
-use Rattle.search_memo.specs.Kept.{state_from, states_of}
+use Rattle.search_memo.specs.StoredStates.{state_from, states_of}
 use Rattle.search_memo.proofs.Keeping.{kept-more, kept-there}
-use Rattle.search_memo.proofs.kept.keep_states.Goals as goal
+use Rattle.search_memo.proofs.stored_states.keep_states.Goals as goal
 
 pub returns-clause-grown : goal.returns-clause-grown
 returns-clause-grown g c =

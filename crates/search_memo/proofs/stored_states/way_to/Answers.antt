@@ -3,7 +3,7 @@ use Rattle.std.specs.Result.{is_ok}
 use Rattle.std.proofs.Common.{◌∙◌, ap, arith}
 use Rattle.std.proofs.lemmas.Bool.Decides.{nat_tests}
 use Rattle.search_memo.proofs.Keeping.{way-start, way-back}
-use Rattle.search_memo.proofs.kept.way_to.Goals as goal
+use Rattle.search_memo.proofs.stored_states.way_to.Goals as goal
 
 pub loop-number-init : goal.loop-number-init
 loop-number-init g c = λ h. way-start h c.args.kept.now c.args.number c.clear.new.self.items c.clear.ensures.items

@@ -5,7 +5,7 @@ use Rattle.std.proofs.lemmas.Option.{get_or_from_slice_get}
 use Rattle.aud_history.specs.Table.{RowOf, table_of, row_of}
 use Rattle.aud_order.specs.Shapes.{history_of}
 use Rattle.aud_order.proofs.SilentRows.{row-found}
-use Rattle.search_memo.proofs.kept.block_of.Goals as goal
+use Rattle.search_memo.proofs.stored_states.block_of.Goals as goal
 
 pub returns-in-Some : goal.returns-in-Some
 returns-in-Some g c =

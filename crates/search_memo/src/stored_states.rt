@@ -4,7 +4,7 @@ ghost use Rattle.std.specs.Prelude.{◌≡◌, IfSome, IsTrue, MatchOption, Some
 ghost use Rattle.aud_history.specs.Table.{row_of};
 ghost use Rattle.aud_order.specs.Shapes.{history_of};
 ghost use Rattle.search_memo.specs.Memos.{Names};
-ghost use Rattle.search_memo.specs.Kept.{IsMoreOf, states_of, run_way, IsWayTo, LeadsTo, LeadsFrom, IsKeptOf};
+ghost use Rattle.search_memo.specs.StoredStates.{IsMoreOf, states_of, run_way, IsWayTo, LeadsTo, LeadsFrom, IsKeptOf};
 
 use crate::digests::Digests;
 use crate::index::{Index, Look};
@@ -14,9 +14,10 @@ use aud_order::Shape;
 use std::alloc::{Allocator, Global};
 use std::mem::size_of;
 
-/// How the states under a number are kept.
+/// States under a number, and how they are kept.
 #[derive(Drop)]
-pub(crate) enum Kept<A: Allocator = Global> {
+pub(crate) enum StoredStates<A: Allocator = Global> {
+    /// By a copy of all of them.
     Whole(Store<A>),
     /// By the step that leads to them, and what runs from whole ones on.
     After(Step, Cost),
@@ -85,7 +86,7 @@ const LOOKS: usize = 64;
 const LONGEST: usize = 64;
 
 /// How many bytes states take where they stand, by whatever they are kept.
-const KEPT: usize = size_of::<Kept<Global>>();
+const KEPT: usize = size_of::<StoredStates<Global>>();
 
 /// How many bytes a copy of a store takes for an object, and the most for the first and for each further member or item of one.
 const OBJECT: usize = 40;
@@ -139,7 +140,7 @@ fn leads_to<A: Allocator + Copy>(
 /// The number of whole states from which blocks lead to those under a number. Their transactions are put down, the last
 /// first.
 fn way_to<A: Allocator + Copy>(
-    kept: &[Kept<A>],
+    kept: &[StoredStates<A>],
     way: &mut Vec<u32, A>,
     number: usize,
 ) -> Option<usize>
@@ -149,8 +150,8 @@ fn way_to<A: Allocator + Copy>(
     let mut at = number;
     while way.len() <= LONGEST {
         match kept.get(at)? {
-            Kept::Whole(_) => return Some(at),
-            Kept::After(step, _) => {
+            StoredStates::Whole(_) => return Some(at),
+            StoredStates::After(step, _) => {
                 if step.from >= at || way.push(step.tx).is_err() {
                     return None;
                 }
@@ -163,7 +164,7 @@ fn way_to<A: Allocator + Copy>(
 
 /// Whether the blocks lead from whole states to those of a store. It is taken back.
 fn leads_from<A: Allocator + Copy>(
-    kept: &mut Kept<A>,
+    kept: &mut StoredStates<A>,
     shape: &Shape<A>,
     way: &[u32],
     other: &Store<A>,
@@ -172,14 +173,14 @@ fn leads_from<A: Allocator + Copy>(
     ensures stays { kept.new ≡ kept.old }
 {
     match kept {
-        Kept::Whole(store) => leads_to(store, shape, way, other),
-        Kept::After(_, _) => false,
+        StoredStates::Whole(store) => leads_to(store, shape, way, other),
+        StoredStates::After(_, _) => false,
     }
 }
 
 /// Whether the number is that of the store's states.
 fn is_kept<A: Allocator + Copy>(
-    kept: &mut Vec<Kept<A>, A>,
+    kept: &mut Vec<StoredStates<A>, A>,
     shape: &Shape<A>,
     way: &mut Vec<u32, A>,
     number: usize,
@@ -199,7 +200,7 @@ fn is_kept<A: Allocator + Copy>(
 
 /// The number of the store's states, if it is found.
 fn find_states<A: Allocator + Copy>(
-    kept: &mut Vec<Kept<A>, A>,
+    kept: &mut Vec<StoredStates<A>, A>,
     finder: &mut Finder<A>,
     shape: &Shape<A>,
     digest: u64,
@@ -231,9 +232,9 @@ fn operations_of<A: Allocator + Copy>(shape: &Shape<A>, step: Step) -> usize {
 }
 
 /// What would run from whole states on, the block of the step last.
-fn cost_of<A: Allocator + Copy>(kept: &[Kept<A>], shape: &Shape<A>, step: Step) -> Cost {
+fn cost_of<A: Allocator + Copy>(kept: &[StoredStates<A>], shape: &Shape<A>, step: Step) -> Cost {
     let (blocks, operations) = match kept.get(step.from) {
-        Some(Kept::After(_, cost)) => (cost.blocks, cost.operations),
+        Some(StoredStates::After(_, cost)) => (cost.blocks, cost.operations),
         _ => (0, 0),
     };
     Cost {
@@ -254,7 +255,7 @@ fn size_of_whole<A: Allocator + Copy>(store: &Store<A>) -> usize {
         .saturating_add(HEAD)
 }
 
-/// The same of a copy that several have.
+/// The most that a copy of the store's states that several have takes beside the place where it stands, in bytes.
 pub(crate) fn size_of_shared<A: Allocator + Copy>(store: &Store<A>) -> usize {
     size_of_whole(store).saturating_add(HEAD)
 }
@@ -286,12 +287,12 @@ fn copy_of<A: Allocator + Copy>(room: &mut usize, store: &Store<A>) -> Option<St
 /// How the store's states are kept: after others, where few blocks run from whole ones on, with no more operations than a copy
 /// has numbers, or whole, if there is room and memory for that.
 fn kept_as<A: Allocator + Copy>(
-    kept: &[Kept<A>],
+    kept: &[StoredStates<A>],
     shape: &Shape<A>,
     room: &mut usize,
     step: Option<Step>,
     store: &Store<A>,
-) -> Option<Kept<A>>
+) -> Option<StoredStates<A>>
     requires { LeadsTo (history_of shape.now) (states_of (history_of shape.now) kept.now) step store.now.now }
     ensures { IsKeptOf (history_of shape.now) kept.now store.now.now result }
 {
@@ -301,24 +302,24 @@ fn kept_as<A: Allocator + Copy>(
             if !takes(room, size_of_step(shape, step)) {
                 return None;
             }
-            return Some(Kept::After(step, cost));
+            return Some(StoredStates::After(step, cost));
         }
     }
     let copy = copy_of(room, store)?;
-    Some(Kept::Whole(copy))
+    Some(StoredStates::Whole(copy))
 }
 
 /// What they take beside the place where they stand, in bytes.
-fn size_beside<A: Allocator + Copy>(shape: &Shape<A>, fresh: &Kept<A>) -> usize {
+fn size_beside<A: Allocator + Copy>(shape: &Shape<A>, fresh: &StoredStates<A>) -> usize {
     match fresh {
-        Kept::Whole(store) => size_of_whole(store),
-        Kept::After(step, _) => size_of_step(shape, *step),
+        StoredStates::Whole(store) => size_of_whole(store),
+        StoredStates::After(step, _) => size_of_step(shape, *step),
     }
 }
 
 /// The number of the store's states, which may come after the others, if there is room and memory for them.
 pub(crate) fn keep_states<A: Allocator + Copy>(
-    kept: &mut Vec<Kept<A>, A>,
+    kept: &mut Vec<StoredStates<A>, A>,
     finder: &mut Finder<A>,
     shape: &Shape<A>,
     room: &mut usize,
