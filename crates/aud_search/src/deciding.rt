@@ -19,17 +19,17 @@ enum Stage {
     /// A search by last events that hardly goes back.
     Straight,
     /// A search by last events of so many prefixes.
-    Soon(u64),
+    Bounded(u64),
     /// Clause learning over the order of transactions.
     Learning(Effort),
 }
 
 /// The schedule of `decide`. A run that is easy is decided by the first search; clause learning decides most others. What it does not decide
-/// in some seconds a longer search may, if the run is small. After the last stage all prefixes are searched, which ends every question.
+/// in some seconds a longer search may, if the run is small. After the last stage `decide_on` searches all prefixes, which ends every question.
 const STAGES: [Stage; 4] = [
     Stage::Straight,
     Stage::Learning(SHORT),
-    Stage::Soon(PREFIXES),
+    Stage::Bounded(PREFIXES),
     Stage::Learning(LONG),
 ];
 
@@ -117,14 +117,14 @@ fn decide_in<'a, A: Allocator + Copy>(
     ensures shape { OnOk result (memo.new.shape ≡ memo.old.shape) }
 {
     match stage {
-        Stage::Straight => decide_soon(alloc, shape, straight(shape), memo),
-        Stage::Soon(prefixes) => decide_soon(alloc, shape, prefixes, memo),
+        Stage::Straight => decide_within(alloc, shape, straight(shape), memo),
+        Stage::Bounded(prefixes) => decide_within(alloc, shape, prefixes, memo),
         Stage::Learning(effort) => decide_by_clauses(alloc, shape, effort),
     }
 }
 
 /// Decides the history, if a search of so many prefixes does.
-fn decide_soon<'a, A: Allocator + Copy>(
+fn decide_within<'a, A: Allocator + Copy>(
     alloc: A,
     shape: &'a Shape<A>,
     prefixes: u64,

@@ -148,7 +148,7 @@ impl<'a, J: Scene, A: Allocator + Copy> Session<'a, J, A> {
         })
     }
 
-    /// The same as `explore`, by one search.
+    /// Whether some order that begins with the prefix shows the history, as `explore` says it, by one search.
     fn search_below(&mut self, prefix: &Prefix<A>, budget: u64) -> Result<Outcome<A>, OutOfMemory>
         ensures reported { IfOk result (Reports (objects_of self.old) (history_of self.old) prefix.now (Some budget)) }
         ensures shape { self.new ≡ self.old }

@@ -1,9 +1,9 @@
 //! What is learned from what cannot be.
 
-use crate::grounds::{Help, View, add_clash, add_grounds};
+use crate::grounds::{Help, View, add_conflict, add_grounds};
 use crate::heap::{Heap, bump};
 use crate::items::{at, fill, neg, set, var};
-use crate::known::{Clash, Ground, State, UNKNOWN};
+use crate::known::{Conflict, Ground, State, UNKNOWN};
 use aud_event::OutOfMemory;
 use std::alloc::{Allocator, Global};
 
@@ -27,6 +27,7 @@ pub(crate) struct Analysis<A: Allocator + Copy = Global> {
 }
 
 impl<A: Allocator + Copy> Analysis<A> {
+    /// Of nothing. It does not allocate.
     pub(crate) fn empty(alloc: A) -> Analysis<A> {
         Analysis {
             todo: Vec::new(alloc),
@@ -151,7 +152,7 @@ fn go_on<A: Allocator + Copy>(
     Ok(())
 }
 
-/// Goes back along the trail to the first literal of the level from which alone the clash follows.
+/// Goes back along the trail to the first literal of the level from which alone the conflict follows.
 fn find_first<A: Allocator + Copy>(
     analysis: &mut Analysis<A>,
     heap: &mut Heap<A>,
@@ -217,7 +218,7 @@ fn shorten<A: Allocator + Copy>(
     Ok(())
 }
 
-/// Puts a literal of the highest level behind the first one, and gives that level, to which the search goes back.
+/// Puts a literal of the highest level after the first one, and gives that level, to which the search goes back.
 fn order_clause(clause: &mut [u32], states: &[State]) -> u32 {
     let mut best: usize = 1;
     let mut level = 0;
@@ -249,7 +250,7 @@ fn forget_met(is_met: &mut [bool], met: &[usize]) {
     }
 }
 
-/// Learns a clause from a clash at the level, of whose literals `todo` are those that hold. It gives the level to which the search goes
+/// Learns a clause from a conflict at the level, of whose literals `todo` are those that hold. It gives the level to which the search goes
 /// back.
 pub(crate) fn learn<A: Allocator + Copy>(
     analysis: &mut Analysis<A>,
@@ -267,13 +268,13 @@ pub(crate) fn learn<A: Allocator + Copy>(
 }
 
 /// Reads the literals that hold and cannot all do, and gives the highest of their levels.
-pub(crate) fn read_clash<A: Allocator + Copy>(
+pub(crate) fn read_conflict<A: Allocator + Copy>(
     analysis: &mut Analysis<A>,
     view: &View<'_, A>,
-    clash: Clash,
+    conflict: Conflict,
 ) -> Result<u32, OutOfMemory> {
     analysis.todo.clear();
-    add_clash(view, clash, &mut analysis.helps, &mut analysis.todo)?;
+    add_conflict(view, conflict, &mut analysis.helps, &mut analysis.todo)?;
     Ok(highest(view.states, &analysis.todo))
 }
 

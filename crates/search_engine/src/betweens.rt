@@ -5,7 +5,7 @@ use crate::cells::{
     meets,
 };
 use crate::items::{FALSE, NONE, TRUE, at, neg, short};
-use crate::known::{Clash, Ground, Known, assign, value};
+use crate::known::{Conflict, Ground, Known, assign, value};
 use crate::spans::{Span, before, span_of};
 use std::alloc::Allocator;
 
@@ -63,12 +63,12 @@ fn look<A: Allocator + Copy>(
     spans: &[Span],
     source: u32,
     writer: u32,
-) -> Option<Clash> {
+) -> Option<Conflict> {
     known.looks = known.looks.wrapping_add(1);
     let clause = clause_of(cells, spans, source, writer);
     let forced = forced_by(&known.values, &clause);
     if forced == FALSE {
-        return Some(Clash::Between(source, writer));
+        return Some(Conflict::Between(source, writer));
     }
     if forced != TRUE {
         assign(known, forced, Ground::Between(source, writer));
@@ -109,7 +109,7 @@ pub(crate) fn judge_source<A: Allocator + Copy>(
     cells: &Cells<A>,
     spans: &[Span],
     source: u32,
-) -> Option<Clash> {
+) -> Option<Conflict> {
     let window = window_of(cells, spans, source);
     for step in 0..window.to.saturating_sub(window.from) {
         let number = window.to.wrapping_sub(1).wrapping_sub(step);
@@ -118,9 +118,9 @@ pub(crate) fn judge_source<A: Allocator + Copy>(
             break;
         }
         if !meets(window.need, writer.value) {
-            let clash = look(known, cells, spans, source, short(number));
-            if clash.is_some() {
-                return clash;
+            let conflict = look(known, cells, spans, source, short(number));
+            if conflict.is_some() {
+                return conflict;
             }
         }
     }
@@ -164,7 +164,7 @@ fn judge_reader<A: Allocator + Copy>(
     spans: &[Span],
     reader: u32,
     writer: u32,
-) -> Option<Clash> {
+) -> Option<Conflict> {
     if may_read(cells, reader, writer) {
         return None;
     }
@@ -173,9 +173,9 @@ fn judge_reader<A: Allocator + Copy>(
         if fails(&known.values, &cells.sources, short(source)) {
             continue;
         }
-        let clash = look(known, cells, spans, short(source), writer);
-        if clash.is_some() {
-            return clash;
+        let conflict = look(known, cells, spans, short(source), writer);
+        if conflict.is_some() {
+            return conflict;
         }
     }
     None
@@ -188,7 +188,7 @@ fn look_open<A: Allocator + Copy>(
     spans: &[Span],
     source: u32,
     other: u32,
-) -> Option<Clash> {
+) -> Option<Conflict> {
     let found = at(&cells.sources, source as usize, NO_SOURCE);
     if value(&known.values, found.literal) == -1 || may_read(cells, found.reader, other) {
         return None;
@@ -203,15 +203,15 @@ fn judge_writers<A: Allocator + Copy>(
     spans: &[Span],
     writer: u32,
     other: u32,
-) -> Option<Clash> {
+) -> Option<Conflict> {
     let mut source = at(&cells.writers, writer as usize, NO_WRITER).source;
     for _ in 0..cells.sources.len() {
         if source == NONE {
             break;
         }
-        let clash = look_open(known, cells, spans, source, other);
-        if clash.is_some() {
-            return clash;
+        let conflict = look_open(known, cells, spans, source, other);
+        if conflict.is_some() {
+            return conflict;
         }
         source = at(&cells.sources, source as usize, NO_SOURCE).next;
     }
@@ -225,14 +225,14 @@ fn judge_parts<A: Allocator + Copy>(
     spans: &[Span],
     one: Part,
     other: Part,
-) -> Option<Clash> {
+) -> Option<Conflict> {
     if one.writer == NONE {
         return None;
     }
     if other.reader != NONE {
-        let clash = judge_reader(known, cells, spans, other.reader, one.writer);
-        if clash.is_some() {
-            return clash;
+        let conflict = judge_reader(known, cells, spans, other.reader, one.writer);
+        if conflict.is_some() {
+            return conflict;
         }
     }
     if other.writer != NONE {
@@ -248,7 +248,7 @@ pub(crate) fn judge_pair<A: Allocator + Copy>(
     spans: &[Span],
     row: usize,
     other: usize,
-) -> Option<Clash> {
+) -> Option<Conflict> {
     let mut one = at(&cells.starts, row, 0);
     let one_end = at(&cells.starts, row.wrapping_add(1), 0);
     let mut two = at(&cells.starts, other, 0);
@@ -260,9 +260,9 @@ pub(crate) fn judge_pair<A: Allocator + Copy>(
         let mine = at(&cells.parts, one, NO_PART);
         let theirs = at(&cells.parts, two, NO_PART);
         if mine.cell == theirs.cell {
-            let clash = judge_parts(known, cells, spans, mine, theirs);
-            if clash.is_some() {
-                return clash;
+            let conflict = judge_parts(known, cells, spans, mine, theirs);
+            if conflict.is_some() {
+                return conflict;
             }
         }
         if mine.cell <= theirs.cell {
@@ -275,13 +275,13 @@ pub(crate) fn judge_pair<A: Allocator + Copy>(
     None
 }
 
-/// The row is kept: looks at all readers of the cells that it writes.
-pub(crate) fn judge_kept<A: Allocator + Copy>(
+/// The row commits: looks at all readers of the cells that it writes.
+pub(crate) fn check_commits<A: Allocator + Copy>(
     known: &mut Known<A>,
     cells: &Cells<A>,
     spans: &[Span],
     row: usize,
-) -> Option<Clash> {
+) -> Option<Conflict> {
     let from = at(&cells.starts, row, 0);
     let to = at(&cells.starts, row.wrapping_add(1), 0);
     for part in crate::items::between(&cells.parts, from, to) {
@@ -290,9 +290,9 @@ pub(crate) fn judge_kept<A: Allocator + Copy>(
         }
         let cell = at(&cells.cells, part.cell as usize, NO_CELL);
         for reader in cell.readers..cell.readers_end {
-            let clash = judge_reader(known, cells, spans, short(reader), part.writer);
-            if clash.is_some() {
-                return clash;
+            let conflict = judge_reader(known, cells, spans, short(reader), part.writer);
+            if conflict.is_some() {
+                return conflict;
             }
         }
     }

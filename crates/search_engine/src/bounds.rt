@@ -1,7 +1,7 @@
 //! What the bounds of sums force.
 
 use crate::items::{FALSE, at, neg, set, short, var};
-use crate::known::{Clash, Ground, Known, assign, value};
+use crate::known::{Conflict, Ground, Known, assign, value};
 use crate::sums::{NO_SUM, NO_TERM, Sum, Sums, Term};
 use std::alloc::Allocator;
 
@@ -139,7 +139,7 @@ fn judge_sum<A: Allocator + Copy>(
     known: &mut Known<A>,
     sums: &Sums<A>,
     number: u32,
-) -> Option<Clash> {
+) -> Option<Conflict> {
     let sum = at(&sums.sums, number as usize, NO_SUM);
     let guard = value(&known.values, sum.guard);
     if guard == -1 {
@@ -156,7 +156,7 @@ fn judge_sum<A: Allocator + Copy>(
             assign(known, neg(sum.guard), ground);
             return None;
         }
-        return Some(Clash::Sum(number, is_low));
+        return Some(Conflict::Sum(number, is_low));
     }
     let is_far = sum.wanted.wrapping_sub(sum.low) >= sum.most;
     if guard == 0 || (is_far && sum.high.wrapping_sub(sum.wanted) >= sum.most) {
@@ -178,7 +178,7 @@ fn judge_sum<A: Allocator + Copy>(
 pub(crate) fn judge_waiting<A: Allocator + Copy>(
     known: &mut Known<A>,
     sums: &mut Sums<A>,
-) -> Option<Clash> {
+) -> Option<Conflict> {
     let number = sums.waiting.pop()?;
     if let Some(sum) = sums.sums.get_mut(number as usize) {
         sum.waits = false;

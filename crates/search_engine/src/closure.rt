@@ -1,18 +1,18 @@
 //! Who stands before whom: with each pair all that follow from it.
 
 use crate::items::{at, set, short};
-use crate::known::{Clash, Ground, Known, assign, value};
+use crate::known::{Conflict, Ground, Known, assign, value};
 use crate::spans::{Span, before};
 use aud_event::OutOfMemory;
 use std::alloc::{Allocator, Global};
 
-/// For each row the rows behind it and those ahead of it, as bits.
+/// For each row the rows after it and those before it, as bits.
 #[derive(Drop)]
 pub(crate) struct Closure<A: Allocator + Copy = Global> {
     /// How many words a row has.
     pub words: usize,
-    pub behind: Vec<u64, A>,
-    pub ahead: Vec<u64, A>,
+    pub after: Vec<u64, A>,
+    pub before: Vec<u64, A>,
 }
 
 /// The bit of the row in that word of its bits.
@@ -33,8 +33,8 @@ fn set_bit(bits: &mut [u64], from: usize, row: usize, to: bool) {
 }
 
 /// Whether the one row is known to stand before the other.
-pub(crate) fn is_before(behind: &[u64], words: usize, row: usize, other: usize) -> bool {
-    let word = at(behind, row.wrapping_mul(words).wrapping_add(other / 64), 0);
+pub(crate) fn is_before(after: &[u64], words: usize, row: usize, other: usize) -> bool {
+    let word = at(after, row.wrapping_mul(words).wrapping_add(other / 64), 0);
     (word >> (other % 64)) & 1 == 1
 }
 
@@ -44,35 +44,35 @@ pub(crate) fn close_spans<A: Allocator + Copy>(
     spans: &[Span],
 ) -> Result<Closure<A>, OutOfMemory> {
     let words = spans.len().div_ceil(64);
-    let mut behind = Vec::new(alloc);
-    let mut ahead = Vec::new(alloc);
+    let mut after = Vec::new(alloc);
+    let mut earlier = Vec::new(alloc);
     for span in spans {
         for word in 0..words {
-            behind.push(bits_from(span.end, word))?;
-            ahead.push(0)?;
+            after.push(bits_from(span.end, word))?;
+            earlier.push(0)?;
         }
     }
     for row in 0..spans.len() {
         let end = spans[row].end;
         if end < spans.len() {
-            set_bit(&mut ahead, end.wrapping_mul(words), row, true);
+            set_bit(&mut earlier, end.wrapping_mul(words), row, true);
         }
     }
-    for place in words..ahead.len() {
-        let word = at(&ahead, place.wrapping_sub(words), 0) | at(&ahead, place, 0);
-        set(&mut ahead, place, word);
+    for place in words..earlier.len() {
+        let word = at(&earlier, place.wrapping_sub(words), 0) | at(&earlier, place, 0);
+        set(&mut earlier, place, word);
     }
     let count = spans.len();
     for row in 0..count {
         let last = count.div_ceil(64).wrapping_sub(1);
         let place = row.wrapping_mul(words).wrapping_add(last);
-        let word = at(&behind, place, 0) & !bits_from(count, last);
-        set(&mut behind, place, word);
+        let word = at(&after, place, 0) & !bits_from(count, last);
+        set(&mut after, place, word);
     }
     Ok(Closure {
         words,
-        behind,
-        ahead,
+        after,
+        before: earlier,
     })
 }
 
@@ -95,17 +95,13 @@ fn join<A: Allocator + Copy>(
     spans: &[Span],
     row: usize,
     through: (usize, usize),
-) -> Option<Clash> {
+) -> Option<Conflict> {
     let words = closure.words;
     let (from, to) = through;
     for word in 0..words {
-        let theirs = at(
-            &closure.behind,
-            to.wrapping_mul(words).wrapping_add(word),
-            0,
-        );
+        let theirs = at(&closure.after, to.wrapping_mul(words).wrapping_add(word), 0);
         let mine = at(
-            &closure.behind,
+            &closure.after,
             row.wrapping_mul(words).wrapping_add(word),
             0,
         );
@@ -120,12 +116,12 @@ fn join<A: Allocator + Copy>(
             fresh &= fresh.wrapping_sub(1);
             let literal = before(spans, row, other);
             match value(&known.values, literal) {
-                0 => assign(known, literal, Ground::Turn(short(from), short(to))),
+                0 => assign(known, literal, Ground::Circle(short(from), short(to))),
                 1 => {}
-                _ => return Some(Clash::Turn(row, from, to, other)),
+                _ => return Some(Conflict::Circle(row, from, to, other)),
             }
-            set_bit(&mut closure.behind, row.wrapping_mul(words), other, true);
-            set_bit(&mut closure.ahead, other.wrapping_mul(words), row, true);
+            set_bit(&mut closure.after, row.wrapping_mul(words), other, true);
+            set_bit(&mut closure.before, other.wrapping_mul(words), row, true);
         }
     }
     known.looks = known.looks.wrapping_add(words as u64);
@@ -139,19 +135,19 @@ pub(crate) fn close<A: Allocator + Copy>(
     spans: &[Span],
     row: usize,
     other: usize,
-) -> Option<Clash> {
+) -> Option<Conflict> {
     let words = closure.words;
-    if is_before(&closure.behind, words, row, other) {
+    if is_before(&closure.after, words, row, other) {
         return None;
     }
     for word in 0..words {
         let mine = at(
-            &closure.ahead,
+            &closure.before,
             row.wrapping_mul(words).wrapping_add(word),
             0,
         );
         let theirs = at(
-            &closure.ahead,
+            &closure.before,
             other.wrapping_mul(words).wrapping_add(word),
             0,
         );
@@ -164,9 +160,9 @@ pub(crate) fn close<A: Allocator + Copy>(
                 .wrapping_mul(64)
                 .wrapping_add(fresh.trailing_zeros() as usize);
             fresh &= fresh.wrapping_sub(1);
-            let clash = join(known, closure, spans, earlier, (row, other));
-            if clash.is_some() {
-                return clash;
+            let conflict = join(known, closure, spans, earlier, (row, other));
+            if conflict.is_some() {
+                return conflict;
             }
         }
     }
@@ -176,6 +172,6 @@ pub(crate) fn close<A: Allocator + Copy>(
 /// The one row is no longer known to stand before the other.
 pub(crate) fn reopen<A: Allocator + Copy>(closure: &mut Closure<A>, row: usize, other: usize) {
     let words = closure.words;
-    set_bit(&mut closure.behind, row.wrapping_mul(words), other, false);
-    set_bit(&mut closure.ahead, other.wrapping_mul(words), row, false);
+    set_bit(&mut closure.after, row.wrapping_mul(words), other, false);
+    set_bit(&mut closure.before, other.wrapping_mul(words), row, false);
 }

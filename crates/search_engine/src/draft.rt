@@ -11,8 +11,8 @@ pub(crate) enum Role {
     Nothing,
     /// The one row stands before the other, which began later.
     Precedence(u16, u16),
-    /// The row is kept.
-    Kept(u32),
+    /// The row commits.
+    Commits(u32),
     /// The source of that number is the one.
     Source(u32),
     /// The item of that number is what is taken.
@@ -27,7 +27,7 @@ pub(crate) enum Cause {
     /// The source, and the other writer.
     Between(u32, u32),
     Counter(u32, u16),
-    /// The same, where each count that is open is a multiple of the last number.
+    /// What the reader finds on the counter, where each count that is open is a multiple of the last number.
     Remainder(u32, u16, i64),
     Element(u32, u16, i64),
     Items(u32),
@@ -35,7 +35,7 @@ pub(crate) enum Cause {
     Place(u32),
     Empty(u32, u16, u32),
     Gone(u32),
-    Turn(u32, u32, u32, u32),
+    Circle(u32, u32, u32, u32),
     /// An order that was tried in vain.
     Tried,
 }
@@ -51,6 +51,7 @@ pub(crate) struct Variables<A: Allocator + Copy = Global> {
 }
 
 impl<A: Allocator + Copy> Variables<A> {
+    /// No variables. It does not allocate.
     pub(crate) fn empty(alloc: A) -> Variables<A> {
         Variables {
             roles: Vec::new(alloc),
@@ -95,7 +96,7 @@ pub(crate) fn add_pairs<A: Allocator + Copy>(
     }
     for row in 0..spans.len() {
         if spans[row].kept == NONE {
-            spans[row].kept = add_variable(variables, Role::Kept(short(row)), true, true)?;
+            spans[row].kept = add_variable(variables, Role::Commits(short(row)), true, true)?;
         }
     }
     Ok(())
@@ -115,7 +116,7 @@ pub(crate) const STEP: usize = 5;
 
 pub(crate) const LITERALS: usize = 6;
 
-/// The clauses, one behind the other in the words of an arena. A clause goes by the place of its first word.
+/// The clauses, one after the other in the words of an arena. A clause goes by the place of its first word.
 #[derive(Drop)]
 pub(crate) struct Clauses<A: Allocator + Copy = Global> {
     pub arena: Vec<u32, A>,
@@ -128,6 +129,7 @@ pub(crate) struct Clauses<A: Allocator + Copy = Global> {
 }
 
 impl<A: Allocator + Copy> Clauses<A> {
+    /// No clauses. It does not allocate.
     pub(crate) fn empty(alloc: A) -> Clauses<A> {
         Clauses {
             arena: Vec::new(alloc),
@@ -153,7 +155,7 @@ pub(crate) fn append<A: Allocator + Copy>(
     Ok(place)
 }
 
-/// Puts the literals behind the clause at the place that is the last one, those aside that fail in any case.
+/// Puts the literals after the clause at the place that is the last one, those aside that fail in any case.
 fn extend<A: Allocator + Copy>(
     arena: &mut Vec<u32, A>,
     place: usize,

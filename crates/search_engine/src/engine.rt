@@ -43,6 +43,7 @@ struct Near {
     is_open: bool,
 }
 
+/// Orders near the instants after so many of twenty parts of each time, by up to so many places; there may be such.
 fn nearby(part: u64, reach: usize) -> Near {
     Near {
         part,
@@ -51,7 +52,7 @@ fn nearby(part: u64, reach: usize) -> Near {
     }
 }
 
-/// How many hundred conflicts the rounds of a search are given: 1, 1, 2, 1, 1, 2, 4 and so on (Luby, Sinclair and Zuckerman, Optimal
+/// How many hundred conflicts the restarts of a search are given: 1, 1, 2, 1, 1, 2, 4 and so on (Luby, Sinclair and Zuckerman, Optimal
 /// speedup of Las Vegas algorithms, 1993; by Knuth's two counters).
 #[derive(Clone, Copy)]
 struct Luby {
@@ -59,7 +60,7 @@ struct Luby {
     share: u64,
 }
 
-/// The share of the round after.
+/// The share of the restart after.
 fn next_share(now: Luby) -> Luby {
     if now.turn & now.turn.wrapping_neg() == now.share {
         Luby {
@@ -218,8 +219,8 @@ enum Tried<A: Allocator + Copy> {
     Nothing,
 }
 
-/// Searches in rounds, plainly and near the orders of instants by turns. None where there is no order.
-fn search_rounds<A: Allocator + Copy>(
+/// Searches by restarts, plainly and near the orders of instants by turns. None where there is no order.
+fn search_by_restarts<A: Allocator + Copy>(
     alloc: A,
     shape: &Shape<A>,
     solver: &mut Solver<A>,
@@ -235,12 +236,12 @@ fn search_rounds<A: Allocator + Copy>(
     let mut turn = 0;
     let mut luby = Luby { turn: 1, share: 1 };
     let unit = (rows as u64 / 8).max(100);
-    for round in 0..u64::MAX {
+    for restart in 0..u64::MAX {
         let mut used = None;
         let mut budget = luby.share.saturating_mul(unit);
         luby = next_share(luby);
         solver.assumed.clear();
-        if round >= 6 && round % 2 == 0 {
+        if restart >= 6 && restart % 2 == 0 {
             used = next_near(&nears, turn);
         }
         if let Some(place) = used {
@@ -249,7 +250,7 @@ fn search_rounds<A: Allocator + Copy>(
             let ranks = ranks_of(alloc, &solver.problem.spans, found.part)?;
             go_back(solver, 0);
             assume_near(solver, &ranks, found.reach)?;
-            budget = round.saturating_mul(100).saturating_add(300);
+            budget = restart.saturating_mul(100).saturating_add(300);
         }
         let conflicts = solver
             .conflicts
@@ -325,7 +326,7 @@ fn search_for<A: Allocator + Copy>(
 ) -> Result<Option<Answer<A>>, OutOfMemory> {
     prepare(solver)?;
     if begin(solver)? {
-        let found = search_rounds(alloc, shape, solver, effort)?;
+        let found = search_by_restarts(alloc, shape, solver, effort)?;
         if found.is_some() {
             return Ok(found);
         }

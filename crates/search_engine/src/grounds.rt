@@ -4,7 +4,7 @@ use crate::betweens::clause_of;
 use crate::cells::Cells;
 use crate::draft::{Cause, LITERALS, Role};
 use crate::items::{FALSE, NONE, TRUE, at, between, neg, var};
-use crate::known::{Clash, Ground, Known, State, UNKNOWN, place_if, value};
+use crate::known::{Conflict, Ground, Known, State, UNKNOWN, place_if, value};
 use crate::spans::{Span, before};
 use crate::sums::{NO_SUM, NO_TERM, Sum, Sums, Term};
 use aud_event::OutOfMemory;
@@ -69,7 +69,7 @@ pub(crate) fn pair_of(roles: &[Role], literal: u32) -> Option<(usize, usize)> {
 }
 
 /// The literals of a circle over the pair, but for the one that the first row stands before the last.
-fn add_turn<A: Allocator + Copy>(
+fn add_circle<A: Allocator + Copy>(
     spans: &[Span],
     ends: (usize, usize),
     pair: (usize, usize),
@@ -219,8 +219,8 @@ pub(crate) fn add_grounds<A: Allocator + Copy>(
     match state.ground {
         Ground::Choice => Ok(()),
         Ground::Clause(clause) => add_others(literals_of(view.arena, clause), literal, out),
-        Ground::Turn(row, other) => match pair_of(view.roles, literal) {
-            Some(ends) => add_turn(view.spans, ends, (row as usize, other as usize), out),
+        Ground::Circle(row, other) => match pair_of(view.roles, literal) {
+            Some(ends) => add_circle(view.spans, ends, (row as usize, other as usize), out),
             None => Ok(()),
         },
         Ground::Between(source, writer) => {
@@ -233,25 +233,25 @@ pub(crate) fn add_grounds<A: Allocator + Copy>(
 }
 
 /// Adds the literals that hold, and cannot all do.
-pub(crate) fn add_clash<A: Allocator + Copy>(
+pub(crate) fn add_conflict<A: Allocator + Copy>(
     view: &View<'_, A>,
-    clash: Clash,
+    conflict: Conflict,
     helps: &mut Vec<Help, A>,
     out: &mut Vec<u32, A>,
 ) -> Result<(), OutOfMemory> {
-    match clash {
-        Clash::Clause(clause) => add_others(literals_of(view.arena, clause), FALSE, out),
-        Clash::Turn(row, from, to, other) => {
+    match conflict {
+        Conflict::Clause(clause) => add_others(literals_of(view.arena, clause), FALSE, out),
+        Conflict::Circle(row, from, to, other) => {
             let literal = before(view.spans, other, row);
             if row != other && literal != TRUE {
                 out.push(literal)?;
             }
-            add_turn(view.spans, (row, other), (from, to), out)
+            add_circle(view.spans, (row, other), (from, to), out)
         }
-        Clash::Between(source, writer) => {
+        Conflict::Between(source, writer) => {
             let clause = clause_of(view.cells, view.spans, source, writer);
             add_others(&clause, FALSE, out)
         }
-        Clash::Sum(sum, is_low) => add_bound(view, sum, is_low, FALSE, NONE, helps, out),
+        Conflict::Sum(sum, is_low) => add_bound(view, sum, is_low, FALSE, NONE, helps, out),
     }
 }

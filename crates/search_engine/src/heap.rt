@@ -17,6 +17,7 @@ pub(crate) struct Heap<A: Allocator + Copy = Global> {
 }
 
 impl<A: Allocator + Copy> Heap<A> {
+    /// Of no variables. It does not allocate.
     pub(crate) fn empty(alloc: A) -> Heap<A> {
         Heap {
             weights: Vec::new(alloc),
@@ -38,6 +39,7 @@ pub(crate) fn make_heap<A: Allocator + Copy>(
     fill(&mut heap.places, count, NONE)
 }
 
+/// The weight of the variable.
 fn weight(weights: &[f64], variable: u32) -> f64 {
     at(weights, variable as usize, 0.0)
 }

@@ -11,7 +11,7 @@ pub(crate) enum Ground {
     Choice,
     Clause(u32),
     /// The one row stands before the other.
-    Turn(u32, u32),
+    Circle(u32, u32),
     /// The source, and the other writer.
     Between(u32, u32),
     /// The least, or the greatest, that the sum can be.
@@ -36,9 +36,9 @@ pub(crate) const UNKNOWN: State = State {
 
 /// What cannot be: the clause, the circle of rows, the source and the other writer, or the sum and whether it is the least of it.
 #[derive(Clone, Copy)]
-pub(crate) enum Clash {
+pub(crate) enum Conflict {
     Clause(u32),
-    Turn(usize, usize, usize, usize),
+    Circle(usize, usize, usize, usize),
     Between(u32, u32),
     Sum(u32, bool),
 }
@@ -61,6 +61,7 @@ pub(crate) struct Known<A: Allocator + Copy = Global> {
 }
 
 impl<A: Allocator + Copy> Known<A> {
+    /// Nothing is known. It does not allocate.
     pub(crate) fn empty(alloc: A) -> Known<A> {
         Known {
             values: Vec::new(alloc),

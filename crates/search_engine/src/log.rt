@@ -4,7 +4,7 @@ use crate::analysis::Analysis;
 use crate::draft::{CAUSE, Cause, STEP};
 use crate::grounds::{Help, View, add_grounds, literals_of, pair_of};
 use crate::items::{NONE, at, between, fill, neg, set, short, var};
-use crate::known::{Clash, Ground, UNKNOWN};
+use crate::known::{Conflict, Ground, UNKNOWN};
 use crate::sums::NO_SUM;
 use aud_event::OutOfMemory;
 use std::alloc::{Allocator, Global};
@@ -55,7 +55,7 @@ const NOT_PLACED: Placed = Placed {
 pub(crate) struct Log<A: Allocator + Copy = Global> {
     pub is_on: bool,
     pub steps: Steps<A>,
-    /// The step of the last clash.
+    /// The step of the last conflict.
     pub last: u32,
     /// For each cause of a clause the step that gives it; for each variable the step that gives the literal which holds in any case, and
     /// the last step that it was forced by.
@@ -69,6 +69,7 @@ pub(crate) struct Log<A: Allocator + Copy = Global> {
 }
 
 impl<A: Allocator + Copy> Log<A> {
+    /// Without a step; steps are noted where it is on. It does not allocate.
     pub(crate) fn empty(alloc: A, is_on: bool) -> Log<A> {
         Log {
             is_on,
@@ -147,8 +148,8 @@ fn step_of_clause<A: Allocator + Copy>(
 /// Why the literals force this one, where no clause does.
 fn cause_of<A: Allocator + Copy>(view: &View<'_, A>, literal: u32, ground: Ground) -> Cause {
     match ground {
-        Ground::Turn(row, other) => match pair_of(view.roles, literal) {
-            Some((first, last)) => Cause::Turn(short(first), row, other, short(last)),
+        Ground::Circle(row, other) => match pair_of(view.roles, literal) {
+            Some((first, last)) => Cause::Circle(short(first), row, other, short(last)),
             None => Cause::Tried,
         },
         Ground::Between(source, writer) => Cause::Between(source, writer),
@@ -208,33 +209,33 @@ fn step_of<A: Allocator + Copy>(
     Ok(number)
 }
 
-/// Why the clash cannot be, if it is of no clause.
-fn cause_of_clash<A: Allocator + Copy>(view: &View<'_, A>, clash: Clash) -> Cause {
-    match clash {
-        Clash::Clause(_) => Cause::Tried,
-        Clash::Turn(row, from, to, other) => {
-            Cause::Turn(short(row), short(from), short(to), short(other))
+/// Why the conflict cannot be, if it is of no clause.
+fn cause_of_conflict<A: Allocator + Copy>(view: &View<'_, A>, conflict: Conflict) -> Cause {
+    match conflict {
+        Conflict::Clause(_) => Cause::Tried,
+        Conflict::Circle(row, from, to, other) => {
+            Cause::Circle(short(row), short(from), short(to), short(other))
         }
-        Clash::Between(source, writer) => Cause::Between(source, writer),
-        Clash::Sum(sum, _) => at(view.sums, sum as usize, NO_SUM).cause,
+        Conflict::Between(source, writer) => Cause::Between(source, writer),
+        Conflict::Sum(sum, _) => at(view.sums, sum as usize, NO_SUM).cause,
     }
 }
 
 /// Notes the step of what cannot be. The literals are those that hold and cannot all do.
-pub(crate) fn log_clash<A: Allocator + Copy>(
+pub(crate) fn log_conflict<A: Allocator + Copy>(
     log: &mut Log<A>,
     view: &View<'_, A>,
-    clash: Clash,
+    conflict: Conflict,
     literals: &[u32],
 ) -> Result<(), OutOfMemory> {
-    if let Clash::Clause(clause) = clash {
+    if let Conflict::Clause(clause) = conflict {
         log.last = step_of_clause(&mut log.steps, &mut log.causes, view, clause)?;
         return Ok(());
     }
     log.clause.clear();
     log.clause.extend_from_slice(literals)?;
     turn_all(&mut log.clause);
-    let why = Why::Cause(cause_of_clash(view, clash));
+    let why = Why::Cause(cause_of_conflict(view, conflict));
     log.last = add_step(&mut log.steps, &log.clause, why)?;
     Ok(())
 }
@@ -356,7 +357,7 @@ fn find_steps<A: Allocator + Copy>(
 }
 
 /// Adds the step of a learned clause: it follows from those that give what holds in any case, from those that forced the literals that
-/// were used, and from the last clash.
+/// were used, and from the last conflict.
 pub(crate) fn log_learned<A: Allocator + Copy>(
     log: &mut Log<A>,
     view: &View<'_, A>,
@@ -402,7 +403,7 @@ fn push_needed<A: Allocator + Copy>(
     Ok(())
 }
 
-/// Adds the step with no literal, where the last clash needs but what holds in any case.
+/// Adds the step with no literal, where the last conflict needs but what holds in any case.
 pub(crate) fn log_end<A: Allocator + Copy>(
     log: &mut Log<A>,
     view: &View<'_, A>,

@@ -29,7 +29,7 @@ fn first_free(spans: &[Span], counts: &[u32]) -> usize {
 }
 
 /// How many rows stand before each one.
-fn count_ahead<A: Allocator + Copy>(
+fn count_before<A: Allocator + Copy>(
     counts: &mut Vec<u32, A>,
     solver: &Solver<A>,
 ) -> Result<(), OutOfMemory> {
@@ -37,7 +37,7 @@ fn count_ahead<A: Allocator + Copy>(
     for row in 0..solver.problem.spans.len() {
         let mut count: u32 = 0;
         let from = row.wrapping_mul(words);
-        for word in crate::items::between(&solver.closure.ahead, from, from.wrapping_add(words)) {
+        for word in crate::items::between(&solver.closure.before, from, from.wrapping_add(words)) {
             count = count.wrapping_add(word.count_ones());
         }
         counts.push(count)?;
@@ -46,10 +46,10 @@ fn count_ahead<A: Allocator + Copy>(
 }
 
 /// One less stands before each of those that the row stands before.
-fn let_go(counts: &mut [u32], behind: &[u64], words: usize, row: usize) {
+fn let_go(counts: &mut [u32], after: &[u64], words: usize, row: usize) {
     set(counts, row, NONE);
     for other in 0..counts.len() {
-        if is_before(behind, words, row, other) {
+        if is_before(after, words, row, other) {
             let count = counts[other];
             counts[other] = count.wrapping_sub(1);
         }
@@ -63,13 +63,13 @@ pub(crate) fn order_of<A: Allocator + Copy>(
 ) -> Result<Vec<usize, A>, OutOfMemory> {
     let spans = &solver.problem.spans[..];
     let mut counts = Vec::new(alloc);
-    count_ahead(&mut counts, solver)?;
+    count_before(&mut counts, solver)?;
     let mut order = Vec::new(alloc);
     for _ in 0..spans.len() {
         let row = first_free(spans, &counts);
         let_go(
             &mut counts,
-            &solver.closure.behind,
+            &solver.closure.after,
             solver.closure.words,
             row,
         );
@@ -96,7 +96,7 @@ pub(crate) fn decisions_of<A: Allocator + Copy>(
     Ok(decisions)
 }
 
-/// The place of the first decision that is not good behind those of the cursor, if there is one.
+/// The place of the first decision that is not good after those of the cursor, if there is one.
 fn first_refused<A: Allocator + Copy>(
     cursor: &mut Cursor<'_, A>,
     decisions: &[Decision],

@@ -73,6 +73,7 @@ pub(crate) struct Items<A: Allocator + Copy = Global> {
 }
 
 impl<A: Allocator + Copy> Items<A> {
+    /// No items. It does not allocate.
     pub(crate) fn empty(alloc: A) -> Items<A> {
         Items {
             takes: Vec::new(alloc),
@@ -115,7 +116,7 @@ struct Queue<A: Allocator + Copy = Global> {
     added: Vec<Added, A>,
 }
 
-/// The same by what ended before each row.
+/// Who adds and who takes each value, by what ended before each row.
 #[derive(Drop)]
 struct Ended<A: Allocator + Copy = Global> {
     takes: Vec<i64, A>,
@@ -241,7 +242,7 @@ fn first_end(takers: &[Held], rows: &[usize], spans: &[Span]) -> u32 {
     first
 }
 
-/// Lists the values that are added by those that may be kept, in the order of their rows, behind one that is none. A row's value after
+/// Lists the values that are added by those that may be kept, in the order of their rows, after one that is none. A row's value after
 /// itself counts once.
 fn list_added<A: Allocator + Copy>(
     queue: &mut Queue<A>,

@@ -10,7 +10,7 @@ use crate::sums::{Beside, add_terms, end_sum, find_beside, sum_ended};
 use aud_event::{Answer, ObjDecl, ObjKind, Op, OutOfMemory};
 use aud_history::TxRow;
 use aud_order::Shape;
-use search_model::{Cell, added_item, asks, cell_of, count_change, count_told, puts, taken_item};
+use search_model::{Cell, added_item, asks, cell_of, count_change, count_seen, puts, taken_item};
 use std::alloc::{Allocator, Global};
 
 /// What a history asks: an order, as a problem, or nothing, as one transaction contradicts itself on a cell, or more than there is room
@@ -166,7 +166,7 @@ fn read_touches<A: Allocator + Copy>(
 
 /// Adds what the execution tells of the counter. False where it contradicts what its transaction did before.
 fn add_count(count: &mut Count, op: Op, answer: Answer) -> bool {
-    if let Some(found) = count_told(op, answer) {
+    if let Some(found) = count_seen(op, answer) {
         let Some(need) = found.checked_sub(count.gain) else {
             return false;
         };

@@ -44,7 +44,7 @@ fn mark<A: Allocator + Copy>(alloc: A, clauses: &mut Clauses<A>) -> Result<(), O
     Ok(())
 }
 
-/// The clause behind this one.
+/// The clause after this one.
 fn next_clause(arena: &[u32], clause: u32) -> u32 {
     let length = word(arena, clause, 0) as usize;
     short(

@@ -36,6 +36,7 @@ fn writer_of<A: Allocator + Copy>(problem: &Problem<A>, writer: u32) -> Option<u
     }
 }
 
+/// The take as laws name it.
 fn take_of<A: Allocator + Copy>(problem: &Problem<A>, take: TakeOf) -> Take {
     Take {
         taker: tx_of(problem, take.row),
@@ -64,12 +65,12 @@ fn source_of<A: Allocator + Copy>(problem: &Problem<A>, source: u32) -> (Read, O
 /// What the variable says.
 fn atom_of<A: Allocator + Copy>(problem: &Problem<A>, variable: usize) -> Atom {
     match at(&problem.variables.roles, variable, Role::Nothing) {
-        Role::Nothing => Atom::Kept(0),
+        Role::Nothing => Atom::Commits(0),
         Role::Precedence(row, other) => {
             let first = tx_of(problem, row as usize);
             Atom::Before(first, tx_of(problem, other as usize))
         }
-        Role::Kept(row) => Atom::Kept(tx_of(problem, row as usize)),
+        Role::Commits(row) => Atom::Commits(tx_of(problem, row as usize)),
         Role::Source(source) => match source_of(problem, source) {
             (read, Some(writer)) => Atom::Source(read, writer),
             (read, None) => Atom::Opening(read),
@@ -137,7 +138,7 @@ fn law_of<A: Allocator + Copy>(problem: &Problem<A>, cause: Cause) -> Option<Obj
             Some(ObjectLaw::Queue(QueueLaw::Empty(tx_of(problem, row as usize), object, place)))
         }
         Cause::Gone(number) => gone_of(problem, number),
-        Cause::Turn(_, _, _, _) | Cause::Tried => None,
+        Cause::Circle(_, _, _, _) | Cause::Tried => None,
     }
 }
 
@@ -256,9 +257,9 @@ fn reason_of<A: Allocator + Copy>(
             let hints = between(&steps.hints, from, to);
             Ok(Some(Reason::Units(hints_of(alloc, hints, numbers)?)))
         }
-        Why::Cause(Cause::Turn(first, row, other, last)) => {
+        Why::Cause(Cause::Circle(first, row, other, last)) => {
             let rows = [first, row, other, last];
-            Ok(Some(Reason::Turn(circle_of(alloc, problem, rows)?)))
+            Ok(Some(Reason::Circle(circle_of(alloc, problem, rows)?)))
         }
         Why::Cause(cause) => match law_of(problem, cause) {
             Some(law) => Ok(Some(Reason::Law(law))),

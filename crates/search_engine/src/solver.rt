@@ -1,15 +1,15 @@
 //! The search for values of all variables.
 
-use crate::analysis::{Analysis, count_levels, learn, make_marks, read_clash};
-use crate::betweens::{judge_kept, judge_pair, judge_source};
+use crate::analysis::{Analysis, count_levels, learn, make_marks, read_conflict};
+use crate::betweens::{check_commits, judge_pair, judge_source};
 use crate::bounds::{count_terms, judge_waiting, let_wait, wake_guarded};
 use crate::closure::{Closure, close, close_spans, reopen};
 use crate::draft::{LITERALS, Role, append};
 use crate::grounds::{View, pair_of};
 use crate::heap::{Heap, heaviest, insert, make_heap, take_heaviest};
 use crate::items::{NONE, TRUE, at, between, neg, set, short, var};
-use crate::known::{Clash, Ground, Known, assign, make_room, value};
-use crate::log::{Log, bytes_logged, log_clash, log_end, log_learned, make_log};
+use crate::known::{Conflict, Ground, Known, assign, make_room, value};
+use crate::log::{Log, bytes_logged, log_conflict, log_end, log_learned, make_log};
 use crate::problem::{Problem, bytes_of};
 use crate::queues::NO_ITEM;
 use crate::reduce::reduce;
@@ -50,9 +50,9 @@ pub(crate) struct Solver<A: Allocator + Copy = Global> {
     best_count: usize,
     pub tries_best: bool,
     reduced: u64,
-    /// How many decisions were made, and how many before the last clash.
+    /// How many decisions were made, and how many before the last conflict.
     decisions: u64,
-    clashed: u64,
+    at_conflict: u64,
     /// How many levels the search goes back, where more would be far.
     stride: u32,
     late: Vec<Late, A>,
@@ -93,7 +93,7 @@ pub(crate) fn solver_of<A: Allocator + Copy>(
         tries_best: false,
         reduced: REDUCED,
         decisions: 0,
-        clashed: 0,
+        at_conflict: 0,
         stride: 1,
         late: Vec::new(alloc),
     })
@@ -166,15 +166,15 @@ fn judge_next<A: Allocator + Copy>(
     problem: &mut Problem<A>,
     known: &mut Known<A>,
     closure: &mut Closure<A>,
-) -> Option<Clash> {
+) -> Option<Conflict> {
     let literal = at(&known.trail, known.judged, 0);
     known.judged = known.judged.wrapping_add(1);
     let count = count_terms(&mut problem.sums, literal, true);
     known.looks = known.looks.wrapping_add(count as u64);
     if let Some((row, other)) = pair_of(&problem.variables.roles, literal) {
-        let clash = close(known, closure, &problem.spans, row, other);
-        if clash.is_some() {
-            return clash;
+        let conflict = close(known, closure, &problem.spans, row, other);
+        if conflict.is_some() {
+            return conflict;
         }
         return judge_pair(known, &problem.cells, &problem.spans, row, other);
     }
@@ -183,7 +183,7 @@ fn judge_next<A: Allocator + Copy>(
     }
     match at(&problem.variables.roles, var(literal), Role::Nothing) {
         Role::Source(source) => judge_source(known, &problem.cells, &problem.spans, source),
-        Role::Kept(row) => judge_kept(known, &problem.cells, &problem.spans, row as usize),
+        Role::Commits(row) => check_commits(known, &problem.cells, &problem.spans, row as usize),
         Role::Item(item) => {
             let sum = at(&problem.items.items, item as usize, NO_ITEM).sum;
             wake_guarded(&mut problem.sums, sum);
@@ -198,25 +198,25 @@ fn propagate<A: Allocator + Copy>(
     problem: &mut Problem<A>,
     known: &mut Known<A>,
     closure: &mut Closure<A>,
-) -> Option<Clash> {
+) -> Option<Conflict> {
     for _ in 0..u64::MAX {
-        let clash = follow_clauses(known, &mut problem.clauses);
-        if clash.is_some() {
-            return clash;
+        let conflict = follow_clauses(known, &mut problem.clauses);
+        if conflict.is_some() {
+            return conflict;
         }
         if known.judged < known.count {
-            let clash = judge_next(problem, known, closure);
-            if clash.is_some() {
-                return clash;
+            let conflict = judge_next(problem, known, closure);
+            if conflict.is_some() {
+                return conflict;
             }
             continue;
         }
         if problem.sums.waiting.is_empty() {
             return None;
         }
-        let clash = judge_waiting(known, &mut problem.sums);
-        if clash.is_some() {
-            return clash;
+        let conflict = judge_waiting(known, &mut problem.sums);
+        if conflict.is_some() {
+            return conflict;
         }
     }
     None
@@ -368,22 +368,22 @@ fn add_learned<A: Allocator + Copy>(
     Ok(())
 }
 
-/// Notes what the clash needs. Its literals are those that hold and cannot all do.
-fn note_clash<A: Allocator + Copy>(
+/// Notes what the conflict needs. Its literals are those that hold and cannot all do.
+fn note_conflict<A: Allocator + Copy>(
     solver: &mut Solver<A>,
-    clash: Clash,
+    conflict: Conflict,
     is_end: bool,
 ) -> Result<(), OutOfMemory> {
     let view = view_of!(solver);
     let literals = &solver.analysis.todo[..];
-    log_clash(&mut solver.log, &view, clash, literals)?;
+    log_conflict(&mut solver.log, &view, conflict, literals)?;
     if is_end {
         log_end(&mut solver.log, &view, &mut solver.analysis.helps, literals)?;
     }
     Ok(())
 }
 
-/// Makes a clause of the clash, whose highest level is given; and gives the level at which the clause forces a literal.
+/// Makes a clause of the conflict, whose highest level is given; and gives the level at which the clause forces a literal.
 fn make_clause<A: Allocator + Copy>(solver: &mut Solver<A>, top: u32) -> Result<u32, OutOfMemory> {
     let view = view_of!(solver);
     let trail = between(&solver.known.trail, 0, solver.known.count);
@@ -400,14 +400,14 @@ fn write_clause<A: Allocator + Copy>(solver: &mut Solver<A>) -> Result<u32, OutO
 }
 
 /// The level to which the search goes back, where the clause forces a literal from that one on. Where that is far, it is one below the
-/// highest, and further with each clash since the last decision: what was decided between stays.
+/// highest, and further with each conflict since the last decision: what was decided between stays.
 fn level_back<A: Allocator + Copy>(solver: &mut Solver<A>, level: u32, top: u32) -> u32 {
-    if solver.decisions > solver.clashed {
+    if solver.decisions > solver.at_conflict {
         solver.stride = 1;
     } else {
         solver.stride = solver.stride.saturating_mul(2);
     }
-    solver.clashed = solver.decisions;
+    solver.at_conflict = solver.decisions;
     if top.saturating_sub(level) > FAR {
         top.saturating_sub(solver.stride).max(level)
     } else {
@@ -415,7 +415,7 @@ fn level_back<A: Allocator + Copy>(solver: &mut Solver<A>, level: u32, top: u32)
     }
 }
 
-/// Learns a clause from the clash, whose highest level is given, and goes back to where the clause forces a literal.
+/// Learns a clause from the conflict, whose highest level is given, and goes back to where the clause forces a literal.
 fn learn_clause<A: Allocator + Copy>(solver: &mut Solver<A>, top: u32) -> Result<(), OutOfMemory> {
     let level = make_clause(solver, top)?;
     let levels = count_levels(&mut solver.analysis, &solver.known.states);
@@ -435,26 +435,29 @@ fn let_go<A: Allocator + Copy>(solver: &mut Solver<A>) -> Result<(), OutOfMemory
     Ok(())
 }
 
-/// Reads what the clash needs, and notes it, if that is asked for or is the end. The highest level of it is given.
-fn read_top<A: Allocator + Copy>(solver: &mut Solver<A>, clash: Clash) -> Result<u32, OutOfMemory> {
+/// Reads what the conflict needs, and notes it, if that is asked for or is the end. The highest level of it is given.
+fn read_top<A: Allocator + Copy>(
+    solver: &mut Solver<A>,
+    conflict: Conflict,
+) -> Result<u32, OutOfMemory> {
     let view = view_of!(solver);
-    let top = read_clash(&mut solver.analysis, &view, clash)?;
+    let top = read_conflict(&mut solver.analysis, &view, conflict)?;
     if solver.log.is_on || (top == 0 && solver.problem.clauses.learned.is_empty()) {
-        note_clash(solver, clash, top == 0)?;
+        note_conflict(solver, conflict, top == 0)?;
     }
     Ok(top)
 }
 
-/// Learns from the clash, and goes back. None where the search goes on.
+/// Learns from the conflict, and goes back. None where the search goes on.
 fn resolve<A: Allocator + Copy>(
     solver: &mut Solver<A>,
-    clash: Clash,
+    conflict: Conflict,
 ) -> Result<Option<Found>, OutOfMemory> {
     solver.conflicts = solver.conflicts.wrapping_add(1);
     let last = solver.known.levels.len().wrapping_sub(1);
     let begun = at(&solver.known.levels, last, 0);
     note_best(solver, begun)?;
-    let top = read_top(solver, clash)?;
+    let top = read_top(solver, conflict)?;
     if top == 0 {
         return Ok(Some(Found::Nothing));
     }
@@ -523,7 +526,7 @@ fn decide<A: Allocator + Copy>(solver: &mut Solver<A>) -> Result<bool, OutOfMemo
 }
 
 /// The clauses of one literal hold. The first that cannot is given.
-fn begin_clauses<A: Allocator + Copy>(solver: &mut Solver<A>) -> Option<Clash> {
+fn begin_clauses<A: Allocator + Copy>(solver: &mut Solver<A>) -> Option<Conflict> {
     let mut place: usize = 0;
     for _ in 0..solver.problem.clauses.arena.len() {
         if place >= solver.problem.clauses.arena.len() {
@@ -538,7 +541,7 @@ fn begin_clauses<A: Allocator + Copy>(solver: &mut Solver<A>) -> Option<Clash> {
         let clause = short(place);
         let known = value(&solver.known.values, literal);
         if length == 0 || (length == 1 && known == -1) {
-            return Some(Clash::Clause(clause));
+            return Some(Conflict::Clause(clause));
         }
         if length == 1 && known == 0 {
             assign(&mut solver.known, literal, Ground::Clause(clause));
@@ -550,12 +553,12 @@ fn begin_clauses<A: Allocator + Copy>(solver: &mut Solver<A>) -> Option<Clash> {
 
 /// Follows what holds in any case. False where that cannot be.
 pub(crate) fn begin<A: Allocator + Copy>(solver: &mut Solver<A>) -> Result<bool, OutOfMemory> {
-    let Some(clash) = begin_clauses(solver) else {
+    let Some(conflict) = begin_clauses(solver) else {
         return Ok(true);
     };
     let view = view_of!(solver);
-    read_clash(&mut solver.analysis, &view, clash)?;
-    note_clash(solver, clash, true)?;
+    read_conflict(&mut solver.analysis, &view, conflict)?;
+    note_conflict(solver, conflict, true)?;
     Ok(false)
 }
 
@@ -622,9 +625,9 @@ pub(crate) fn search<A: Allocator + Copy>(
     bounds: Bounds,
 ) -> Result<Found, OutOfMemory> {
     for _ in 0..u64::MAX {
-        let clash = propagate(&mut solver.problem, &mut solver.known, &mut solver.closure);
-        if let Some(clash) = clash {
-            if let Some(found) = resolve(solver, clash)? {
+        let conflict = propagate(&mut solver.problem, &mut solver.known, &mut solver.closure);
+        if let Some(conflict) = conflict {
+            if let Some(found) = resolve(solver, conflict)? {
                 return Ok(found);
             }
             continue;

@@ -66,6 +66,7 @@ pub(crate) struct Sums<A: Allocator + Copy = Global> {
 }
 
 impl<A: Allocator + Copy> Sums<A> {
+    /// No sums. It does not allocate.
     pub(crate) fn empty(alloc: A) -> Sums<A> {
         Sums {
             sums: Vec::new(alloc),
@@ -88,6 +89,7 @@ pub(crate) struct Beside<A: Allocator + Copy = Global> {
 }
 
 impl<A: Allocator + Copy> Beside<A> {
+    /// Of no rows. It does not allocate.
     pub(crate) fn empty(alloc: A) -> Beside<A> {
         Beside {
             starts: Vec::new(alloc),

@@ -2,7 +2,7 @@
 
 use crate::draft::{Clauses, LENGTH, LINK, LITERALS};
 use crate::items::{NONE, at, fill, neg, set};
-use crate::known::{Clash, Ground, Known, assign, value};
+use crate::known::{Conflict, Ground, Known, assign, value};
 use aud_event::OutOfMemory;
 use std::alloc::Allocator;
 
@@ -45,7 +45,7 @@ pub(crate) fn watch_all<A: Allocator + Copy>(
     Ok(())
 }
 
-/// The place of a literal of the clause behind the first two that does not fail, or 0.
+/// The place of a literal of the clause after the first two that does not fail, or 0.
 fn find_other(values: &[i8], arena: &[u32], place: usize) -> usize {
     let length = at(arena, place, 0) as usize;
     let from = place.wrapping_add(LITERALS);
@@ -107,10 +107,10 @@ fn visit_all<A: Allocator + Copy>(
     known: &mut Known<A>,
     clauses: &mut Clauses<A>,
     failing: u32,
-) -> Option<Clash> {
+) -> Option<Conflict> {
     let mut next = at(&clauses.heads, failing as usize, NONE);
     set(&mut clauses.heads, failing as usize, NONE);
-    let mut clash = None;
+    let mut conflict = None;
     for _ in 0..clauses.arena.len() {
         if next == NONE {
             break;
@@ -118,7 +118,7 @@ fn visit_all<A: Allocator + Copy>(
         let clause = next;
         next = next_of(&clauses.arena, clause, failing);
         known.looks = known.looks.wrapping_add(1);
-        if clash.is_some() {
+        if conflict.is_some() {
             keep(&mut clauses.arena, &mut clauses.heads, clause, failing);
             continue;
         }
@@ -135,26 +135,26 @@ fn visit_all<A: Allocator + Copy>(
         match value(&known.values, other) {
             0 => assign(known, other, Ground::Clause(clause)),
             1 => {}
-            _ => clash = Some(Clash::Clause(clause)),
+            _ => conflict = Some(Conflict::Clause(clause)),
         }
     }
-    clash
+    conflict
 }
 
 /// Follows the clauses from all literals that they have not seen.
 pub(crate) fn follow_clauses<A: Allocator + Copy>(
     known: &mut Known<A>,
     clauses: &mut Clauses<A>,
-) -> Option<Clash> {
+) -> Option<Conflict> {
     for _ in known.seen..known.trail.len() {
         if known.seen >= known.count {
             break;
         }
         let literal = at(&known.trail, known.seen, 0);
         known.seen = known.seen.wrapping_add(1);
-        let clash = visit_all(known, clauses, neg(literal));
-        if clash.is_some() {
-            return clash;
+        let conflict = visit_all(known, clauses, neg(literal));
+        if conflict.is_some() {
+            return conflict;
         }
     }
     None

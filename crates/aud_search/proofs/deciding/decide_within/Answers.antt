@@ -2,7 +2,7 @@ use Rattle.std.specs.Prelude.{[]}
 use Rattle.std.proofs.Common.{subst, ◌∙◌}
 use Rattle.aud_witness.specs.Orders.{Refuted}
 use Rattle.aud_order.specs.Shapes.{objects_of, history_of}
-use Rattle.aud_search.proofs.deciding.decide_soon.Goals as goal
+use Rattle.aud_search.proofs.deciding.decide_within.Goals as goal
 
 pub returns-in-Refuted-clause-decided : goal.returns-in-Refuted-clause-decided
 returns-in-Refuted-clause-decided g c =
