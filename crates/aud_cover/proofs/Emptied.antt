@@ -1,4 +1,4 @@
--- Nothing is open exactly where the empty list is closed.
+-- Nothing is open exactly where the empty prefix is closed.
 use Rattle.std.specs.Prelude.{◌≡◌, ◌↔◌, ℕ, zero, suc, ◌+◌, ◌<◌, ◌≤◌, List, [], ◌∷◌, ◌++◌, length, refl}
 use Rattle.std.specs.List.{Contains}
 use Rattle.std.proofs.Common.{sym, ◌∙◌, subst, inl, arith, append_assoc, length-append}
@@ -22,7 +22,7 @@ use Rattle.aud_cover.proofs.Beginnings.{marked-covered, marked-inner, marked-out
 use Rattle.aud_cover.proofs.Opened.{covered-longer, begins-itself, none_there, reached-kid}
 
 module _ (objects : List Declared) (h : History) (cover : List (List Decision)) where
-  -- nothing that begins with a closed list is open
+  -- nothing that begins with a closed prefix is open
   closed-none : (p q rest : List Decision) → IsClosed objects h cover p → IsOpen objects h cover q → q ≡ p ++ rest → ⊥
   closed-none p q rest (covered there) it is = it.uncovered (covered-longer cover p q (rest, is) there)
   closed-none p q rest (bad none) it is = none (IsGood-beginning objects h p rest (subst (λ l. IsGood objects h l) is it.good))
@@ -39,7 +39,7 @@ module _ (objects : List Declared) (h : History) (cover : List (List Decision)) 
       let long : length p ≡ length (transactions h) = length-full objects h p good full in
       omega arith
 
-  -- a list that is reached is closed where nothing that begins with it is open
+  -- a prefix that is reached is closed where nothing that begins with it is open
   none-closed : (fuel : ℕ) (p : List Decision) → longest cover ≤ length p + fuel → AreShortEnough h cover → IsGood objects h p → IsReached objects h cover p →
       ((q : List Decision) → IsOpen objects h cover q → BeginsWith p q → ⊥) → IsClosed objects h cover p
   none-closed zero p far within good reached none =

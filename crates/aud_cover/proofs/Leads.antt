@@ -1,4 +1,4 @@
--- What the node that a list leads to says of the list.
+-- What the node that a prefix leads to says of the prefix.
 use Rattle.std.specs.Prelude.{◌≡◌, ◌↔◌, false, IsTrue, List, [], ◌∷◌, ◌++◌, Some, None, refl}
 use Rattle.std.proofs.Common.{sym, ◌∙◌, ap, subst, append_assoc}
 use Rattle.std.proofs.lemmas.List.{append-nil}

@@ -1,4 +1,4 @@
--- Which lists are open, and how they gather.
+-- Which prefixes are open, and how they gather.
 use Rattle.std.specs.Prelude.{◌≡◌, ◌⊎◌, ℕ, zero, suc, ◌+◌, ◌<◌, ◌≤◌, List, [], ◌∷◌, ◌++◌, length, refl}
 use Rattle.std.specs.List.{Contains, AllByRecursion}
 use Rattle.std.specs.List.Sorted.{IsStrictlySortedBy}
@@ -26,7 +26,7 @@ use Rattle.aud_cover.proofs.Distinct.{kids-rise}
 
 -- # Beginnings
 
--- what a list with one more at its end begins with, the list begins with
+-- what a prefix with one more at its end begins with, the prefix begins with
 last-split : (p q : List Decision) (d e : Decision) (rest : List Decision) → p ++ d ∷ rest ≡ q ++ e ∷ [] → BeginsWith p q
 last-split [] q d e rest is = (q, refl)
 last-split (x ∷ p) [] d e rest is =
@@ -99,7 +99,7 @@ only_there p q (zero, inside, is) = is
 only_there p q (suc k, inside, is) = absurd (omega arith)
 
 module _ (objects : List Declared) (h : History) (cover : Lists) where
-  -- of an open list, what it is longer than is inside
+  -- of an open prefix, what it is longer than is inside
   open-inside : (p : List Decision) (d : Decision) (rest : List Decision) → IsOpen objects h cover (p ++ d ∷ rest) → IsInside cover p
   open-inside p d rest open_it = go open_it.reached
     where
@@ -110,7 +110,7 @@ module _ (objects : List Declared) (h : History) (cover : Lists) where
           absurd (omega arith)
       go (inr (q, (e, (is, inner)))) = inside-beginning cover p q (last-split p q d e rest is) inner.inside
 
-  -- # At one list
+  -- # At one prefix
 
   added-none : (p : List Decision) (old : Lists) → ((q : List Decision) → IsOpen objects h cover q → BeginsWith p q → ⊥) → AreAdded objects h cover p old old
   added-none p old none = record {
@@ -142,7 +142,7 @@ module _ (objects : List Declared) (h : History) (cover : Lists) where
       go q [] it so = (0, omega arith, sym (append-nil p) ∙ sym so)
       go q (d ∷ rest) it so = absurd (none.1 (open-inside p d rest (subst (λ l. IsOpen objects h cover l) so it)))
 
-  -- below a full list is nothing
+  -- below a full prefix is nothing
   full_next : (p : List Decision) (d : Decision) → IsFull h p → IsGoodNext objects h p d → ⊥
   full_next p d full next = let named = full.same d.tx ∙ next.in_history in let new = next.new in absurd (cc)
 
@@ -233,7 +233,7 @@ module _ (objects : List Declared) (h : History) (cover : Lists) where
   pub reached-kid : (p : List Decision) (d : Decision) → IsGood objects h p → (IsCovered cover p → ⊥) × IsInside cover p → IsReached objects h cover (p ++ d ∷ [])
   reached-kid p d good inner = inr (p, (d, (refl, record { good = good; inside = inner.1; uncovered = inner.0 })))
 
-  -- all that is added to nothing at the empty list
+  -- all that is added to nothing at the empty prefix
   pub open-from_added : (new : Lists) → AreAdded objects h cover [] [] new → AreOpen objects h cover new
   open-from_added new added =
       subst (λ l. AreOpen objects h cover l) (sym added.grown) (record {
@@ -241,7 +241,7 @@ module _ (objects : List Declared) (h : History) (cover : Lists) where
         rising = added.rising;
       })
 
--- from a cursor at the empty list
+-- from a cursor at the empty prefix
 pub open-whole : (shape : ShapeOf) (start : CursorOf) (cover old new : Lists) → start ≡ record { shape = shape; path = [] } → old ≡ [] →
     AreAdded (objects_of start.shape) (history_of start.shape) cover start.path old new → AreOpen (objects_of shape) (history_of shape) cover new
 open-whole shape start cover old new is none added =

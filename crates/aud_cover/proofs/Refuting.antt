@@ -1,4 +1,4 @@
--- What is closed over refuted lists is refuted.
+-- What is closed over refuted prefixes is refuted.
 use Rattle.std.specs.Prelude.{List, [], ◌∷◌, ◌++◌}
 use Rattle.std.proofs.Common.{sym, ◌∙◌, ap, subst, append_assoc}
 use Rattle.std.proofs.lemmas.List.{append-nil}
@@ -10,7 +10,7 @@ use Rattle.aud_witness.proofs.Beginnings.{IsGood-from_Shows}
 use Rattle.aud_cover.specs.Closings.{covered, bad, by_kids}
 use Rattle.aud_cover.specs.Laws.{ClosedIsRefuted}
 
--- a list that is not full is refuted where all its good extensions by one decision are
+-- a prefix that is not full is refuted where all its good extensions by one decision are
 refuted-by_kids : (objects : List Declared) (h : History) (p : List Decision) → (IsFull h p → ⊥) →
     ((d : Decision) → IsGood objects h (p ++ d ∷ []) → Refuted objects h (p ++ d ∷ [])) → Refuted objects h p
 refuted-by_kids objects h p unfull kids [] shows = unfull (subst (λ l. IsFull h l) (append-nil p) shows.full)

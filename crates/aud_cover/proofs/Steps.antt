@@ -1,4 +1,4 @@
--- Whether a list is closed, by its mark and its kids.
+-- Whether a prefix is closed, by its mark and its kids.
 use Rattle.std.specs.Prelude.{◌≡◌, ◌≢◌, ◌↔◌, ℕ, ◌+◌, ◌-◌, ◌<◌, ◌≤◌, Bool, true, false, IsTrue, List, [], ◌∷◌, ◌++◌, length, refl}
 use Rattle.std.specs.List.{Contains}
 use Rattle.std.proofs.Common.{sym, ◌∙◌, ap, subst, inl, inr, arith, get_or, take}
@@ -28,7 +28,7 @@ abbrev pub cursor_at : CursorOf → List Decision → CursorOf
 cursor_at c p = record { shape = c.shape; path = p }
 
 module _ (objects : List Declared) (h : History) (cover : List (List Decision)) where
-  -- a good list that is not covered is closed only by its kids
+  -- a good prefix that is not covered is closed only by its kids
   only_by_kids : (p : List Decision) → IsGood objects h p → (IsCovered cover p → ⊥) → IsClosed objects h cover p →
       (IsFull h p → ⊥) × (IsInside cover p × ((d : Decision) → IsGood objects h (p ++ d ∷ []) → IsClosed objects h cover (p ++ d ∷ [])))
   only_by_kids p good apart (covered there) = absurd (apart there)

@@ -29,7 +29,7 @@ pub record IsOpen (objects : List Declared) (h : History) (cover : List (List De
   pub outside : IsInside cover p → ⊥
   pub reached : IsReached objects h cover p
 
--- exactly the open lists, each once, the least first
+-- exactly the open prefixes, each once, the least first
 pub record AreOpen (objects : List Declared) (h : History) (cover : List (List Decision)) (list : List (List Decision)) : Type 0 where
   pub each : (p : List Decision) → Contains list p ↔ IsOpen objects h cover p
   pub rising : IsStrictlySortedBy (slice_cmp decision_cmp) list
@@ -38,11 +38,11 @@ pub record AreOpen (objects : List Declared) (h : History) (cover : List (List D
 abbrev pub AreShortEnough : History → List (List Decision) → Type 0
 AreShortEnough h cover = (p : List Decision) → Contains cover p → length p ≤ length (transactions h)
 
--- where the cover's members are short enough, the list is empty exactly where the cover closes the empty list
+-- where the cover's members are short enough, the list is empty exactly where the cover closes the empty prefix
 abbrev pub IsEmptyWhereClosed : List Declared → History → List (List Decision) → List (List Decision) → Type 0
 IsEmptyWhereClosed objects h cover list = AreShortEnough h cover → (list ≡ []) ↔ IsClosed objects h cover []
 
--- to a list are added exactly the open lists that begin with p, each once, the least first
+-- to a list are added exactly the open prefixes that begin with p, each once, the least first
 pub record AreAdded (objects : List Declared) (h : History) (cover : List (List Decision)) (p : List Decision) (old new : List (List Decision)) : Type 0 where
   pub more : List (List Decision)
   pub grown : new ≡ old ++ more

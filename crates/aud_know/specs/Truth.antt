@@ -24,12 +24,12 @@ pub record AreWhole (plan : PlanOf) (facts : List Fact) : Type 0 where
 abbrev pub AreShownBy : PlanOf → List Fact → List Decision → Type 0
 AreShownBy plan facts p = AreWhole plan facts × Shows plan.objects (hist facts) p
 
--- the facts are whole, and no order that begins with the list shows their history
+-- the facts are whole, and no order that begins with the prefix shows their history
 abbrev pub AreRefutedAt : PlanOf → List Fact → List Decision → Type 0
 AreRefutedAt plan facts p = AreWhole plan facts × Refuted plan.objects (hist facts) p
 
 -- if the facts conflict nowhere, and there is any refuted prefix or a witness, then they are sealed, their history is
--- well-formed, no list that begins with a refuted one shows it, and the witness does
+-- well-formed, no prefix that begins with a refuted one shows it, and the witness does
 pub record IsTrue (plan : PlanOf) (held : Held) : Type 0 where
   pub refuted : AreQuiet held.facts → (p : List Decision) → Contains held.cover p → AreRefutedAt plan held.facts p
   pub shown : AreQuiet held.facts → (p : List Decision) → held.witness ≡ Some p → AreShownBy plan held.facts p

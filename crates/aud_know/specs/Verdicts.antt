@@ -13,7 +13,7 @@ use Rattle.aud_know.specs.Known.{KnowledgeOf}
 use Rattle.aud_know.specs.declared.verdict.Verdict.{Verdict}
 use Rattle.aud_know.specs.declared.verdict.Verdict.TheVariants as verdict
 
--- the witness, if there is one; else whether the cover closes the empty list
+-- the witness, if there is one; else whether the cover closes the empty prefix
 abbrev pub OfWellFormed : {X : Type 0} → Type 0 → Option (List Decision) → Verdict X → Type 0
 OfWellFormed Closed (Some p) v = v ≡ verdict.Opaque p
 OfWellFormed Closed None v = ((v ≡ verdict.NotOpaque) × Closed) ⊎ ((v ≡ verdict.Unfinished) × (Closed → ⊥))

@@ -32,7 +32,7 @@ impl<A: Allocator + Copy> Model for Finding<A> {
 }
 
 impl<A: Allocator + Copy> Finding<A> {
-    /// The finding that no order of the shape's history that begins with the list shows it. It does not allocate.
+    /// The finding that no order of the shape's history that begins with the prefix shows it. It does not allocate.
     pub fn refuted(shape: Arc<Shape<A>, A>, list: Prefix<A>) -> Finding<A>
         requires { Refuted (objects_of shape.value) (history_of shape.value) list }
         ensures { result ≡ record { facts = shape.value.sealed.facts; claim = refuted list } }

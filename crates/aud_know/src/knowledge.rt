@@ -29,7 +29,7 @@ use std::alloc::{Allocator, Global};
 use std::marker::Model;
 use std::sync::Arc;
 
-/// Facts of one plan, the lists of decisions that are refuted, and the least witness: the normal form of all that was
+/// Facts of one plan, the prefixes that are refuted, and the least witness: the normal form of all that was
 /// taken. A copy shares all three with its source, so it costs the same at any size.
 #[derive(Drop)]
 pub struct Knowledge<A: Allocator + Copy = Global> {
@@ -110,7 +110,7 @@ impl<A: Allocator + Copy> Knowledge<A> {
         }
     }
 
-    /// Whether a beginning of the list is refuted; the list itself counts. It does not allocate.
+    /// Whether a beginning of the prefix is refuted; the prefix itself counts. It does not allocate.
     pub fn knows(&self, list: &Prefix<A>) -> bool
         ensures { IsTrue result ↔ IsCovered self.now.held.cover list.now }
     {
@@ -224,7 +224,7 @@ impl<A: Allocator + Copy> Knowledge<A> {
         })
     }
 
-    // The facts, and a list that is refuted in their history. The facts are joined last of all that may be refused.
+    // The facts, and a prefix that is refuted in their history. The facts are joined last of all that may be refused.
     fn take_refuted(&mut self, facts: &Facts<A>, list: &Prefix<A>) -> Result<(), OutOfMemory>
         requires finding { IsTrueFinding (record { facts = facts.now; claim = refuted list.now }) }
         requires plan { facts.now.plan ≡ self.old.plan }

@@ -22,7 +22,7 @@ pub type SharedCover<A> = Arc<Cover<Decision, A>, A>;
 /// No witness, or one that many may share.
 pub type SharedWitness<A> = Option<Arc<Prefix<A>, A>>;
 
-/// The cover with the list. Where a beginning of the list is there already, it is the same cover.
+/// The cover with the prefix. Where a beginning of the prefix is there already, it is the same cover.
 pub fn cover_with<A: Allocator + Copy>(
     alloc: A,
     cover: &SharedCover<A>,
@@ -37,7 +37,7 @@ pub fn cover_with<A: Allocator + Copy>(
     }
 }
 
-/// A copy of the cover with the list.
+/// A copy of the cover with the prefix.
 fn wider_cover<A: Allocator + Copy>(
     alloc: A,
     cover: &Cover<Decision, A>,
@@ -50,7 +50,7 @@ fn wider_cover<A: Allocator + Copy>(
     Ok(Arc::new(alloc, wider)?)
 }
 
-/// The cover of both. Where one has a beginning of each list of the other, it is that one, and nothing is copied.
+/// The cover of both. Where one has a beginning of each prefix of the other, it is that one, and nothing is copied.
 pub fn covers_joined<A: Allocator + Copy>(
     alloc: A,
     ours: &SharedCover<A>,
@@ -139,7 +139,7 @@ pub fn witnesses_joined<A: Allocator>(
     }
 }
 
-/// The lists of the cover that are not of the other.
+/// The prefixes of the cover that are not of the other.
 pub fn cover_beyond<A: Allocator + Copy>(
     alloc: A,
     ours: &SharedCover<A>,

@@ -31,7 +31,7 @@ atoms_in (e ∷ es) = item_atoms e.1 ++ atoms_in es
 abbrev pub state_of : PlanOf → List Entry → KnowledgeOf
 state_of plan log = knowing plan (atoms_in log)
 
--- the state of the offers has a refuted list that begins the list
+-- the state of the offers has a refuted prefix that begins the prefix
 abbrev pub IsKnownIn : PlanOf → List Entry → List Decision → Type 0
 IsKnownIn plan log list = IsCovered (state_of plan log).held.cover list
 

@@ -114,7 +114,7 @@ impl<J: Fleet, D: Drop> Node<J, D> {
         }
     }
 
-    /// Whether a beginning of the list is refuted in the pass's new view; the list itself counts. It does not allocate, and
+    /// Whether a beginning of the prefix is refuted in the pass's new view; the prefix itself counts. It does not allocate, and
     /// errs by `WrongNode` alone.
     pub fn knows(&self, pass: &mut Pass<J>, list: &Prefix) -> Result<bool, ReadFault>
         ensures view { GoesOn pass.old pass.new }

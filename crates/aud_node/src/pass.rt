@@ -164,7 +164,7 @@ impl<J: Fleet> Pass<J> {
         self.held.latest.known.verdict()
     }
 
-    /// Whether a beginning of the list is refuted in the new view.
+    /// Whether a beginning of the prefix is refuted in the new view.
     pub(crate) fn knows(&mut self, list: &Prefix) -> bool
         ensures view { GoesOn self.old self.new }
         ensures knows { IsTrue result ↔ IsKnownIn (J.plan self.new.number) self.new.view list.now }

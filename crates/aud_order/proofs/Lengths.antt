@@ -1,4 +1,4 @@
--- How long good lists are.
+-- How long good prefixes are.
 use Rattle.std.specs.Prelude.{◌≡◌, ◌↔◌, ℕ, ◌+◌, ◌≤◌, Bool, true, false, IsTrue, not, ◌||◌, nat_eq, List, [], ◌∷◌, ◌++◌, map, length, refl}
 use Rattle.std.specs.List.{list_any}
 use Rattle.std.proofs.Common.{sym, ◌∙◌, ap, subst, cond, inl, inr, arith, append_assoc}
@@ -72,7 +72,7 @@ different-names (d ∷ p) once =
     let parts = and_true (not (is_named p d.tx)) (are_named_once p) once in
     true_and (not (has (names p) d.tx)) (are_different (names p)) (ap not (has-names p d.tx) ∙ parts.0) (different-names p parts.1)
 
--- a good list names each transaction once
+-- a good prefix names each transaction once
 once-good : (objects : List Declared) (h : History) (before rest p : List Decision) → p ≡ before ++ rest → IsGood objects h p → are_named_once rest ≡ true
 once-good objects h before [] p is good = refl
 once-good objects h before (d ∷ rest) p is good =
@@ -89,7 +89,7 @@ named-good objects h p t good named =
     let (a, (d, (b, (at, same, _)))) = place_of p t named in
     subst (λ n. is_in h n ≡ true) same (good a d b at).in_history
 
--- a good list is no longer than there are transactions
+-- a good prefix is no longer than there are transactions
 pub length-good : (objects : List Declared) (h : History) (p : List Decision) → IsGood objects h p → length p ≤ length (transactions h)
 length-good objects h p good =
     let short : length (names p) ≤ length (transactions h) = no-more (names p) (transactions h) (different-names p (once-good objects h [] p p refl good))

@@ -1,4 +1,4 @@
--- What may be moved in a list of decisions, and what decides what may follow it.
+-- What may be moved in a prefix, and what decides what may follow it.
 use Rattle.std.specs.Prelude.{◌≡◌, ℕ, Bool, true, nat_eq, List, [], ◌∷◌, ◌++◌, map, length, Some, Ok, refl, ◌⊎◌}
 use Rattle.std.proofs.Common.{sym, ◌∙◌, ap, subst, inl, inr, arith, set}
 use Rattle.std.proofs.Math.ListN.{length-map}
@@ -25,7 +25,7 @@ use Rattle.aud_order.specs.Moves.{without, SilentMovesForward, ConfigurationsDec
 use Rattle.aud_order.proofs.SilentRows.{row-found, silent-row}
 use Rattle.aud_order.proofs.Stepping.{steps-from, walked-join, walked-one, silent-leaves, marked, moved}
 
--- where a good list leads
+-- where a good prefix leads
 pub led-to : (plan : PlanOf) (h : History) (p : List Decision) → IsWellFormed h → IsWithinLimits plan h → IsGood plan.objects h p →
     (s : Configuration) × ((walked (table_of h) (first_configuration (table_of h) plan.objects) p ≡ Some s) × Stands plan.objects h p s)
 led-to plan h p fine within good =
@@ -63,7 +63,7 @@ silent-moves-forward plan h p q d fine within silent next shown =
     root : Configuration
     root = first_configuration (table_of h) plan.objects
 
--- a list is refuted where it is once a silent transaction is placed after it
+-- a prefix is refuted where it is once a silent transaction is placed after it
 pub refuted-by_silent : (plan : PlanOf) (h : History) (p : List Decision) (d : Decision) → IsWellFormed h → IsWithinLimits plan h →
     silent_fate h d.tx ≡ Some d.fate → IsGoodNext plan.objects h p d → Refuted plan.objects h (p ++ d ∷ []) → Refuted plan.objects h p
 refuted-by_silent plan h p d fine within silent next refuted q shown = refuted (without d.tx q) (silent-moves-forward plan h p q d fine within silent next shown)
@@ -74,7 +74,7 @@ pub map-named : (f g : ℕ → Bool) (ts : List ℕ) → ((t : ℕ) → f t ≡ 
 map-named f g [] same = refl
 map-named f g (t ∷ ts) same = λ i. same t i ∷ map-named f g ts same i
 
--- two good lists with the same rows placed and the same states
+-- two good prefixes with the same rows placed and the same states
 pub shown-same : (plan : PlanOf) (h : History) (p q rest : List Decision) → IsWellFormed h → IsWithinLimits plan h → IsGood plan.objects h p → IsGood plan.objects h q →
     map (is_named p) (transactions h) ≡ map (is_named q) (transactions h) → states_after (map opening_of plan.objects) (kept h p) ≡ states_after (map opening_of plan.objects) (kept h q) →
     Shows plan.objects h (p ++ rest) → Shows plan.objects h (q ++ rest)

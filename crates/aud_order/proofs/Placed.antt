@@ -19,7 +19,7 @@ pub placed-more : (shape : ShapeOf) (ds : List Decision) (n : ℕ) (c new : Curs
 placed-more shape ds n c new inside is grown =
     grown ∙ ap (λ (u : CursorOf). cursor_of u.shape (u.path ++ get_or ds n no_decision ∷ [])) is ∙ ap (cursor_of shape) (sym (take_more ds n no_decision inside))
 
--- where one is not good after those before it, the list is not good
+-- where one is not good after those before it, the prefix is not good
 pub placed-bad : (shape : ShapeOf) (ds : List Decision) (n : ℕ) (c : CursorOf) → n < length ds → c ≡ cursor_of shape (take n ds) →
     (IsGoodNext (objects_of c.shape) (history_of c.shape) c.path (get_or ds n no_decision) → ⊥) → IsGood (objects_of shape) (history_of shape) ds → ⊥
 placed-bad shape ds n c inside is fails good =

@@ -1,4 +1,4 @@
--- A cover that has a beginning of each task below a list closes the list.
+-- A cover that has a beginning of each task below a prefix closes the prefix.
 use Rattle.std.specs.Prelude.{◌≡◌, ◌↔◌, ◌⊎◌, ℕ, zero, suc, List, [], ◌∷◌, ◌++◌, refl}
 use Rattle.std.specs.List.{Contains}
 use Rattle.std.proofs.Common.{sym, ◌∙◌, subst, inl, inr, arith, append_assoc}
@@ -20,7 +20,7 @@ use Rattle.aud_split.proofs.Tasks.{full-no_kids, task-itself, task-of_kid}
 -- # What can be said
 
 module _ (objects : List Declared) (h : History) where
-  -- a list is good or not
+  -- a prefix is good or not
   good_or_bad : (p : List Decision) → IsGood objects h p ⊎ (IsGood objects h p → ⊥)
   good_or_bad p = go [] p (IsGood-empty objects h)
     where
@@ -35,7 +35,7 @@ module _ (objects : List Declared) (h : History) where
             absurd (cc))
       ]
 
-  -- a good list has a kid or none
+  -- a good prefix has a kid or none
   kid_or_none : (p : List Decision) → IsGood objects h p → ((d : Decision) × IsGood objects h (p ++ d ∷ [])) ⊎ HasNoKids objects h p
   kid_or_none p good = go (kids objects h p) (λ d. kids-each objects h p (kids objects h p) d (IsPermutation-refl (kids objects h p)))
     where
@@ -43,7 +43,7 @@ module _ (objects : List Declared) (h : History) where
       go [] each = inr (λ d longer. let (k, inside, is) = (each d).1 (IsGood-last objects h p d longer) in absurd (omega arith))
       go (d ∷ ks) each = inl (d, IsGood-push objects h p d good ((each d).0 (0, omega arith, refl)))
 
-  -- below a good list there is a task
+  -- below a good prefix there is a task
   some_task : (depth : ℕ) (p : List Decision) → IsGood objects h p → (q : List Decision) × IsTask objects h p depth q
   some_task zero p good = (p, task-itself objects h p zero good (inl refl))
   some_task (suc n) p good = elim (kid_or_none p good) [
@@ -53,9 +53,9 @@ module _ (objects : List Declared) (h : History) where
     | inr none ↦ (p, task-itself objects h p (suc n) good (inr (inr none)))
   ]
 
--- # Beginnings of one list
+-- # Beginnings of one prefix
 
--- of two beginnings of a list the first begins the second, or goes on after it
+-- of two beginnings of a prefix the first begins the second, or goes on after it
 compared : (m p a b : List Decision) → m ++ a ≡ p ++ b → ((s : List Decision) × (p ≡ m ++ s)) ⊎ ((d : Decision) × ((s : List Decision) × (m ≡ p ++ d ∷ s)))
 compared [] p a b is = inl (p, refl)
 compared (x ∷ m) [] a b is = inr (x, (m, refl))
@@ -70,7 +70,7 @@ compared (x ∷ m) (y ∷ p) a b is =
 -- # Closed
 
 module _ (objects : List Declared) (h : History) (cover : List (List Decision)) where
-  -- a list with a kid, of which all kids are closed, and a list that goes on after it has a beginning in the cover
+  -- a prefix with a kid, of which all kids are closed, and a prefix that goes on after it has a beginning in the cover
   closed-by_kids : (p q : List Decision) (d : Decision) (rest : List Decision) → IsGood objects h (p ++ d ∷ []) → q ≡ p ++ d ∷ rest → IsCovered cover q →
       ((e : Decision) → IsGood objects h (p ++ e ∷ []) → IsClosed objects h cover (p ++ e ∷ [])) → IsClosed objects h cover p
   closed-by_kids p q d rest longer is (m, (more, (member, so))) all = elim (compared m p more (d ∷ rest) (sym so ∙ is)) [

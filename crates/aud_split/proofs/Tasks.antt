@@ -35,7 +35,7 @@ some_by_length b n ks reported long is empty =
     absurd (cc)
 
 module _ (objects : List Declared) (h : History) where
-  -- where a list ends the search below it
+  -- where a prefix ends the search below it
   abbrev pub IsLast : ℕ → List Decision → Type 0
   IsLast depth p = (depth ≡ 0) ⊎ (IsFull h p ⊎ HasNoKids objects h p)
 
@@ -214,7 +214,7 @@ module _ (objects : List Declared) (h : History) where
   pub tasks-added : (p : List Decision) (depth : ℕ) (old new : Lists) → old ≡ [] → AreAdded objects h p depth old new → AreTasks objects h p depth new
   tasks-added p depth old new none added = subst (λ l. AreTasks objects h p depth l) (sym (added.grown ∙ ap (λ l. l ++ added.more) none)) added.tasks
 
-  -- below a list that is not good is none
+  -- below a prefix that is not good is none
   pub tasks-bad : (p : List Decision) (depth : ℕ) (list : Lists) → (IsGood objects h p → ⊥) → list ≡ [] → AreTasks objects h p depth list
   tasks-bad p depth list bad none =
       subst (λ l. AreTasks objects h p depth l) (sym none) (record {

@@ -6,7 +6,7 @@
 //!
 //! ```
 //! let tasks = split(alloc, &shape, &Prefix::empty(alloc), 2)?;
-//! let end = run_pool(rt, alloc, alloc, &node, passes, &shape, tasks, 65_536, &gate)?;
+//! let end = run_pool(rt, alloc, alloc, &node, passes, Arc::try_clone(&shape)?, tasks, 65_536, &gate)?;
 //! ```
 
 mod ends;

@@ -167,7 +167,7 @@ order_pushed start mid all d ds order m a o =
     let more = flat_map (λ e. 32 ∷ decision_text e) ds in
     a ∙ (ap (λ t. t ++ more) m ∙ (append_assoc start (decision_text d) more ∙ ap (λ t. start ++ t) (join-more d ds ∙ ap order_text (sym o))))
 
--- a text with more behind it, one byte more and what came after that
+-- a text with more after it, one byte more and what came after that
 pub further : (start more now mid new : List ℕ) (b : ℕ) → now ≡ start ++ more → mid ≡ now ++ b ∷ [] → IsPrefix mid new → IsPrefix start new
 further start more now mid new b n m p =
     let one = more ++ b ∷ [] in

@@ -1,4 +1,4 @@
--- The text of a list of decisions.
+-- The text of a prefix.
 use Rattle.std.specs.Prelude.{ℕ, ◌-◌, ◌==◌, ◌&&◌, ◌||◌, List, [], ◌∷◌, ◌++◌, map, Bool, not, Option, Some, None, Result, Ok, Err, nat_lt, nat_le, if◌then◌else◌, length, take, slice_index, codes, bytes_eq, decimal, ◌≡◌, ◌<◌, ◌≤◌, All}
 use Rattle.std.specs.List.{list_all, slice_split, join_with_byte}
 use Rattle.std.specs.Str.Parse.{digits_value}
@@ -38,7 +38,7 @@ fate_letter A = 97
 abbrev pub decision_text : Decision → List ℕ
 decision_text d = decimal d.tx ++ fate_letter d.fate ∷ []
 
--- ---- a list of decisions
+-- ---- a prefix
 
 -- the parts of a text between its spaces
 abbrev pub words_of : List ℕ → List (List ℕ)

@@ -1,5 +1,17 @@
 #![tactic(auto)]
 //! Texts in and out: plans, facts and order texts, each read by its written grammar.
+//!
+//! For whoever reads what opaq reads, or writes it. `read_plan` reads the plan that a text begins with, and says where that ends; `read_fact` reads
+//! a line, `write_fact` writes one; `read_order` and `write_order` do so with orders. Each fault of a text has a number.
+//!
+//! ```
+//! let (plan, used) = read_plan(alloc, text)?;
+//! let mut rest = next_filled(&text[used..], count_lines(&text[..used]) + 1);
+//! while let Some(next) = rest {
+//!     let fact = read_fact(alloc, &plan, next.line)?;
+//!     rest = next_filled(next.rest, next.number + 1);
+//! }
+//! ```
 
 mod fact;
 mod fault;

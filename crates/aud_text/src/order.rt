@@ -1,4 +1,4 @@
-//! Order texts: lists of decisions.
+//! Order texts: how prefixes are spelled.
 
 ghost use Rattle.std.specs.Prelude.{◌≡◌, ◌<◌, ◌==◌, ◌++◌, ◌∷◌, ◌⊎◌, ℕ, List, Ok, Err, All, length, position, IfOk, OnOk, OnErr, IfSome, MatchResult, option_map, flat_map};
 ghost use mathlib.Core.List.{IsPrefix};

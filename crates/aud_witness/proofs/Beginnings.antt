@@ -1,4 +1,4 @@
--- Beginnings of lists of decisions that show a history.
+-- Beginnings of orders that show a history.
 use Rattle.std.proofs.Common.{◌≡◌, ℕ, Bool, true, false, cond, not, ◌&&◌, ◌||◌, nat_eq, inl, inr, List, [], ◌∷◌, ◌++◌, refl, sym, ◌∙◌, ap, subst, append_assoc}
 use Rattle.std.specs.List.{list_all}
 use Rattle.std.proofs.lemmas.List.Folds.{list_any-append, list_all-append}
@@ -73,7 +73,7 @@ allowed_at h p d q all =
     let both : (list_all test p && list_all test (d ∷ q)) ≡ true = sym (list_all-append test p (d ∷ q)) ∙ all in
     (and_true (test d) (list_all test q) ((and_true (list_all test p) (list_all test (d ∷ q)) both).1)).0
 
--- each decision of a list that shows is good at its place
+-- each decision of an order that shows is good at its place
 pub IsGoodNext-from_Shows : (objects : List Declared) (h : History) (p : List Decision) (d : Decision) (q : List Decision) → Shows objects h (p ++ d ∷ q) → IsGoodNext objects h p d
 IsGoodNext-from_Shows objects h p d q s =
     let new : is_named p d.tx ≡ false = new_at p d q s.full.once in
@@ -87,16 +87,16 @@ IsGoodNext-from_Shows objects h p d q s =
       legal = subst (λ es. IsLegal objects es) (visible_at h p d q new) (s.legal d.tx named);
     }
 
--- a beginning of a list that shows is good
+-- a beginning of an order that shows is good
 pub IsGood-from_Shows : (objects : List Declared) (h : History) (p q : List Decision) → Shows objects h (p ++ q) → IsGood objects h p
 IsGood-from_Shows objects h p q s before d rest e =
     let whole : p ++ q ≡ before ++ d ∷ (rest ++ q) = ap (λ l. l ++ q) e ∙ append_assoc before (d ∷ rest) q in
     IsGoodNext-from_Shows objects h before d (rest ++ q) (subst (λ l. Shows objects h l) whole s)
 
--- no list that begins with one that is not good shows
+-- no order that begins with a prefix that is not good shows
 pub Refuted-from_bad : (objects : List Declared) (h : History) (p : List Decision) → (IsGood objects h p → ⊥) → Refuted objects h p
 Refuted-from_bad objects h p not_good rest s = not_good (IsGood-from_Shows objects h p rest s)
 
--- a list that begins with a refuted one is refuted
+-- a prefix that begins with a refuted one is refuted
 pub Refuted-append : (objects : List Declared) (h : History) (p q : List Decision) → Refuted objects h p → Refuted objects h (p ++ q)
 Refuted-append objects h p q refuted rest s = refuted (q ++ rest) (subst (λ l. Shows objects h l) (append_assoc p q rest) s)

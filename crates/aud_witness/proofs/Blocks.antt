@@ -36,7 +36,7 @@ abbrev pub is_filled : List Event → Bool
 is_filled [] = false
 is_filled (_ ∷ _) = true
 
--- the blocks of a list of decisions, joined
+-- the blocks of a prefix, joined
 abbrev pub joined_by : (Decision → List Event) → List Decision → History
 joined_by f [] = []
 joined_by f (d ∷ p) = map (λ e. (d.tx, e)) (f d) ++ joined_by f p

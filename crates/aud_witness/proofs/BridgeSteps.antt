@@ -207,9 +207,9 @@ kept-push h (x ∷ p) d =
       | false ↦ refl
     ]
 
--- # Where a list of decisions has led
+-- # Where a prefix has led
 
--- a configuration is the one to which the list led
+-- a configuration is the one to which the prefix led
 pub record Stands (objects : List Declared) (h : History) (p : List Decision) (s : Configuration) : Type 0 where
   pub placed : s.placed ≡ map (is_named p) (transactions h)
   pub states : s.states ≡ states_after (map opening_of objects) (kept h p)
@@ -273,7 +273,7 @@ set-named f g (x ∷ ts) (suc k) t d differ inside at placed others =
 
 -- # One decision
 
--- what a step says of a decision after a list
+-- what a step says of a decision after a prefix
 abbrev pub Reported : List Declared → History → List Decision → Decision → Result Configuration OrderFault → Type 0
 Reported objects h p d (Ok s) = (place_fault objects h p d ≡ None) × Stands objects h (p ++ d ∷ []) s
 Reported objects h p d (Err fault) = place_fault objects h p d ≡ Some fault

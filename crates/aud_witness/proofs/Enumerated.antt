@@ -166,7 +166,7 @@ once-transactions (e ∷ h) =
     true_and (not (has (filter f (transactions h)) e.0)) (once (filter f (transactions h)))
     (not_false (has (filter f (transactions h)) e.0) gone) (once-filter f (transactions h) (once-transactions h))
 
--- a list's names and fates
+-- an order's names and fates
 abbrev names : List Decision → List ℕ
 names p = map (λ d. d.tx) p
 
@@ -204,7 +204,7 @@ all_orders-has h p full =
     (all_permutations (transactions h) (names p) (once-transactions h) (once-names p ∙ full.once) same)
     (all_fates h p full.allowed)
 
--- each list that shows is among the witnesses
+-- each order that shows is among the witnesses
 pub witnesses-has : (objects : List Declared) (h : History) (p : List Decision) → Shows objects h p → IsMember p (witnesses objects h)
 witnesses-has objects h p s = member_filter (shows objects h) (all_orders h) (all_orders-has h p s.full) (test-from_Shows objects h p s)
 

@@ -111,7 +111,7 @@ filter_none f (x ∷ ts) all =
     let rest : filter (λ t. not (f t)) ts ≡ [] = filter_none f ts (λ t n. all t (or_right (nat_eq x t) (has ts t) n)) in
     subst (λ k. cond (not k) (x ∷ filter (λ t. not (f t)) ts) (filter (λ t. not (f t)) ts) ≡ []) (sym first) rest
 
--- a good list that names all is full
+-- a good prefix that names all is full
 pub IsFull-from_IsGood : (objects : List Declared) (h : History) (p : List Decision) → IsGood objects h p → ((t : ℕ) → is_in h t ≡ true → is_named p t ≡ true) → IsFull h p
 IsFull-from_IsGood objects h p good all = record {
   once = once_at_places p (λ before d rest e. (good before d rest e).new);

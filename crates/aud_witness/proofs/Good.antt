@@ -1,4 +1,4 @@
--- Good lists, step by step, and full good lists.
+-- Good prefixes, step by step, and full good ones.
 use Rattle.std.proofs.Common.{◌≡◌, ℕ, true, false, not, ◌&&◌, ◌||◌, nat_eq, ◌⊎◌, inl, inr, List, [], ◌∷◌, ◌++◌, refl, sym, ◌∙◌, ap, subst, append_assoc}
 use Rattle.aud_event.specs.Meanings.{Declared}
 use Rattle.aud_witness.specs.declared.decision.Decision.{Decision}
@@ -27,11 +27,11 @@ place_in_push (y ∷ p) d (x ∷ before) e rest eq =
       | inr (r, inside) ↦ let both : y ∷ p ≡ x ∷ (before ++ e ∷ r) = cc in inr (r, both)
     ]
 
--- the empty list is good
+-- the empty prefix is good
 pub IsGood-empty : (objects : List Declared) (h : History) → IsGood objects h []
 IsGood-empty objects h before d rest e = absurd (not_empty before d rest e)
 
--- a good list and one that is good after it
+-- a good prefix and a decision that is good after it
 pub IsGood-push : (objects : List Declared) (h : History) (p : List Decision) (d : Decision) → IsGood objects h p → IsGoodNext objects h p d → IsGood objects h (p ++ d ∷ [])
 IsGood-push objects h p d good next before e rest eq =
     elim (place_in_push p d before e rest eq) [
@@ -69,7 +69,7 @@ stands_at (x ∷ p) d q t h =
       | inr r ↦ or_right (nat_eq x.tx t && is_named (p ++ d ∷ q) d.tx) (stands_before (p ++ d ∷ q) t d.tx) (stands_at p d q t r)
     ]
 
--- a full good list shows
+-- a full good prefix shows
 pub Shows-from_IsGood : (objects : List Declared) (h : History) (p : List Decision) → IsFull h p → IsGood objects h p → Shows objects h p
 Shows-from_IsGood objects h p full good = record {
   full = full;

@@ -1,4 +1,4 @@
--- What a transaction sees in S and what it sees in the list of decisions is the same on each object.
+-- What a transaction sees in S and what it sees in the order is the same on each object.
 use Rattle.std.proofs.Common.{◌≡◌, ℕ, Bool, true, false, cond, not, ◌&&◌, ◌||◌, List, [], ◌∷◌, ◌++◌, refl, sym, ◌∙◌, ap, subst}
 use Rattle.aud_event.specs.declared.fact.Event.{Event}
 use Rattle.aud_event.specs.Meanings.{Declared}

@@ -33,7 +33,7 @@ fits-from_limits plan h within = λ t. fit-from_plan plan t h within.1
 
 -- # Walks
 
--- what a walk places after a good list is good
+-- what a walk places after a good prefix is good
 pub walked-good : (objects : List Declared) (h : History) (p rest : List Decision) (s t : Configuration) → IsWellFormed h → Fits objects h → Stands objects h p s → IsGood objects h p →
     walked (table_of h) s rest ≡ Some t → IsGood objects h (p ++ rest) × Stands objects h (p ++ rest) t
 walked-good objects h p [] s t fine fits stands good led =
@@ -47,7 +47,7 @@ walked-good objects h p (d ∷ rest) s t fine fits stands good led =
           (walked-good objects h (p ++ d ∷ []) rest u t fine fits reported.1 (IsGood-push objects h p d good (IsGoodNext-from_no_fault objects h p d reported.0)) on)
     ] (stepped-reported objects h p s d fine (fits d.tx) stands) led
 
--- a good list can be walked
+-- a good prefix can be walked
 pub good-walked : (objects : List Declared) (h : History) (p rest : List Decision) (s : Configuration) → IsWellFormed h → Fits objects h → Stands objects h p s →
     IsGood objects h (p ++ rest) → (t : Configuration) × (walked (table_of h) s rest ≡ Some t)
 good-walked objects h p [] s fine fits stands good = (s, refl)
@@ -128,12 +128,12 @@ unplaced-are_unnamed h f (t ∷ ts) =
       | false ↦ ap (λ l. t ∷ l) (unplaced-are_unnamed h f ts)
     ]
 
--- the fault after a list, by what is reported of the next decision
+-- the fault after a prefix, by what is reported of the next decision
 fault-first : (objects : List Declared) (h : History) (p : List Decision) (d : Decision) (rest : List Decision) (o : Option OrderFault) → place_fault objects h p d ≡ o →
     fault_after objects h p (d ∷ rest) ≡ (elim o as (λ (_ : Option OrderFault). Option OrderFault) [ Some fault ↦ Some fault | None ↦ fault_after objects h (p ++ d ∷ []) rest ])
 fault-first objects h p d rest o is = ap (λ (o : Option OrderFault). elim o as (λ (_ : Option OrderFault). Option OrderFault) [ Some fault ↦ Some fault | None ↦ fault_after objects h (p ++ d ∷ []) rest ]) is
 
--- what a walk reports is what is reported of the list
+-- what a walk reports is what is reported of the prefix
 pub walk-reported : (objects : List Declared) (h : History) (p rest : List Decision) (s : Configuration) → IsWellFormed h → Fits objects h → Stands objects h p s →
     walk_fault (table_of h) s rest ≡ fault_after objects h p rest
 walk-reported objects h p [] s fine fits stands =

@@ -20,7 +20,7 @@ c t = record { tx = t; fate = C }
 abbrev pub a : ℕ → Decision
 a t = record { tx = t; fate = A }
 
--- the empty history is shown by the empty list
+-- the empty history is shown by the empty order
 nothing_happened-witnesses : witnesses [] [] ≡ [] ∷ []
 nothing_happened-witnesses = refl
 

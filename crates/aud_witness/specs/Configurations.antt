@@ -13,7 +13,7 @@ use Rattle.aud_witness.specs.declared.decision.Decision.{Decision}
 use Rattle.aud_witness.specs.declared.fault.OrderFault.{OrderFault}
 use Rattle.aud_witness.specs.declared.fault.OrderFault.TheVariants.{UnknownTx, Twice, FateNotAllowed, RealTime, Illegal}
 
--- where a list of decisions has led: which rows are placed, and the states of all objects after what is kept
+-- where a prefix has led: which rows are placed, and the states of all objects after what is kept
 pub record Configuration : Type 0 where
   pub placed : List Bool
   pub states : List ObjState

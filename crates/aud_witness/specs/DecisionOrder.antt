@@ -1,4 +1,4 @@
--- The order of decisions and of lists of them ties only what is equal.
+-- The order of decisions and of prefixes ties only what is equal.
 use Rattle.std.specs.Prelude.{◌≡◌, refl}
 use Rattle.std.specs.declared.cmp.Ordering.{Ordering}
 use Rattle.std.specs.declared.cmp.Ordering.TheVariants.{Equal}

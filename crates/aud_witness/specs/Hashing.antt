@@ -1,4 +1,4 @@
--- What decisions and lists of them feed a hasher: equal lists the same.
+-- What decisions and prefixes feed a hasher: equal prefixes the same.
 use Rattle.std.specs.Prelude.{◌≡◌, List, true}
 use Rattle.std.specs.Cmp.{Equal-is}
 use Rattle.std.specs.Cmp.Lexicographic.{slice_cmp}

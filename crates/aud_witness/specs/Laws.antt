@@ -23,11 +23,11 @@ fate_place A = 1
 abbrev pub DecisionsAreOrdered : Type 0
 DecisionsAreOrdered = (d e : Decision) → decision_cmp d e ≡ ordering_then (nat_cmp d.tx e.tx) (nat_cmp (fate_place d.fate) (fate_place e.fate))
 
--- a list shows a history exactly if it is full and good
+-- an order shows a history exactly if it is full and good
 abbrev pub ShowsIsFullAndGood : Type 0
 ShowsIsFullAndGood = (objects : List Declared) (h : History) (p : List Decision) → Shows objects h p ↔ (IsFull h p × IsGood objects h p)
 
--- no list that begins with one that is not good shows
+-- no order that begins with a prefix that is not good shows
 abbrev pub BadIsRefuted : Type 0
 BadIsRefuted = (objects : List Declared) (h : History) (p : List Decision) → (IsGood objects h p → ⊥) → Refuted objects h p
 
@@ -47,7 +47,7 @@ abbrev pub VisibleIsSelection : Type 0
 VisibleIsSelection =
     (h : History) (p : List Decision) (t : ℕ) → are_named_once p ≡ true → is_named p t ≡ true → visible h p t ≡ seen h p t
 
--- opacity by lists of decisions is opacity by the letter
+-- opacity by orders is opacity by the letter
 abbrev pub OpaqueIsLetter : Type 0
 OpaqueIsLetter = (objects : List Declared) (h : History) → IsWellFormed h → Opaque objects h ↔ Letter objects h
 

@@ -68,11 +68,11 @@ pub record Shows (objects : List Declared) (h : History) (p : List Decision) : T
   pub real_time : (t u : ℕ) → is_before h t u ≡ true → stands_before p t u ≡ true
   pub legal : (t : ℕ) → is_named p t ≡ true → IsLegal objects (visible h p t)
 
--- some list of decisions shows H
+-- some order shows H
 abbrev pub Opaque : List Declared → History → Type 0
 Opaque objects h = (p : List Decision) × Shows objects h p
 
--- no list that begins with p shows H
+-- no order that begins with p shows H
 abbrev pub Refuted : List Declared → History → List Decision → Type 0
 Refuted objects h p = (rest : List Decision) → Shows objects h (p ++ rest) → ⊥
 

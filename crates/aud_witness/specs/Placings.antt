@@ -1,4 +1,4 @@
--- A cursor over lists of decisions: where it is, and the way back.
+-- A cursor over prefixes: where it is, and the way back.
 use Rattle.std.specs.Prelude.{◌≡◌, ◌≢◌, ℕ, ◌<◌, ◌-◌, Bool, true, false, if◌then◌else◌, List, [], ◌∷◌, ◌++◌, length, take, Result, Ok, slice_set, MatchOption}
 use Rattle.aud_object.specs.Objects.{ObjState}
 use Rattle.aud_object.specs.Meanings.{StoreOf}

@@ -1,4 +1,4 @@
--- Beginnings of lists of decisions.
+-- Beginnings of orders.
 use Rattle.std.specs.Prelude.{◌≡◌, List, ◌++◌}
 use Rattle.aud_witness.specs.declared.decision.Decision.{Decision}
 

@@ -1,4 +1,4 @@
--- Decisions placed in turn by the rows of the table, and what that says of the list.
+-- Decisions placed in turn by the rows of the table, and what that says of the prefix.
 use Rattle.std.specs.Prelude.{◌≡◌, ◌↔◌, Bool, true, List, [], ◌∷◌, Option, Some, None, Ok, Err, is_some}
 use Rattle.std.specs.List.{list_all}
 use Rattle.aud_event.specs.Meanings.{PlanOf}

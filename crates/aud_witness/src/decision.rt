@@ -1,4 +1,4 @@
-//! Decisions about transactions, and lists of them.
+//! Decisions about transactions, and prefixes of orders of them.
 
 ghost use Rattle.std.specs.Prelude.{◌≡◌, [], ◌∷◌, ◌++◌, IfOk, OnOk, OnErr, refl};
 ghost use Rattle.std.specs.Cmp.Lexicographic.{slice_cmp, lists_total};
@@ -37,9 +37,9 @@ impl Key for Decision {
     ghost exact = { decision_exact };
 }
 
-/// A list of decisions: a serial order of transactions with what a completion makes of each, or a beginning of one.
+/// Decisions one after another: an order of transactions, with what a completion makes of each, or a beginning of one.
 ///
-/// Lists are ordered by the first decision that differs, a beginning first.
+/// Prefixes are ordered by the first decision that differs, a beginning first.
 #[derive(Debug, Drop)]
 pub struct Prefix<A: Allocator = Global> {
     decisions: Vec<Decision, A>,
@@ -55,7 +55,7 @@ impl<A: Allocator> Model for Prefix<A> {
 }
 
 impl<A: Allocator> Prefix<A> {
-    /// The empty list. It does not allocate.
+    /// The empty prefix. It does not allocate.
     pub fn empty(alloc: A) -> Prefix<A>
         ensures { result ≡ [] }
     {
@@ -64,7 +64,7 @@ impl<A: Allocator> Prefix<A> {
         }
     }
 
-    /// The list of the decisions. It does not allocate.
+    /// The prefix of the decisions. It does not allocate.
     pub fn from_decisions(decisions: Vec<Decision, A>) -> Prefix<A>
         ensures { result ≡ decisions.items }
     {
@@ -86,7 +86,7 @@ impl<A: Allocator> Prefix<A> {
         self.decisions.as_slice()
     }
 
-    /// Puts a decision at the end. A refused growth leaves the list.
+    /// Puts a decision at the end. A refused growth leaves the prefix.
     pub fn push(&mut self, decision: Decision) -> Result<(), OutOfMemory>
         ensures ok { OnOk result (self.new ≡ self.old ++ decision ∷ []) }
         ensures err { OnErr result (self.new ≡ self.old) }

@@ -9,22 +9,22 @@ pub fn decisions_are_ordered()
     ensures { DecisionsAreOrdered }
 {}
 
-/// A list shows a history exactly where it is full and each decision in turn is good.
+/// An order shows a history exactly where it is full and each decision in turn is good.
 pub fn shows_is_full_and_good()
     ensures { ShowsIsFullAndGood }
 {}
 
-/// No list that begins with one that is not good shows the history.
+/// No order that begins with a prefix that is not good shows the history.
 pub fn bad_is_refuted()
     ensures { BadIsRefuted }
 {}
 
-/// The test by computing over lists is the definition.
+/// The test by computing over prefixes is the definition.
 pub fn test_is_definition()
     ensures { TestIsDefinition }
 {}
 
-/// The enumeration of permutations with fates misses no list that shows.
+/// The enumeration of permutations with fates misses no order that shows.
 pub fn enumeration_is_whole()
     ensures { EnumerationIsWhole }
 {}
@@ -34,17 +34,17 @@ pub fn no_fault_is_shows()
     ensures { NoFaultIsShows }
 {}
 
-/// What a transaction sees, by recursion along the list, is what is selected from the joined blocks.
+/// What a transaction sees, by recursion along the order, is what is selected from the joined blocks.
 pub fn visible_is_selection()
     ensures { VisibleIsSelection }
 {}
 
-/// For a well-formed history, opacity by lists of decisions is opacity by the letter of 2008.
+/// For a well-formed history, opacity by orders is opacity by the letter of 2008.
 pub fn opaque_is_letter()
     ensures { OpaqueIsLetter }
 {}
 
-/// Opaque by the letter is what is well-formed and opaque by lists of decisions.
+/// Opaque by the letter is what is well-formed and opaque by orders.
 pub fn letter_is_opaque()
     ensures { LetterIsOpaque }
 {}
@@ -69,12 +69,12 @@ pub fn neighbours_may_swap()
     ensures { NeighboursMaySwap }
 {}
 
-/// In a list that shows, the blocks with fate C alone are legal one after the other.
+/// In an order that shows, the blocks with fate C alone are legal one after the other.
 pub fn kept_are_serial()
     ensures { KeptAreSerial }
 {}
 
-/// Nobody sees a transaction of fate A: without it the rest of the list shows the rest of the history.
+/// Nobody sees a transaction of fate A: without it the rest of the order shows the rest of the history.
 pub fn aborted_is_unseen()
     ensures { AbortedIsUnseen }
 {}

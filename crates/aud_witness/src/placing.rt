@@ -1,4 +1,4 @@
-//! Transactions placed one after another: a cursor over lists of decisions.
+//! Transactions placed one after another: a cursor over prefixes.
 
 ghost use Rattle.std.specs.Prelude.{◌≡◌, ◌<◌, ◌≤◌, ◌++◌, [], ◌∷◌, None, Some, Ok, Err, length, true, false, vec_len, vec_capacity, ℕ, IfOk, IfSome, OnErr, MatchResult, MatchOption, slice_index_or, slice_set, nat_lt, if◌then◌else◌};
 ghost use Rattle.aud_witness.specs.OrderFaults.{least_tx};
@@ -19,7 +19,7 @@ use base_bits::Marks;
 use std::alloc::{Allocator, Global};
 use std::marker::Model;
 
-/// Where a list of decisions has led: the transactions placed, and the states of all objects after what is kept of them.
+/// Where a prefix has led: the transactions placed, and the states of all objects after what is kept of them.
 ///
 /// A decision is placed after those before it, or refused with what is wrong with it; the last one is taken back
 /// without memory. Each costs what its block touches.

@@ -8,11 +8,11 @@ use Rattle.aud_witness.specs.declared.decision.Decision.{Decision}
 use Rattle.aud_witness.specs.Laws.{ShowsIsFullAndGood}
 use Rattle.aud_witness.specs.Orders.{IsFull, IsGood, IsGoodNext, Shows, Refuted}
 
--- the next decision of a good list is good
+-- the next decision of a good prefix is good
 next-good : (objects : List Declared) (h : History) (p : List Decision) (d : Decision) (q : List Decision) → IsGood objects h ((p ++ d ∷ []) ++ q) → IsGoodNext objects h p d
 next-good objects h p d q good = good p d q (append_assoc p (d ∷ []) q)
 
--- a list that is not full is refuted where each good extension by one decision is
+-- a prefix that is not full is refuted where each good extension by one decision is
 pub refuted-by_kids : ShowsIsFullAndGood → (objects : List Declared) (h : History) (p : List Decision) → (IsFull h p → ⊥) →
     ((d : Decision) → IsGoodNext objects h p d → Refuted objects h (p ++ d ∷ [])) → Refuted objects h p
 refuted-by_kids law objects h p unfull kids [] shows = unfull (subst (λ l. IsFull h l) (append-nil p) shows.full)

@@ -1,4 +1,4 @@
--- When two lists of decisions are the same.
+-- When two prefixes are the same.
 use Rattle.std.specs.Prelude.{◌≡◌, ◌↔◌, ℕ, Bool, true, IsTrue, List, nat_eq}
 use Rattle.std.specs.Cmp.Lexicographic.{slice_cmp, lists_total, lists_ties, pointwise}
 use Rattle.std.specs.Ordering.{eq_by_cmp}

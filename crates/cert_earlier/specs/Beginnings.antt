@@ -1,4 +1,4 @@
--- Lists of decisions, kept by what they begin with.
+-- Prefixes, kept by what they begin with.
 use Rattle.std.specs.Prelude.{◌≡◌, ◌⊎◌, ◌↔◌, ℕ, Bool, List, [], ◌∷◌, ◌++◌, map, flat_map, Option, None, Some, Vec, if◌then◌else◌, slice_get}
 use Rattle.std.specs.Cmp.Lexicographic.{slice_cmp}
 use Rattle.std.specs.HashMap.{HashMap, keys, get}

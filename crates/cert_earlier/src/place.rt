@@ -1,4 +1,4 @@
-//! Lists of decisions as the keys of a table, which own none of their decisions.
+//! Prefixes as the keys of a table, which own none of their decisions.
 
 ghost use Rattle.std.specs.Prelude.{◌≡◌, ◌↔◌, IsTrue};
 ghost use Rattle.std.specs.List.{fold};
@@ -12,7 +12,7 @@ use aud_witness::{Decision, Fate};
 use std::hash::{Hash, Hasher};
 use std::marker::Model;
 
-/// A list of decisions, beside the number that it is hashed by, which is made once.
+/// A prefix, beside the number that it is hashed by, which is made once.
 #[derive(Drop)]
 pub(crate) struct Place<'a> {
     list: &'a [Decision],
@@ -42,14 +42,14 @@ fn number_of(decision: Decision) -> u64
     }
 }
 
-/// The number of a list, with one decision more.
+/// The number of a prefix, with one decision more.
 fn stir(sum: u64, decision: Decision) -> u64
     ensures { result ≡ stirred sum decision }
 {
     (sum ^ number_of(decision)).wrapping_mul(11_400_714_819_323_198_485)
 }
 
-/// The number by which a list is hashed.
+/// The number by which a prefix is hashed.
 fn sum_of(decisions: &[Decision]) -> u64
     ensures { result ≡ sum_of decisions.now }
 {
@@ -60,7 +60,7 @@ fn sum_of(decisions: &[Decision]) -> u64
     sum
 }
 
-/// Whether the lists are the same.
+/// Whether the prefixes are the same.
 fn are_same(a: &[Decision], b: &[Decision]) -> bool
     ensures { IsTrue result ↔ (a.now ≡ b.now) }
 {
@@ -68,7 +68,7 @@ fn are_same(a: &[Decision], b: &[Decision]) -> bool
 }
 
 impl<'a> Place<'a> {
-    /// The list of the decisions.
+    /// The prefix of the decisions.
     pub(crate) fn of(list: &'a [Decision]) -> Place<'a>
         ensures { result ≡ list.entry.now }
     {

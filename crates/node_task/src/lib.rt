@@ -12,7 +12,7 @@ use aud_witness::Prefix;
 use std::sync::Arc;
 
 /// What the search below the task finds of the shape's history: that the task is refuted, or an order that shows the history;
-/// nothing where the budget is spent before either is found. What is refuted on the way the memory keeps for later tasks.
+/// nothing where the budget is spent before either is found. What is refuted on the way the session keeps for later tasks.
 pub fn find<'a, H: Scene>(
     session: &mut Session<'a, H>,
     shape: &Arc<Shape>,

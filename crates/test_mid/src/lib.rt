@@ -11,7 +11,6 @@ mod refutations;
 #[cfg(test)]
 mod report;
 #[cfg(test)]
-#[cfg(test)]
 mod search;
 #[cfg(test)]
 mod splits;

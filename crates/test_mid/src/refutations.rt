@@ -173,7 +173,7 @@ fn crossing_is_refuted(alloc: Global, third: u32, last: u32) -> Result<bool, Out
     )?;
     let circle = Vec::from_slice(alloc, &[1, 3, third, 4])?;
     let clause = Vec::from_slice(alloc, &[no(4), yes(5), no(6), yes(7)])?;
-    steps.push(Step::new(clause, Reason::Turn(circle)))?;
+    steps.push(Step::new(clause, Reason::Circle(circle)))?;
     let hints = Vec::from_slice(alloc, &[0, 1, 2, 3, 4, 5, 6, 7, last])?;
     steps.push(Step::new(Vec::new(alloc), Reason::Units(hints)))?;
     is_refuted(alloc, &crossing(), &atoms, steps)

@@ -25,7 +25,7 @@ fn without_order(outcome: Outcome) -> Told {
     }
 }
 
-/// An input, a prefix, a budget, and what is reported of the lists that begin with the prefix.
+/// An input, a prefix, a budget, and what is reported of the orders that begin with the prefix.
 type Row = (Input, &'static str, u64, Told);
 
 const BUDGETS: [Row; 8] = [
@@ -52,7 +52,7 @@ fn budgets_are_spent_exactly(rt: HostRuntime) {
     }
 }
 
-/// What a search over what it refuted before reports of the lists that begin with the prefix.
+/// What a search over what it refuted before reports of the orders that begin with the prefix.
 fn explored<'a, J: Scene>(
     alloc: Global,
     session: &mut Session<'a, J>,
@@ -82,8 +82,8 @@ fn tells<J: Scene>(
     Ok(true)
 }
 
-/// Whether that is reported of all lists of the shape, over what was refuted there of those that begin with one of them, and again of
-/// all lists by another search, which shares what was refuted.
+/// Whether that is reported of all prefixes of the shape, over what was refuted there of those that begin with one of them, and again of
+/// all prefixes by another search, which shares what was refuted.
 fn remembers<J: Scene>(
     alloc: Global,
     shape: &Shape,

@@ -131,7 +131,7 @@ pub fn log_of(fact: &Fact) -> u32 {
     }
 }
 
-/// The list of decisions that the order text says.
+/// The prefix that the order text says.
 pub fn list(alloc: Global, order: &str) -> Result<Prefix, Unread> {
     Ok(read_order(alloc, order.as_bytes())?)
 }

@@ -90,7 +90,7 @@ pub fn known_by(alloc: Global, run: &Facts, steps: Steps) -> Result<Knowledge, U
     Ok(known)
 }
 
-/// How many facts and how many refuted lists are known, and whether a witness is.
+/// How many facts and how many refuted prefixes are known, and whether a witness is.
 pub type Size = (usize, usize, bool);
 
 pub fn size_of(known: &Knowledge) -> Result<Size, OutOfMemory> {
@@ -113,7 +113,7 @@ struct Row {
     /// Lists of which a beginning is known to be refuted, and others.
     known: &'static [&'static str],
     unknown: &'static [&'static str],
-    /// The lists of the run that are left open, the least first.
+    /// The prefixes of the run that are left open, the least first.
     open: &'static [&'static str],
 }
 
@@ -129,7 +129,7 @@ const UNFINISHED: Row = Row {
     open: &["none"],
 };
 
-/// What is to be told by all facts of the torn read and its refuted list, however they came.
+/// What is to be told by all facts of the torn read and its refuted prefix, however they came.
 const TORN: Row = Row {
     steps: REFUTED,
     line: "not opaque\n",
@@ -176,7 +176,7 @@ const ROWS: &[Row] = &[
         steps: Steps(0, &["1a 2c", "2c 1a"]),
         ..SHOWN
     },
-    // one list of three is not all
+    // one prefix of three is not all
     Row {
         steps: REFUTED,
         line: "unfinished\n",
@@ -231,7 +231,7 @@ fn known_in(alloc: Global, run: &Facts, row: &Row) -> Result<Knowledge, Unread> 
     Ok(known)
 }
 
-/// Whether a beginning of each of the lists is known to be refuted, or of none.
+/// Whether a beginning of each of the prefixes is known to be refuted, or of none.
 fn knows(alloc: Global, known: &Knowledge, orders: &[&str], wanted: bool) -> Result<bool, Unread> {
     for order in orders {
         if known.knows(&list(alloc, order)?) != wanted {
@@ -241,7 +241,7 @@ fn knows(alloc: Global, known: &Knowledge, orders: &[&str], wanted: bool) -> Res
     Ok(true)
 }
 
-/// Whether these lists of the run are left open.
+/// Whether these prefixes of the run are left open.
 fn leaves_open(
     alloc: Global,
     known: &Knowledge,

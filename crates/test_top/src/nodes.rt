@@ -67,7 +67,7 @@ fn started<J: Fleet, R: Wait>(
     site_of(node, passes)
 }
 
-/// Whether the pass says that, and whether it knows that no order which begins with the list shows the run.
+/// Whether the pass says that, and whether it knows that no order which begins with the prefix shows the run.
 fn says<J: Fleet, S: Wait + Drop>(
     alloc: Global,
     node: &Running<J, S>,
