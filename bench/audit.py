@@ -14,9 +14,10 @@ import sys
 import tempfile
 import time
 
-from check import made
-from search import BETWEEN, asked, at_once, declared, full_size
-from runs import increments, writers
+from timing import BETWEEN
+from harness import asked
+from runs import at_once, declared, increments, of_own_objects, writers
+from search import full_size
 
 AUDITS = [(4, 1), (1, 4), (1, 1)]
 
@@ -35,7 +36,7 @@ def written(count):
 
 def inputs():
     """Names, makers and answers of the inputs."""
-    yield "large, 64 logs, 262,144 records", lambda: made(64, 262144)[0], "opaque"
+    yield "large, 64 logs, 262,144 records", lambda: of_own_objects(64, 262144)[0], "opaque"
     yield "full size, 4 at a time, by ends", lambda: full_size(4, "ends", False)[0], "opaque"
     yield "full size, 4 at a time, by ends, one read spoiled", lambda: full_size(4, "ends", True)[0], "not opaque"
     for count in (12, 16, 20):

@@ -8,7 +8,10 @@ memory are printed, with the lines and the bytes of the certificate. The same ce
 
 import subprocess
 
-from search import TOP, asked, at_once, declared, full_size, read, timed
+from timing import timed
+from harness import TOP, asked, read
+from runs import at_once, declared
+from search import full_size
 
 
 def inputs():

@@ -2,7 +2,7 @@
 """Times `examples/core.py` on inputs of full size with one answer spoiled: bench/cores.py PROGRAM [WORD]. PROGRAM is the built program,
 crates/opaq/out/opaq; with WORD only the inputs run whose names have it.
 
-The inputs of bench/check.py, in which each log has objects of its own, with the last answer of a `read`, `get`, `contains` or `deq` spoiled, one
+Runs in which each log has objects of its own, with the last answer of a `read`, `get`, `contains` or `deq` spoiled, one
 after the other; and those of bench/search.py, in which 2 to 16 transactions at a time share all objects. Printed are the seconds, the first
 line of what core.py prints, and the last line of the core's story, with the program to ask for a refutation."""
 
@@ -12,8 +12,10 @@ import sys
 import tempfile
 import time
 
-import check
+import timing  # noqa: F401
 import search
+from harness import asked
+from runs import of_own_objects
 
 EXAMPLES = f"{search.TOP}/examples"
 
@@ -32,7 +34,7 @@ def spoiled(text, operation):
 
 def inputs():
     for operation in ("read", "get", "contains", "deq"):
-        yield f"objects of their own, a {operation} spoiled", lambda operation=operation: spoiled(check.made(64, 262144)[0], operation)
+        yield f"objects of their own, a {operation} spoiled", lambda operation=operation: spoiled(of_own_objects(64, 262144)[0], operation)
     for effects in ("ends", "begins", "drawn"):
         for at_a_time in (2, 4, 8, 16):
             yield f"{at_a_time} at a time, by {effects}", lambda n=at_a_time, by=effects: search.full_size(n, by, True)[0]
@@ -43,7 +45,7 @@ def ran(words, **how):
 
 
 def main():
-    program, word = [*search.asked(__doc__, 1, 2), ""][:2]
+    program, word = [*asked(__doc__, 1, 2), ""][:2]
     for name, text in inputs():
         if word not in name:
             continue

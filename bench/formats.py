@@ -9,7 +9,9 @@ a map spoiled, of `decide` and of `verify` over the certificate that `decide --c
 import random
 import subprocess
 
-from search import asked, line, scheduled, tell, timed
+from timing import tell, timed
+from harness import asked, compact as line
+from search import scheduled
 
 KINDS = {"register": "x", "counter": "c", "set": "s", "queue": "q", "map": "m"}
 NAMES = [f"{letter}{number}" for number in range(52) for letter in KINDS.values()][:256]

@@ -63,6 +63,18 @@ def rows_program(room):
     return crate(room, ROWS, ROWS_NEED, [("src/main.rt", read(f"{TOP}/tests/data/rows.rt.txt"))])
 
 
+# A small process starts the program, since a process begins with the most memory of the one that began it.
+PEAK = """import resource, subprocess, sys
+subprocess.run(sys.argv[1:], stdout=subprocess.DEVNULL)
+print(1024 * resource.getrusage(resource.RUSAGE_CHILDREN).ru_maxrss)"""
+
+
+def most_memory(words, **more):
+    """The most memory that the program of these words takes, in bytes."""
+    took = subprocess.run([sys.executable, "-c", PEAK, *words], stdout=subprocess.PIPE, check=True, **more)
+    return int(took.stdout)
+
+
 def counted(said):
     """How many tests passed and failed, by what `rt try --test` said of them; one failed where it says nothing."""
     found = re.findall(r"^test result: .*?(\d+) passed; (\d+) failed", said, re.M)

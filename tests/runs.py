@@ -3,6 +3,7 @@
 
 `writers`: so many transactions write an object each, all at once, and one more reads what nobody wrote. `increments`: so many count one in the same
 counter, and one more gets a number that is not reached. No order shows either."""
+import random
 import sys
 
 from harness import USAGE, compact
@@ -31,6 +32,96 @@ def writers(count):
 
 def increments(count):
     return at_once([declared("counter", "c")], [("c", "inc", None, "done")] * count + [("c", "get", None, count + 1)])
+
+
+# How many records each transaction of `of_own_objects` has.
+PER_TRANSACTION = 256
+
+
+class Thread:
+    """One log, with four objects that only it uses."""
+
+    def __init__(self, log, count):
+        self.log = log
+        self.left = count
+        self.lines = []
+        self.register = 0
+        self.counter = 0
+        self.members = set()
+        self.queue = []
+        self.waiting = []
+
+    def call(self, draw):
+        """An operation's object, name, argument and answer."""
+        kind = draw.randrange(4)
+        value = draw.randrange(50)
+        if kind == 0:
+            if draw.randrange(2):
+                self.register = value
+                return "x", "write", value, "done"
+            return "x", "read", None, self.register
+        if kind == 1:
+            if draw.randrange(2):
+                self.counter += 1
+                return "c", "inc", None, "done"
+            return "c", "get", None, self.counter
+        if kind == 2:
+            was = value in self.members
+            name = draw.choice(["add", "remove", "contains"])
+            if name == "add":
+                self.members.add(value)
+                return "s", name, value, not was
+            if name == "remove":
+                self.members.discard(value)
+            return "s", name, value, was
+        if draw.randrange(2):
+            self.queue.append(value)
+            return "q", "enq", value, "done"
+        return "q", "deq", None, self.queue.pop(0) if self.queue else "empty"
+
+    def refill(self, draw):
+        """One more transaction."""
+        for _ in range(PER_TRANSACTION // 2 - 1):
+            name, op, argument, answer = self.call(draw)
+            ob = f"{name}{self.log}"
+            asked = {"ev": "inv", "ob": ob, "op": op}
+            if argument is not None:
+                asked["arg"] = argument
+            self.waiting += [asked, {"ans": answer, "ev": "ret", "ob": ob, "op": op}]
+        self.waiting += [{"ev": "tryc"}, {"ev": "commit"}]
+
+
+def of_own_objects(logs, records):
+    """A run of so many logs and records, in a shuffled order of lines, and the order of its commits, which shows it: each log has four objects that only it
+    uses. The same comes each time."""
+    draw = random.Random(7)
+    threads = [Thread(log, records // logs // PER_TRANSACTION) for log in range(logs)]
+    running, order, lines = list(threads), [], []
+    numbers = iter(range(records // PER_TRANSACTION))
+    for stamp in range(records):
+        at = draw.randrange(len(running))
+        thread = running[at]
+        if not thread.waiting:
+            thread.refill(draw)
+            thread.tx = next(numbers)
+            thread.left -= 1
+        event = thread.waiting.pop(0)
+        thread.lines.append(stamp)
+        event |= {"at": len(thread.lines) - 1, "log": thread.log, "stamp": stamp, "tx": thread.tx}
+        lines.append(compact(**event))
+        if event["ev"] == "commit":
+            order.append(f"{thread.tx}c")
+        if not thread.waiting and not thread.left:
+            running.pop(at)
+    lines += ['{"end":%d,"log":%d}' % (len(it.lines), it.log) for it in threads]
+    draw.shuffle(lines)
+    plan = ['{"format":1,"logs":%d,"objects":%d}' % (logs, 4 * logs)]
+    for log in range(logs):
+        plan.append('{"kind":"register","name":"x%d","open":0}' % log)
+        plan.append('{"kind":"counter","name":"c%d","open":0}' % log)
+        plan.append('{"kind":"set","name":"s%d"}' % log)
+        plan.append('{"kind":"queue","name":"q%d"}' % log)
+    return "\n".join(plan + lines) + "\n", " ".join(order)
 
 
 def main(words):

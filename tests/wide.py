@@ -9,7 +9,7 @@ with --maps, maps alone or beside others, in the second format. The history is w
 import random
 import sys
 
-from search import line
+from harness import compact
 
 PLANS = [
     [("register", 1)], [("register", 4)], [("register", 16)], [("register", 64)],
@@ -136,16 +136,16 @@ def events_of(transaction, objects):
 
 
 def write(threads, objects, made, number):
-    print(line(format=number, logs=threads, objects=len(objects)))
+    print(compact(format=number, logs=threads, objects=len(objects)))
     for entry in objects:
-        print(line(**entry))
+        print(compact(**entry))
     all_events = sorted(((time, t["thread"], t["number"], event) for t in made for time, event in events_of(t, objects)), key=lambda e: e[0])
     counts = [0] * threads
     for stamp, (_, thread, tx, event) in enumerate(all_events):
-        print(line(at=counts[thread], log=thread, stamp=stamp, tx=tx, **event))
+        print(compact(at=counts[thread], log=thread, stamp=stamp, tx=tx, **event))
         counts[thread] += 1
     for thread, count in enumerate(counts):
-        print(line(end=count, log=thread))
+        print(compact(end=count, log=thread))
 
 
 def main(words):
