@@ -309,7 +309,7 @@ def with_sources(smaller, part):
         return smaller
     stamps, numbers = {call["stamp"] for _, call, _ in smaller.calls()}, set()
     for thing, (_, body, call) in found.items():
-        stamps |= {call["stamp"]} | behind(body, thing, *missing[thing])
+        stamps |= {call["stamp"]} | changes_that_hide(body, thing, *missing[thing])
         numbers.add(body.number)
     ends = {it.number: it.ends for it in smaller.bodies}
     bodies = [body.kept(lambda it: it[0]["stamp"] in stamps) for body in part.bodies]
@@ -335,7 +335,7 @@ def sources_in(part, missing):
     return found
 
 
-def behind(body, thing, reader, stamp):
+def changes_that_hide(body, thing, reader, stamp):
     """The stamps of the changes that make what a transaction brought about one that cannot be seen: the last change of that cell, where it may
     commit; and the last one before the answer, where it is the reader itself."""
     changes = [call["stamp"] for call, answer in body.calls if any(it[:2] == thing[:2] for it in brought_by(call, answer))]
