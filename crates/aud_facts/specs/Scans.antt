@@ -6,7 +6,7 @@ use Rattle.aud_event.specs.declared.limits.TheConstants.{LOGS_MAX, PLACES, STAMP
 use Rattle.aud_event.specs.declared.fact.Event.{Event}
 use Rattle.aud_event.specs.declared.fact.Fact.{Fact}
 use Rattle.aud_event.specs.declared.fact.Fact.TheVariants.{Rec, End}
-use Rattle.aud_facts.specs.declared.scan.Search.{Search}
+use Rattle.aud_facts.specs.declared.scan.Scan.{Scan}
 use Rattle.aud_facts.specs.declared.survey.Survey.{Survey}
 use Rattle.aud_facts.specs.Clashes.{Place, place_of}
 use Rattle.aud_facts.specs.Status.{is_mark_within, is_record, is_record_of, has_stamp, count}
@@ -61,14 +61,14 @@ IsWithin (End e) = (e.log < LOGS_MAX) × (e.count ≤ PLACES)
 abbrev pub AreWithin : List Fact → Type 0
 AreWithin facts = AllByRecursion IsWithin facts
 
--- a search that found something goes no further
-abbrev pub twins_after : Search → List Fact → Option Place
+-- a scan that found something goes no further
+abbrev pub twins_after : Scan → List Fact → Option Place
 twins_after s rest = option_or s.found (twins s.last rest)
 
-abbrev pub counts_after : Search → List Fact → Option Place
+abbrev pub counts_after : Scan → List Fact → Option Place
 counts_after s rest = option_or s.found (marks_twice s.last rest)
 
-abbrev pub falls_after : Search → List Fact → Option Place
+abbrev pub falls_after : Scan → List Fact → Option Place
 falls_after s rest = option_or s.found (falls s.last rest)
 
 -- a count that is there, and is at most n

@@ -6,9 +6,9 @@ ghost use Rattle.aud_facts.specs.Scans.{is_at, is_in, is_fall, twins_after, coun
 
 use aud_event::{EndMark, Record};
 
-/// A search on the way: what it last saw, and the place that it found.
+/// A scan on the way: what it last saw, and the place that it found.
 #[derive(Clone, Copy)]
-pub struct Search {
+pub struct Scan {
     pub last: Option<(u32, u32)>,
     pub found: Option<(u32, u32)>,
 }
@@ -40,12 +40,12 @@ fn falls_from(last: Option<(u32, u32)>, log: u32, stamp: u32) -> bool
     }
 }
 
-impl Search {
-    /// A search that saw nothing yet.
-    pub fn start() -> Search
+impl Scan {
+    /// A scan that saw nothing yet.
+    pub fn start() -> Scan
         ensures { result ≡ record { last = None; found = None } }
     {
-        Search {
+        Scan {
             last: None,
             found: None,
         }

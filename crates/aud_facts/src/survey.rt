@@ -4,7 +4,7 @@ ghost use Rattle.std.specs.Prelude.{◌≡◌, false, length};
 ghost use Rattle.aud_event.specs.declared.limits.TheConstants.{STAMPS};
 ghost use Rattle.aud_facts.specs.Scans.{AreWithin, AreStamps, IsCalm, IsSurvey};
 
-use crate::scan::Search;
+use crate::scan::Scan;
 use crate::table::{
     PerLog, no_bounds, no_counts, no_places, note_count, note_place, note_record, note_stamp,
 };
@@ -37,9 +37,9 @@ pub fn survey_of<A: Allocator + Copy>(set: &UnionSet<Fact, A>, marks: &mut [u8])
     ensures survey { IsSurvey set.now result }
 {
     let _most = set.len();
-    let mut places = Search::start();
-    let mut stamps = Search::start();
-    let mut ends = Search::start();
+    let mut places = Scan::start();
+    let mut stamps = Scan::start();
+    let mut ends = Scan::start();
     let mut bounds = no_bounds();
     let mut tops = no_places();
     let mut counts = no_counts();

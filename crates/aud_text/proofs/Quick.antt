@@ -20,8 +20,8 @@ use Rattle.aud_event.specs.declared.fact.Event.{Event}
 use Rattle.aud_event.specs.declared.fact.Fact.{Fact}
 use Rattle.aud_text.specs.declared.fault.TextFault.{TextFault}
 use Rattle.aud_text.specs.declared.fault.TextFault.TheVariants.{UnknownWord, TypeOrRange, KeyUnknown, KeyMissing}
-use Rattle.aud_text.specs.declared.shape.Shape.{Shape}
-use Rattle.aud_text.specs.declared.shape.Shape.TheVariants.{EndMark, Invoke, Respond, TryCommit, TryAbort, Commit, Abort, Strange}
+use Rattle.aud_text.specs.declared.shape.LineShape.{LineShape}
+use Rattle.aud_text.specs.declared.shape.LineShape.TheVariants.{EndMark, Invoke, Respond, TryCommit, TryAbort, Commit, Abort, Strange}
 use Rattle.aud_text.specs.Json.{Key, has, has_all, has_only, is_one_of, fits_at, small, whole, small_at, whole_at, word_at}
 use Rattle.aud_text.specs.FactText.{shape_of, shape_of_ev, argument_keys, base_keys, operation_keys, required, allowed, types_fit, answer_of, answer_fits, answer_at, object_number, object_at, op_at, args_at, event_of, record_of, fact_of, checked, fact_or_word, judged_as, judged}
 use Rattle.base_values.proofs.Bools.{and_true}
@@ -141,7 +141,7 @@ pub record RespondStands (d : Data) : Type 0 where
   pub operation : OperationStands d
   pub ans : IsFine answer_fits (codes "ans") d
 
-abbrev pub Stands : Data → Shape → Type 0
+abbrev pub Stands : Data → LineShape → Type 0
 Stands d EndMark = EndStands d
 Stands d (Invoke None) = ⊥
 Stands d (Invoke (Some o)) = InvokeStands d o
@@ -165,7 +165,7 @@ numbers_stand d e f h =
       tx = fine small (codes "tx") d t;
     }
 
-abbrev is_plain : Shape → Bool
+abbrev is_plain : LineShape → Bool
 is_plain EndMark = false
 is_plain (Invoke o) = true
 is_plain Respond = true
@@ -175,12 +175,12 @@ is_plain Commit = true
 is_plain Abort = true
 is_plain Strange = false
 
-word_by : (format : Format) (b : Bool) (w : Option (List ℕ)) (d : Data) (s : Shape) → cond b EndMark (shape_of_ev format d w) ≡ s → is_plain s ≡ true → is_some w ≡ true
+word_by : (format : Format) (b : Bool) (w : Option (List ℕ)) (d : Data) (s : LineShape) → cond b EndMark (shape_of_ev format d w) ≡ s → is_plain s ≡ true → is_some w ≡ true
 word_by format true w d s e p = absurd (true≢false (sym p ∙ ap is_plain (sym e)))
 word_by format false None d s e p = absurd (true≢false (sym p ∙ ap is_plain (sym e)))
 word_by format false (Some w) d s e p = refl
 
-base_stands : (format : Format) (d : Data) (s : Shape) (e : Event) (f : Fact) → shape_of format d ≡ s → is_plain s ≡ true → record_of d e ≡ Some f → BaseStands d
+base_stands : (format : Format) (d : Data) (s : LineShape) (e : Event) (f : Fact) → shape_of format d ≡ s → is_plain s ≡ true → record_of d e ≡ Some f → BaseStands d
 base_stands format d s e f is p h = record {
   numbers = numbers_stand d e f h;
   ev = fine as_str (codes "ev") d (word_by format (has (codes "end") d) (word_at (codes "ev") d) d s is p);
@@ -260,7 +260,7 @@ end_stands d f plan h =
     let n : is_some (small_at (codes "end") d) ≡ true = mapped (small_at (codes "end") d) _ (ap is_some a.rest) in
     record { log = fine_some small (codes "log") d a.got a.first; end = fine small (codes "end") d n }
 
-built : (plan : PlanOf) (d : Data) (s : Shape) (f : Fact) → shape_of plan.format d ≡ s → fact_of plan d s ≡ Some f → Stands d s
+built : (plan : PlanOf) (d : Data) (s : LineShape) (f : Fact) → shape_of plan.format d ≡ s → fact_of plan d s ≡ Some f → Stands d s
 built plan d EndMark f is h = end_stands d f plan h
 built plan d (Invoke None) f is h = absurd (cc)
 built plan d (Invoke (Some o)) f is h = invoke_stands plan d o f is h
@@ -291,7 +291,7 @@ args_there d takes.Pair i a = rw (a.0.there, a.1.there) (operation_there d i)
 end_there : (d : Data) → EndStands d → has_all (codes "end" ∷ codes "log" ∷ []) d ≡ true
 end_there d e = rw (e.end.there, e.log.there) refl
 
-required_there : (d : Data) (s : Shape) → Stands d s → has_all (required s) d ≡ true
+required_there : (d : Data) (s : LineShape) → Stands d s → has_all (required s) d ≡ true
 required_there d EndMark h = end_there d h
 required_there d (Invoke None) h = absurd h
 required_there d (Invoke (Some o)) h = args_there d (signature_of o).takes h.operation h.args
@@ -359,7 +359,7 @@ end_fits ms e only = end_all_fit (object ms) e
     (fits_absent is_whole (codes "val") (codes "end" ∷ codes "log" ∷ []) ms refl only)
     (fits_absent answer_fits (codes "ans") (codes "end" ∷ codes "log" ∷ []) ms refl only)
 
-types_there : (format : Format) (ms : Members) (s : Shape) → Stands (object ms) s → has_only (allowed format s) ms ≡ true → types_fit (object ms) ≡ true
+types_there : (format : Format) (ms : Members) (s : LineShape) → Stands (object ms) s → has_only (allowed format s) ms ≡ true → types_fit (object ms) ≡ true
 types_there format ms EndMark h only = end_fits ms h only
 types_there format ms (Invoke None) h only = absurd h
 types_there format ms (Invoke (Some o)) h only = args_fit ms (signature_of o).takes h.operation h.args only
@@ -392,7 +392,7 @@ error_of true true false x y z w = refl
 error_of true false c x y z w = refl
 error_of false b c x y z w = refl
 
-as_built : (plan : PlanOf) (ms : Members) (s : Shape) (f : Fact) (b : Bool) → shape_of plan.format (object ms) ≡ s → fact_of plan (object ms) s ≡ Some f → has_only (allowed plan.format s) ms ≡ b
+as_built : (plan : PlanOf) (ms : Members) (s : LineShape) (f : Fact) (b : Bool) → shape_of plan.format (object ms) ≡ s → fact_of plan (object ms) s ≡ Some f → has_only (allowed plan.format s) ms ≡ b
     → judged_as plan (object ms) ms s ≡ cond b (checked f (first_fact_fault plan f)) (Err KeyUnknown)
 as_built plan ms s f true is h only =
     let stands = built plan (object ms) s f is h in
@@ -403,13 +403,13 @@ as_built plan ms s f false is h only =
     let stands = built plan (object ms) s f is h in
     second_choice (has_all (required s) (object ms)) (has_only (allowed plan.format s) ms) _ (Err KeyUnknown) (Err KeyMissing) (required_there (object ms) s stands) only
 
-as_unbuilt : (plan : PlanOf) (d : Data) (ms : Members) (s : Shape) → fact_of plan d s ≡ None
+as_unbuilt : (plan : PlanOf) (d : Data) (ms : Members) (s : LineShape) → fact_of plan d s ≡ None
     → judged_as plan d ms s ≡ Err (cond (has_all (required s) d) (cond (has_only (allowed plan.format s) ms) (cond (types_fit d) UnknownWord TypeOrRange) KeyUnknown) KeyMissing)
 as_unbuilt plan d ms s h =
     ap (λ o. cond (has_all (required s) d) (cond (has_only (allowed plan.format s) ms) (cond (types_fit d) (fact_or_word plan o) (Err TypeOrRange)) (Err KeyUnknown)) (Err KeyMissing)) h
     ∙ error_of (has_all (required s) d) (has_only (allowed plan.format s) ms) (types_fit d) UnknownWord TypeOrRange KeyUnknown KeyMissing
 
-built_in : (plan : PlanOf) (d : Data) (ms : Members) (s : Shape) (f : Fact) (b : Bool) → as_object d ≡ Some ms → s ≡ shape_of plan.format d → fact_of plan d s ≡ Some f → has_only (allowed plan.format s) ms ≡ b
+built_in : (plan : PlanOf) (d : Data) (ms : Members) (s : LineShape) (f : Fact) (b : Bool) → as_object d ≡ Some ms → s ≡ shape_of plan.format d → fact_of plan d s ≡ Some f → has_only (allowed plan.format s) ms ≡ b
     → judged plan d ≡ cond b (checked f (first_fact_fault plan f)) (Err KeyUnknown)
 built_in plan null ms s f b o is h only = absurd (cc)
 built_in plan (boolean x) ms s f b o is h only = absurd (cc)
@@ -420,7 +420,7 @@ built_in plan (object ns) ms s f b o is h only =
     let same : ns ≡ ms = cc in
     ap (judged_as plan (object ns) ns) (sym is) ∙ as_built plan ns s f b (sym is) h (ap (has_only (allowed plan.format s)) same ∙ only)
 
-unbuilt_in : (plan : PlanOf) (d : Data) (ms : Members) (s : Shape) → as_object d ≡ Some ms → s ≡ shape_of plan.format d → fact_of plan d s ≡ None
+unbuilt_in : (plan : PlanOf) (d : Data) (ms : Members) (s : LineShape) → as_object d ≡ Some ms → s ≡ shape_of plan.format d → fact_of plan d s ≡ None
     → judged plan d ≡ Err (cond (has_all (required s) d) (cond (has_only (allowed plan.format s) ms) (cond (types_fit d) UnknownWord TypeOrRange) KeyUnknown) KeyMissing)
 unbuilt_in plan null ms s o is h = absurd (cc)
 unbuilt_in plan (boolean x) ms s o is h = absurd (cc)
@@ -433,12 +433,12 @@ unbuilt_in plan (object ns) ms s o is h =
     ∙ ap (λ m. Err (cond (has_all (required s) (object ns)) (cond (has_only (allowed plan.format s) m) (cond (types_fit (object ns)) UnknownWord TypeOrRange) KeyUnknown) KeyMissing)) same)
 
 -- where a fact is built, only the other keys decide
-pub judged_built : (plan : PlanOf) (format : Format) (d : Data) (ms : Members) (s : Shape) (f : Fact) (b : Bool) → format ≡ plan.format → as_object d ≡ Some ms → s ≡ shape_of format d → fact_of plan d s ≡ Some f
+pub judged_built : (plan : PlanOf) (format : Format) (d : Data) (ms : Members) (s : LineShape) (f : Fact) (b : Bool) → format ≡ plan.format → as_object d ≡ Some ms → s ≡ shape_of format d → fact_of plan d s ≡ Some f
     → has_only (allowed format s) ms ≡ b → judged plan d ≡ cond b (checked f (first_fact_fault plan f)) (Err KeyUnknown)
 judged_built plan format d ms s f b same o is h only = built_in plan d ms s f b o (subst (λ k. s ≡ shape_of k d) same is) h (subst (λ k. has_only (allowed k s) ms ≡ b) same only)
 
 -- where none is, the faults are looked for in their order
-pub judged_unbuilt : (plan : PlanOf) (format : Format) (d : Data) (ms : Members) (s : Shape) → format ≡ plan.format → as_object d ≡ Some ms → s ≡ shape_of format d → fact_of plan d s ≡ None
+pub judged_unbuilt : (plan : PlanOf) (format : Format) (d : Data) (ms : Members) (s : LineShape) → format ≡ plan.format → as_object d ≡ Some ms → s ≡ shape_of format d → fact_of plan d s ≡ None
     → judged plan d ≡ Err (cond (has_all (required s) d) (cond (has_only (allowed format s) ms) (cond (types_fit d) UnknownWord TypeOrRange) KeyUnknown) KeyMissing)
 judged_unbuilt plan format d ms s same o is h =
     subst (λ k. judged plan d ≡ Err (cond (has_all (required s) d) (cond (has_only (allowed k s) ms) (cond (types_fit d) UnknownWord TypeOrRange) KeyUnknown) KeyMissing)) (sym same)

@@ -25,8 +25,8 @@ use Rattle.aud_event.specs.declared.fact.Fact.TheVariants.{Rec, End}
 use Rattle.aud_event.specs.declared.fact.FactFault.{FactFault}
 use Rattle.aud_text.specs.declared.fault.TextFault.{TextFault}
 use Rattle.aud_text.specs.declared.fault.TextFault.TheVariants as fault
-use Rattle.aud_text.specs.declared.shape.Shape.{Shape}
-use Rattle.aud_text.specs.declared.shape.Shape.TheVariants.{EndMark, Invoke, Respond, TryCommit, TryAbort, Commit, Abort, Strange}
+use Rattle.aud_text.specs.declared.shape.LineShape.{LineShape}
+use Rattle.aud_text.specs.declared.shape.LineShape.TheVariants.{EndMark, Invoke, Respond, TryCommit, TryAbort, Commit, Abort, Strange}
 use Rattle.aud_text.specs.Json.{Key, json_read, has, has_all, has_only, small_at, whole_at, word_at, fits_at, small_fits, text_fits, whole_fits}
 use Rattle.aud_text.specs.Limits.{longest_line}
 
@@ -42,7 +42,7 @@ abbrev pub op_at : Format → Data → Option OpName
 op_at format d = option_and_then (op_of_word_in format) (word_at (codes "op") d)
 
 -- what a word at `ev` makes of a line; an invocation is known by its operation, where `op` has the word of one
-abbrev pub shape_of_event : Format → Data → List ℕ → Shape
+abbrev pub shape_of_event : Format → Data → List ℕ → LineShape
 shape_of_event format d w =
     if bytes_eq w (codes "inv") then Invoke (op_at format d)
     else (if bytes_eq w (codes "ret") then Respond
@@ -51,12 +51,12 @@ shape_of_event format d w =
     else (if bytes_eq w (codes "commit") then Commit
     else (if bytes_eq w (codes "abort") then Abort else Strange)))))
 
-abbrev pub shape_of_ev : Format → Data → Option (List ℕ) → Shape
+abbrev pub shape_of_ev : Format → Data → Option (List ℕ) → LineShape
 shape_of_ev format d None = Strange
 shape_of_ev format d (Some w) = shape_of_event format d w
 
 -- a line with the key `end` is an end mark, and any other is a record
-abbrev pub shape_of : Format → Data → Shape
+abbrev pub shape_of : Format → Data → LineShape
 shape_of format d = if has (codes "end") d then EndMark else shape_of_ev format d (word_at (codes "ev") d)
 
 abbrev pub base_keys : List Key
@@ -78,7 +78,7 @@ all_keys One = codes "ans" ∷ codes "arg" ∷ operation_keys
 all_keys Two = codes "ans" ∷ codes "arg" ∷ codes "val" ∷ operation_keys
 
 -- the keys that must stand
-abbrev pub required : Shape → List Key
+abbrev pub required : LineShape → List Key
 required EndMark = codes "end" ∷ codes "log" ∷ []
 required (Invoke (Some o)) = argument_keys (signature_of o).takes operation_keys
 required (Invoke None) = operation_keys
@@ -90,7 +90,7 @@ required Abort = base_keys
 required Strange = base_keys
 
 -- the keys that may stand: no others than those that must, where event and operation are known
-abbrev pub allowed : Format → Shape → List Key
+abbrev pub allowed : Format → LineShape → List Key
 allowed format EndMark = required EndMark
 allowed format (Invoke (Some o)) = required (Invoke (Some o))
 allowed format (Invoke None) = all_keys format
@@ -146,7 +146,7 @@ args_at takes.Number d = option_map args.Number (whole_at (codes "arg") d)
 args_at takes.Addend d = option_map args.Number (whole_at (codes "arg") d)
 args_at takes.Pair d = option_and_then (λ key. option_map (args.Pair key) (whole_at (codes "val") d)) (whole_at (codes "arg") d)
 
-abbrev pub event_of : PlanOf → Data → Shape → Option Event
+abbrev pub event_of : PlanOf → Data → LineShape → Option Event
 event_of plan d EndMark = None
 event_of plan d (Invoke None) = None
 event_of plan d (Invoke (Some o)) =
@@ -168,7 +168,7 @@ abbrev pub end_of : Data → Option Fact
 end_of d = option_and_then (λ log. option_map (λ n. End (record { log = log; count = n })) (small_at (codes "end") d)) (small_at (codes "log") d)
 
 -- where keys and types are right, this is None for an unknown word alone
-abbrev pub fact_of : PlanOf → Data → Shape → Option Fact
+abbrev pub fact_of : PlanOf → Data → LineShape → Option Fact
 fact_of plan d EndMark = end_of d
 fact_of plan d (Invoke o) = option_and_then (record_of d) (event_of plan d (Invoke o))
 fact_of plan d Respond = option_and_then (record_of d) (event_of plan d Respond)
@@ -188,7 +188,7 @@ abbrev pub fact_or_word : PlanOf → Option Fact → Result Fact TextFault
 fact_or_word plan None = Err fault.UnknownWord
 fact_or_word plan (Some f) = checked f (first_fact_fault plan f)
 
-abbrev pub judged_as : PlanOf → Data → Members → Shape → Result Fact TextFault
+abbrev pub judged_as : PlanOf → Data → Members → LineShape → Result Fact TextFault
 judged_as plan d ms s =
     if has_all (required s) d
     then (if has_only (allowed plan.format s) ms

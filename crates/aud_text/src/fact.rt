@@ -6,7 +6,7 @@ ghost use Rattle.aud_text.specs.Json.{fits_at, has_all, has_only};
 ghost use Rattle.aud_text.specs.FactText.{fact_read, judged, required, allowed, types_fit, answer_fits, answer_of, answer_of_word, answer_at, object_number, object_at, args_at, fact_of, event_of, record_of, end_of};
 
 use crate::fault::TextFault;
-use crate::shape::{Shape, allowed_keys, op_of, required_keys, shape_in};
+use crate::shape::{LineShape, allowed_keys, op_of, required_keys, shape_in};
 use crate::spelled::fact_spelled;
 use crate::value::{
     has_only_allowed, has_required, json_in, small_if_there, small_of, text_if_there,
@@ -125,7 +125,7 @@ fn args_in(takes: Takes, value: &Value) -> Option<Args>
 }
 
 fn invocation<A: Allocator>(plan: &Plan<A>, value: &Value, name: OpName) -> Option<Event>
-    ensures { result ≡ event_of plan.now (view value.now) (Shape.Invoke (Some name)) }
+    ensures { result ≡ event_of plan.now (view value.now) (LineShape.Invoke (Some name)) }
 {
     let object = object_in(plan, value)?;
     let args = args_in(name.signature().takes, value)?;
@@ -134,7 +134,7 @@ fn invocation<A: Allocator>(plan: &Plan<A>, value: &Value, name: OpName) -> Opti
 }
 
 fn response<A: Allocator>(plan: &Plan<A>, value: &Value) -> Option<Event>
-    ensures { result ≡ event_of plan.now (view value.now) Shape.Respond }
+    ensures { result ≡ event_of plan.now (view value.now) LineShape.Respond }
 {
     let object = object_in(plan, value)?;
     let op = op_of(plan.format(), value)?;
@@ -166,32 +166,37 @@ fn end_mark_in(value: &Value) -> Option<Fact>
     Some(Fact::End(EndMark { log, count }))
 }
 
-fn fact_in<A: Allocator>(plan: &Plan<A>, value: &Value, shape: Shape) -> Option<Fact>
+fn fact_in<A: Allocator>(plan: &Plan<A>, value: &Value, shape: LineShape) -> Option<Fact>
     ensures { result ≡ fact_of plan.now (view value.now) shape }
 {
     match shape {
-        Shape::EndMark => end_mark_in(value),
-        Shape::Invoke(Some(name)) => {
+        LineShape::EndMark => end_mark_in(value),
+        LineShape::Invoke(Some(name)) => {
             let event = invocation(plan, value, name)?;
             record_in(value, event)
         }
-        Shape::Invoke(None) => None,
-        Shape::Respond => {
+        LineShape::Invoke(None) => None,
+        LineShape::Respond => {
             let event = response(plan, value)?;
             record_in(value, event)
         }
-        Shape::TryCommit => record_in(value, Event::TryC),
-        Shape::TryAbort => record_in(value, Event::TryA),
-        Shape::Commit => record_in(value, Event::Commit),
-        Shape::Abort => record_in(value, Event::Abort),
-        Shape::Strange => None,
+        LineShape::TryCommit => record_in(value, Event::TryC),
+        LineShape::TryAbort => record_in(value, Event::TryA),
+        LineShape::Commit => record_in(value, Event::Commit),
+        LineShape::Abort => record_in(value, Event::Abort),
+        LineShape::Strange => None,
     }
 }
 
 // ---- the answer
 
 /// The least fault of a value of which no fact comes.
-fn fault_of(format: Format, value: &Value, members: &Map<String, Value>, shape: Shape) -> TextFault
+fn fault_of(
+    format: Format,
+    value: &Value,
+    members: &Map<String, Value>,
+    shape: LineShape,
+) -> TextFault
     ensures { result ≡ (if has_all (required shape) (view value.now)
         then (if has_only (allowed format shape) (members_view members.now.entries)
         then (if types_fit (view value.now) then TextFault.UnknownWord else TextFault.TypeOrRange)

@@ -10,7 +10,7 @@ use serde_json::Value;
 
 /// What kind of line it is, as far as its keys hang on that.
 #[derive(Clone, Copy, PartialEq, Eq)]
-pub(crate) enum Shape {
+pub(crate) enum LineShape {
     EndMark,
     /// An invocation, of an operation where `op` has the word of one that the format has.
     Invoke(Option<OpName>),
@@ -32,29 +32,29 @@ pub(crate) fn op_of(format: Format, value: &Value) -> Option<OpName>
     }
 }
 
-pub(crate) fn shape_in(format: Format, value: &Value) -> Shape
+pub(crate) fn shape_in(format: Format, value: &Value) -> LineShape
     ensures { result ≡ shape_of format (view value.now) }
 {
     if value.get("end").is_some() {
-        return Shape::EndMark;
+        return LineShape::EndMark;
     }
     match word_of(value, "ev") {
         Some(word) => shape_by(format, value, word),
-        None => Shape::Strange,
+        None => LineShape::Strange,
     }
 }
 
-fn shape_by(format: Format, value: &Value, word: &str) -> Shape
+fn shape_by(format: Format, value: &Value, word: &str) -> LineShape
     ensures { result ≡ shape_of_event format (view value.now) word.now }
 {
     match word {
-        "inv" => Shape::Invoke(op_of(format, value)),
-        "ret" => Shape::Respond,
-        "tryc" => Shape::TryCommit,
-        "trya" => Shape::TryAbort,
-        "commit" => Shape::Commit,
-        "abort" => Shape::Abort,
-        _ => Shape::Strange,
+        "inv" => LineShape::Invoke(op_of(format, value)),
+        "ret" => LineShape::Respond,
+        "tryc" => LineShape::TryCommit,
+        "trya" => LineShape::TryAbort,
+        "commit" => LineShape::Commit,
+        "abort" => LineShape::Abort,
+        _ => LineShape::Strange,
     }
 }
 
@@ -77,7 +77,7 @@ static ALL_KEYS_TWO: [&str; 10] = [
 ];
 
 fn operation_keys(op: OpName) -> &'static [&'static str]
-    ensures { map (λ k. k.now) result.now ≡ required (Shape.Invoke (Some op)) }
+    ensures { map (λ k. k.now) result.now ≡ required (LineShape.Invoke (Some op)) }
 {
     match op.signature().takes {
         Takes::Nothing => OPERATION_KEYS.as_slice(),
@@ -96,26 +96,28 @@ fn all_keys(format: Format) -> &'static [&'static str]
     }
 }
 
-pub(crate) fn required_keys(shape: Shape) -> &'static [&'static str]
+pub(crate) fn required_keys(shape: LineShape) -> &'static [&'static str]
     ensures { map (λ k. k.now) result.now ≡ required shape }
 {
     match shape {
-        Shape::EndMark => END_KEYS.as_slice(),
-        Shape::Invoke(Some(op)) => operation_keys(op),
-        Shape::Invoke(None) => OPERATION_KEYS.as_slice(),
-        Shape::Respond => ANSWER_KEYS.as_slice(),
-        Shape::TryCommit | Shape::TryAbort | Shape::Commit | Shape::Abort | Shape::Strange => {
-            BASE_KEYS.as_slice()
-        }
+        LineShape::EndMark => END_KEYS.as_slice(),
+        LineShape::Invoke(Some(op)) => operation_keys(op),
+        LineShape::Invoke(None) => OPERATION_KEYS.as_slice(),
+        LineShape::Respond => ANSWER_KEYS.as_slice(),
+        LineShape::TryCommit
+        | LineShape::TryAbort
+        | LineShape::Commit
+        | LineShape::Abort
+        | LineShape::Strange => { BASE_KEYS.as_slice() }
     }
 }
 
-pub(crate) fn allowed_keys(format: Format, shape: Shape) -> &'static [&'static str]
+pub(crate) fn allowed_keys(format: Format, shape: LineShape) -> &'static [&'static str]
     ensures { map (λ k. k.now) result.now ≡ allowed format shape }
 {
     match shape {
-        Shape::Invoke(None) => all_keys(format),
-        Shape::Strange => all_keys(format),
+        LineShape::Invoke(None) => all_keys(format),
+        LineShape::Strange => all_keys(format),
         other => required_keys(other),
     }
 }

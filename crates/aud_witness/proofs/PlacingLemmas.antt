@@ -14,7 +14,7 @@ use Rattle.aud_witness.specs.declared.fault.OrderFault.{OrderFault}
 use Rattle.aud_witness.specs.declared.fault.OrderFault.TheVariants.{Illegal}
 use Rattle.aud_history.specs.Table.{RowOf, fresh_row}
 use Rattle.aud_witness.specs.declared.end.End.{End}
-use Rattle.aud_witness.specs.declared.step.Step.{Step}
+use Rattle.aud_witness.specs.declared.step.PlacedRow.{PlacedRow}
 use Rattle.aud_witness.specs.Configurations.{Configuration, unplaced, is_ended, are_earlier_placed, states_with, block_stepped}
 use Rattle.aud_witness.specs.Agendas.{AgendaOf, AreEnds, IsEarliest}
 use Rattle.aud_witness.specs.Placings.{PlacingOf, CanGoBack, configurations_before, is_kept_fate, store_with, Advances}
@@ -139,7 +139,7 @@ set-back [] k h = refl
 set-back (b ∷ bs) zero h = ap (λ c. c ∷ bs) (sym h)
 set-back (b ∷ bs) (suc k) h = ap (λ l. b ∷ l) (set-back bs k h)
 
-pub earliest-now : (ends : List End) (placed : List Bool) (past : List (List ObjState)) (e : ℕ) (steps : List Step) → CanGoBack ends placed past e steps → IsEarliest ends placed e
+pub earliest-now : (ends : List End) (placed : List Bool) (past : List (List ObjState)) (e : ℕ) (steps : List PlacedRow) → CanGoBack ends placed past e steps → IsEarliest ends placed e
 earliest-now ends placed past e [] h = h
 earliest-now ends placed past e (x ∷ xs) h = h.0
 
@@ -152,30 +152,30 @@ store_with-now : (fate : Fate) (store : StoreOf) (after : List ObjState) → (st
 store_with-now C store after = refl
 store_with-now A store after = refl
 
-abbrev pub step_of : ℕ → Fate → ℕ → Step
+abbrev pub step_of : ℕ → Fate → ℕ → PlacedRow
 step_of k fate e = record { row = k; is_kept = is_kept_fate fate; earliest = e }
 
 not_nothing : (s : List ObjState) (ss : List (List ObjState)) → (s ∷ ss) ≢ []
 not_nothing s ss e = cc
 
 -- the way back has one step more
-back-front : (ends : List End) (placed : List Bool) (store : StoreOf) (after : List ObjState) (e e' k : ℕ) (fate : Fate) (xs : List Step) → k < length placed → get_or placed k false ≡ false →
+back-front : (ends : List End) (placed : List Bool) (store : StoreOf) (after : List ObjState) (e e' k : ℕ) (fate : Fate) (xs : List PlacedRow) → k < length placed → get_or placed k false ≡ false →
     IsEarliest ends (set placed k true) e' → CanGoBack ends placed store.past e xs → CanGoBack ends (set placed k true) (store_with fate store after).past e' (step_of k fate e ∷ xs)
 back-front ends placed store after e e' k C xs inside fresh first back =
     (first, omega (arith, length-set placed k true), (λ _. not_nothing store.now store.past), subst (λ l. CanGoBack ends l store.past e xs) (sym (set-back placed k fresh)) back)
 back-front ends placed store after e e' k A xs inside fresh first back =
     (first, omega (arith, length-set placed k true), (λ h. cc), subst (λ l. CanGoBack ends l store.past e xs) (sym (set-back placed k fresh)) back)
 
-configurations-front : (placed : List Bool) (store : StoreOf) (after : List ObjState) (e k : ℕ) (fate : Fate) (xs : List Step) → get_or placed k false ≡ false →
+configurations-front : (placed : List Bool) (store : StoreOf) (after : List ObjState) (e k : ℕ) (fate : Fate) (xs : List PlacedRow) → get_or placed k false ≡ false →
     configurations_before (set placed k true) (store_with fate store after).now (store_with fate store after).past (step_of k fate e ∷ xs)
     ≡ record { placed = placed; states = store.now } ∷ configurations_before placed store.now store.past xs
 configurations-front placed store after e k C xs fresh = ap (λ l. record { placed = l; states = store.now } ∷ configurations_before l store.now store.past xs) (set-back placed k fresh)
 configurations-front placed store after e k A xs fresh = ap (λ l. record { placed = l; states = store.now } ∷ configurations_before l store.now store.past xs) (set-back placed k fresh)
 
-reverse-push : (xs : List Step) (x : Step) → reverse (xs ++ x ∷ []) ≡ x ∷ reverse xs
+reverse-push : (xs : List PlacedRow) (x : PlacedRow) → reverse (xs ++ x ∷ []) ≡ x ∷ reverse xs
 reverse-push xs x = reverse-append xs (x ∷ [])
 
-pub back-pushed : (ends : List End) (placed : List Bool) (store new : StoreOf) (after : List ObjState) (e e' k : ℕ) (fate : Fate) (xs ys : List Step) → k < length placed → get_or placed k false ≡ false →
+pub back-pushed : (ends : List End) (placed : List Bool) (store new : StoreOf) (after : List ObjState) (e e' k : ℕ) (fate : Fate) (xs ys : List PlacedRow) → k < length placed → get_or placed k false ≡ false →
     IsEarliest ends (set placed k true) e' → CanGoBack ends placed store.past e (reverse xs) → new ≡ store_with fate store after → ys ≡ xs ++ step_of k fate e ∷ [] →
     CanGoBack ends (set placed k true) new.past e' (reverse ys)
 back-pushed ends placed store new after e e' k fate xs ys inside fresh first back is grown =
@@ -187,7 +187,7 @@ abbrev configuration_at : List Bool → ℕ → List ObjState → Configuration
 configuration_at placed k s = record { placed = set placed k true; states = s }
 
 -- the placing then is one decision further
-pub advanced : (agenda : AgendaOf) (placed : List Bool) (store new : StoreOf) (after : List ObjState) (path path' : List Decision) (e k : ℕ) (d : Decision) (r : RowOf) (xs ys : List Step) →
+pub advanced : (agenda : AgendaOf) (placed : List Bool) (store new : StoreOf) (after : List ObjState) (path path' : List Decision) (e k : ℕ) (d : Decision) (r : RowOf) (xs ys : List PlacedRow) →
     get_or placed k false ≡ false → replayed store.now r.block ≡ Some after → new ≡ store_with d.fate store after → ys ≡ xs ++ step_of k d.fate e ∷ [] → path' ≡ path ++ d ∷ [] →
     Advances
     (record { agenda = agenda; configuration = record { placed = placed; states = store.now }; path = path; past = configurations_before placed store.now store.past (reverse xs) })

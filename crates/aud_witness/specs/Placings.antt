@@ -7,7 +7,7 @@ use Rattle.aud_witness.specs.declared.decision.Fate.TheVariants.{C, A}
 use Rattle.aud_witness.specs.declared.decision.Decision.{Decision}
 use Rattle.aud_witness.specs.declared.fault.OrderFault.{OrderFault}
 use Rattle.aud_witness.specs.declared.end.End.{End}
-use Rattle.aud_witness.specs.declared.step.Step.{Step}
+use Rattle.aud_witness.specs.declared.step.PlacedRow.{PlacedRow}
 use Rattle.aud_witness.specs.Configurations.{Configuration, first_configuration}
 use Rattle.aud_witness.specs.Agendas.{AgendaOf, IsEarliest}
 use Rattle.aud_object.specs.Blocks.{BlockOf}
@@ -31,14 +31,14 @@ after_head [] = []
 after_head (s ∷ ss) = ss
 
 -- the configurations before each step, from the last step on
-abbrev pub configurations_before : List Bool → List ObjState → List (List ObjState) → List Step → List Configuration
+abbrev pub configurations_before : List Bool → List ObjState → List (List ObjState) → List PlacedRow → List Configuration
 configurations_before placed now past [] = []
 configurations_before placed now past (x ∷ xs) =
     record { placed = slice_set placed x.row false; states = if x.is_kept then head_or now past else now }
     ∷ configurations_before (slice_set placed x.row false) (if x.is_kept then head_or now past else now) (if x.is_kept then after_head past else past) xs
 
 -- each step, from the last one on, can be taken back
-abbrev pub CanGoBack : List End → List Bool → List (List ObjState) → ℕ → List Step → Type 0
+abbrev pub CanGoBack : List End → List Bool → List (List ObjState) → ℕ → List PlacedRow → Type 0
 CanGoBack ends placed past earliest [] = IsEarliest ends placed earliest
 CanGoBack ends placed past earliest (x ∷ xs) =
     IsEarliest ends placed earliest × (x.row < length placed) × (x.is_kept ≡ true → past ≢ [])

@@ -11,7 +11,7 @@ use crate::agenda::{Agenda, allows};
 use crate::decision::{Decision, Fate};
 use crate::end::End;
 use crate::fault::OrderFault;
-use crate::step::Step;
+use crate::step::PlacedRow;
 use aud_event::{OutOfMemory, Plan};
 use aud_history::TxRow;
 use aud_object::{Block, Store};
@@ -30,7 +30,7 @@ pub struct Placing<'a, A: Allocator + Copy = Global> {
     earliest: usize,
     store: Store<A>,
     path: Vec<Decision, A>,
-    steps: Vec<Step, A>,
+    steps: Vec<PlacedRow, A>,
 }
 
 impl<'a, A: Allocator + Copy> Model for Placing<'a, A> {
@@ -225,7 +225,7 @@ impl<'a, A: Allocator + Copy> Placing<'a, A> {
         if !try_block(&mut self.store, row.block(), decision.fate)? {
             return Ok(Err(OrderFault::Illegal(decision.tx)));
         }
-        let step = Step {
+        let step = PlacedRow {
             row: place,
             is_kept: is_kept(decision.fate),
             earliest: self.earliest,
