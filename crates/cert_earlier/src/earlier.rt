@@ -36,7 +36,7 @@ type Beginnings<'c, A> = HashMap<Place<'c>, Vec<Noted, A>, BuildHasherDefault<Fo
 pub struct Earlier<'c, A: Allocator + Copy = Global> {
     alloc: A,
     shape: &'c Shape<A>,
-    lists: &'c Bump<A>,
+    arena: &'c Bump<A>,
     beginnings: Beginnings<'c, A>,
     landings: Vec<Landing, A>,
     has_empty: bool,
@@ -74,7 +74,7 @@ pub(crate) fn is_among(noted: &[Noted], decision: Decision) -> bool
 /// Notes something after a beginning, if its decision is not noted there. A new beginning is copied among the others.
 fn note<'c, A: Allocator + Copy>(
     alloc: A,
-    lists: &'c Bump<A>,
+    arena: &'c Bump<A>,
     beginnings: &mut Beginnings<'c, A>,
     beginning: &'c [Decision],
     one: Noted,
@@ -89,7 +89,7 @@ fn note<'c, A: Allocator + Copy>(
         }
         return Ok(());
     }
-    let own = lists.try_alloc_slice_copy(beginning)?;
+    let own = arena.try_alloc_slice_copy(beginning)?;
     let mut noted = Vec::new(alloc);
     noted.push(one)?;
     let _ = beginnings.insert(Place::of(own), noted)?;
@@ -126,13 +126,13 @@ fn landing_at(landings: &[Landing], number: Option<u32>) -> Option<&Landing>
 
 impl<'c, A: Allocator + Copy> Earlier<'c, A> {
     /// No prefixes. What they begin with is going to stand in the arena.
-    pub fn none(alloc: A, shape: &'c Shape<A>, lists: &'c Bump<A>) -> Earlier<'c, A>
+    pub fn none(alloc: A, shape: &'c Shape<A>, arena: &'c Bump<A>) -> Earlier<'c, A>
         ensures { result ≡ record { shape = shape.entry.now; prefixes = [] } }
     {
         Earlier {
             alloc,
             shape,
-            lists,
+            arena,
             beginnings: HashMap::new(alloc),
             landings: Vec::new(alloc),
             has_empty: false,
@@ -193,6 +193,6 @@ impl<'c, A: Allocator + Copy> Earlier<'c, A> {
         let landing = keep(&mut self.landings, landing)?;
         let decision = *last;
         let one = Noted { decision, landing };
-        note(self.alloc, self.lists, &mut self.beginnings, list, one)
+        note(self.alloc, self.arena, &mut self.beginnings, list, one)
     }
 }

@@ -23,7 +23,7 @@ use Rattle.judge_clauses.specs.declared.clause.Literal.{Literal}
 use Rattle.search_model.specs.declared.cell.Need.{Need}
 use Rattle.search_model.specs.declared.cell.Need.TheVariants.{Absent, Present, Holding}
 use Rattle.search_model.specs.Cells.{content, meets, asks_by, puts_by, changes, newer_of}
-use Rattle.judge_clauses.specs.Clauses.{FactsOf, Holds}
+use Rattle.judge_clauses.specs.Clauses.{KnownFactsOf, IsValid}
 use Rattle.judge_clauses.proofs.Celling.{over}
 use Rattle.judge_clauses.proofs.CellWalks.{Stands, stands-after, asks-there, content_after, further}
 use Rattle.judge_clauses.proofs.Validity.{valid-unless}
@@ -101,7 +101,7 @@ module _ (c : Cell) (x : ℕ) where
         ] refl led
 
 -- where some block contradicts itself every clause is valid
-pub valid-clash : (f : FactsOf) (c : List Literal) → IsWellFormed f.history → IsWithinLimits f.plan f.history → (cell : Cell) (x r : ℕ) (o : Option ℤ) → OpensWith f x cell o → is_in f.history r ≡ true → clashes_of f.history cell x r ≡ true → Holds f c
+pub valid-clash : (f : KnownFactsOf) (c : List Literal) → IsWellFormed f.history → IsWithinLimits f.plan f.history → (cell : Cell) (x r : ℕ) (o : Option ℤ) → OpensWith f x cell o → is_in f.history r ≡ true → clashes_of f.history cell x r ≡ true → IsValid f c
 valid-clash f c fine within cell x r o opens there clash =
     valid-unless f c (λ p shown broken.
     let (d, (declared, (fits, is_o))) = opens in

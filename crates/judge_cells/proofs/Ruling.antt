@@ -17,7 +17,7 @@ use Rattle.judge_clauses.specs.declared.clause.Atom.TheVariants.{Source, Opening
 use Rattle.judge_clauses.specs.declared.clause.Read.{Read}
 use Rattle.search_model.specs.declared.cell.Need.{Need}
 use Rattle.search_model.specs.Cells.{meets, content, needs, leaves, moves, leaves_of, changes}
-use Rattle.judge_clauses.specs.Clauses.{is_kept_in, source_of, says, FactsOf, Always}
+use Rattle.judge_clauses.specs.Clauses.{is_kept_in, source_of, says, KnownFactsOf, Always}
 use Rattle.judge_clauses.proofs.Celling.{over}
 use Rattle.judge_clauses.proofs.CellLast.{just-is, nothing-is, writer-last}
 use Rattle.judge_clauses.proofs.CellWalks.{content_after, walked-needs}
@@ -29,7 +29,7 @@ use Rattle.judge_clauses.specs.Touching.{mentions}
 use Rattle.judge_cells.specs.Sources.{OpensWith, IsRead, IsHiding}
 use Rattle.judge_cells.proofs.Standing.{not-both, sourced}
 
-module _ (f : FactsOf) (read : Read) where
+module _ (f : KnownFactsOf) (read : Read) where
   module _ (there : is_in f.history read.reader ≡ true) where
     out-by : (w : ℕ) → ((p : List Decision) → Shows f.plan.objects f.history p → says f.history p (Source read w) ≡ true → ⊥) → Always f (λ p. says f.history p (Source read w) ≡ false)
     out-by w never p shown = is_false (says f.history p (Source read w)) (never p shown)
@@ -109,7 +109,7 @@ module _ (f : FactsOf) (read : Read) where
         not-both (meets need v) (sym (ap (λ l. meets need (over l is.content)) left) ∙ met) unmet)
 
 -- a row that has no execution on the object is not the source
-pub out-untouched : (f : FactsOf) (read : Read) → is_in f.history read.reader ≡ true → (k : ℕ) (row : RowOf) → slice_get (table_of f.history) k ≡ Some row → mentions read.object row.block.executions ≡ false →
+pub out-untouched : (f : KnownFactsOf) (read : Read) → is_in f.history read.reader ≡ true → (k : ℕ) (row : RowOf) → slice_get (table_of f.history) k ≡ Some row → mentions read.object row.block.executions ≡ false →
     Always f (λ p. says f.history p (Source read row.tx) ≡ false)
 out-untouched f read there k row at none =
     let own : row ≡ row_of f.history row.tx = own-row f.history k row at in

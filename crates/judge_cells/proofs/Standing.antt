@@ -10,7 +10,7 @@ use Rattle.judge_clauses.specs.declared.clause.Atom.TheVariants.{Source, Opening
 use Rattle.judge_clauses.specs.declared.clause.Literal.{Literal}
 use Rattle.judge_clauses.specs.declared.clause.Read.{Read}
 use Rattle.search_model.specs.Cells.{changes}
-use Rattle.judge_clauses.specs.Clauses.{is_kept_in, is_just, is_nothing, source_of, says, holds, meaning, FactsOf, Unless, Holds}
+use Rattle.judge_clauses.specs.Clauses.{is_kept_in, is_just, is_nothing, source_of, says, holds, meaning, KnownFactsOf, Unless, IsValid}
 use Rattle.judge_clauses.proofs.CellLast.{IsEarlier, last-earlier, last-source, last-opening}
 use Rattle.judge_clauses.proofs.Standing.{first-named}
 use Rattle.judge_clauses.proofs.Validity.{valid-unless}
@@ -21,20 +21,20 @@ use Rattle.judge_cells.specs.Sources.{AreOut}
 pub not-both : (b : Bool) → b ≡ true → b ≡ false → ⊥
 not-both b so not_so = let wrong : true ≡ false = sym so ∙ not_so in cc
 
-module _ (f : FactsOf) (read : Read) (there : is_in f.history read.reader ≡ true) where
+module _ (f : KnownFactsOf) (read : Read) (there : is_in f.history read.reader ≡ true) where
   -- the source stands before the reader, is kept and changes the cell
   pub sourced : (p : List Decision) (w : ℕ) → Shows f.plan.objects f.history p → says f.history p (Source read w) ≡ true → IsEarlier (changes f.history read.cell read.object) p read.reader w
   sourced p w shown is = last-earlier f.plan.objects f.history (changes f.history read.cell read.object) p shown w read.reader there is
 
   module _ (c : List Literal) where
-    pub valid-before : (w : ℕ) → Unless f c (λ p. says f.history p (Source read w) ≡ true) → Unless f c (λ p. stands_before p w read.reader ≡ false) → Holds f c
+    pub valid-before : (w : ℕ) → Unless f c (λ p. says f.history p (Source read w) ≡ true) → Unless f c (λ p. stands_before p w read.reader ≡ false) → IsValid f c
     valid-before w is behind = valid-unless f c (λ p shown broken. not-both (stands_before p w read.reader) (sourced p w shown (is p shown broken)).before (behind p shown broken))
 
-    pub valid-kept : (w : ℕ) → Unless f c (λ p. says f.history p (Source read w) ≡ true) → Unless f c (λ p. is_kept_in p w ≡ false) → Holds f c
+    pub valid-kept : (w : ℕ) → Unless f c (λ p. says f.history p (Source read w) ≡ true) → Unless f c (λ p. is_kept_in p w ≡ false) → IsValid f c
     valid-kept w is off = valid-unless f c (λ p shown broken. not-both (is_kept_in p w) (sourced p w shown (is p shown broken)).kept (off p shown broken))
 
     pub valid-after_source : (w u : ℕ) → nat_eq u w ≡ false → nat_eq u read.reader ≡ false → is_in f.history u ≡ true → changes f.history read.cell read.object u ≡ true →
-        Unless f c (λ p. says f.history p (Source read w) ≡ true) → Unless f c (λ p. is_kept_in p u ≡ true) → Unless f c (λ p. stands_before p read.reader u ≡ false) → Unless f c (λ p. stands_before p u w ≡ false) → Holds f c
+        Unless f c (λ p. says f.history p (Source read w) ≡ true) → Unless f c (λ p. is_kept_in p u ≡ true) → Unless f c (λ p. stands_before p read.reader u ≡ false) → Unless f c (λ p. stands_before p u w ≡ false) → IsValid f c
     valid-after_source w u not_w not_r there_u moved is kept not_behind not_front =
         valid-unless f c (λ p shown broken.
         elim (last-source f.plan.objects f.history (changes f.history read.cell read.object) p shown w u read.reader moved not_w not_r there_u there (kept p shown broken) (is p shown broken)) [
@@ -43,14 +43,14 @@ module _ (f : FactsOf) (read : Read) (there : is_in f.history read.reader ≡ tr
         ])
 
     pub valid-after_opening : (u : ℕ) → nat_eq u read.reader ≡ false → is_in f.history u ≡ true → changes f.history read.cell read.object u ≡ true →
-        Unless f c (λ p. says f.history p (Opening read) ≡ true) → Unless f c (λ p. is_kept_in p u ≡ true) → Unless f c (λ p. stands_before p read.reader u ≡ false) → Holds f c
+        Unless f c (λ p. says f.history p (Opening read) ≡ true) → Unless f c (λ p. is_kept_in p u ≡ true) → Unless f c (λ p. stands_before p read.reader u ≡ false) → IsValid f c
     valid-after_opening u not_r there_u moved is kept not_behind =
         valid-unless f c (λ p shown broken.
         not-both (stands_before p read.reader u)
         (last-opening f.plan.objects f.history (changes f.history read.cell read.object) p shown u read.reader moved not_r there_u there (kept p shown broken) (is p shown broken)) (not_behind p shown broken))
 
     -- neither a row nor the opening
-    pub valid-sources : AreOut f c read → Unless f c (λ p. says f.history p (Opening read) ≡ false) → Holds f c
+    pub valid-sources : AreOut f c read → Unless f c (λ p. says f.history p (Opening read) ≡ false) → IsValid f c
     valid-sources out opening = valid-unless f c (λ p shown broken. go p shown broken (source_of f.history p read) refl)
       where
         go : (p : List Decision) → Shows f.plan.objects f.history p → holds (meaning f p) c ≡ false → (o : Option ℕ) → source_of f.history p read ≡ o → ⊥

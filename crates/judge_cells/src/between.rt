@@ -1,20 +1,20 @@
 //! Clauses on the source of what a transaction needs of a cell.
 
 ghost use Rattle.std.specs.Prelude.{IsTrue};
-ghost use Rattle.judge_clauses.specs.Clauses.{Holds};
+ghost use Rattle.judge_clauses.specs.Clauses.{IsValid};
 
 use crate::change::is_change;
 use judge_clauses::{Atom, KnownFacts, Literal, Read};
 use std::alloc::Allocator;
 
-/// The source stands before the reader, and it is kept: the clause denies one of these, or that it is the source.
+/// The source stands before the reader, and it commits: the clause denies one of these, or that it is the source.
 pub(crate) fn is_standing<A: Allocator + Copy>(
     facts: &KnownFacts<A>,
     clause: &[Literal],
     read: Read,
     source: u32,
 ) -> bool
-    ensures { IsTrue result → Holds facts.now clause.now }
+    ensures { IsTrue result → IsValid facts.now clause.now }
 {
     if !facts.is_there(read.reader) {
         return false;
@@ -28,7 +28,7 @@ pub(crate) fn is_standing<A: Allocator + Copy>(
     facts.is_not_so(clause, Atom::Commits(source))
 }
 
-/// Another one that is kept and changes the cell stands before the source or after the reader.
+/// Another one that commits and changes the cell stands before the source or after the reader.
 pub(crate) fn is_after_source<A: Allocator + Copy>(
     facts: &KnownFacts<A>,
     clause: &[Literal],
@@ -36,7 +36,7 @@ pub(crate) fn is_after_source<A: Allocator + Copy>(
     source: u32,
     other: u32,
 ) -> bool
-    ensures { IsTrue result → Holds facts.now clause.now }
+    ensures { IsTrue result → IsValid facts.now clause.now }
 {
     if other == source || other == read.reader {
         return false;
@@ -59,14 +59,14 @@ pub(crate) fn is_after_source<A: Allocator + Copy>(
     facts.is_not_so(clause, Atom::Before(other, source))
 }
 
-/// Where there is no source, another one that is kept and changes the cell stands after the reader.
+/// Where there is no source, another one that commits and changes the cell stands after the reader.
 pub(crate) fn is_after_opening<A: Allocator + Copy>(
     facts: &KnownFacts<A>,
     clause: &[Literal],
     read: Read,
     other: u32,
 ) -> bool
-    ensures { IsTrue result → Holds facts.now clause.now }
+    ensures { IsTrue result → IsValid facts.now clause.now }
 {
     if other == read.reader {
         return false;

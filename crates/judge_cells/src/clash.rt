@@ -1,7 +1,7 @@
 //! Blocks that contradict themselves on a cell.
 
 ghost use Rattle.std.specs.Prelude.{◌≡◌, None, IsTrue};
-ghost use Rattle.judge_clauses.specs.Clauses.{Holds};
+ghost use Rattle.judge_clauses.specs.Clauses.{IsValid};
 ghost use Rattle.judge_cells.specs.Clashes.{are_apart, learned, kept_known, fails, clashes};
 
 use crate::opening::opening;
@@ -80,7 +80,7 @@ pub(crate) fn is_clash<A: Allocator + Copy>(
     object: u16,
     cell: Cell,
 ) -> bool
-    ensures { IsTrue result → Holds facts.now clause.now }
+    ensures { IsTrue result → IsValid facts.now clause.now }
 {
     let _history = facts.history();
     let Some(row) = facts.row(tx) else {

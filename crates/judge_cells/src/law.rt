@@ -14,9 +14,9 @@ pub enum CellLaw {
     /// Some row left in the cell what the reader first needs of it, or the cell opened so: the clause says of each that may have left it that
     /// it is the source.
     Sources(Read),
-    /// The source stands before the reader and is kept: the clause says one of both, or that this one is not the source.
+    /// The source stands before the reader and commits: the clause says one of both, or that this one is not the source.
     SourceStands(Read, u32),
-    /// Another one that is kept and changes the cell stands before the source, if there is one, or after the reader.
+    /// Another one that commits and changes the cell stands before the source, if there is one, or after the reader.
     Between(Read, Option<u32>, u32),
     /// The transaction's block contradicts itself on the cell.
     Clash(u32, u16, Cell),

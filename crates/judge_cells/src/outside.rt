@@ -85,7 +85,7 @@ fn is_other<A: Allocator + Copy>(facts: &KnownFacts<A>, read: Read, need: Need, 
     }
 }
 
-/// Whether the transaction cannot be the source: it cannot be kept, is the reader, stands after it, is hidden, or does not leave what is
+/// Whether the transaction cannot be the source: it cannot commit, is the reader, stands after it, is hidden, or does not leave what is
 /// needed.
 pub(crate) fn is_outside<A: Allocator + Copy>(
     facts: &KnownFacts<A>,

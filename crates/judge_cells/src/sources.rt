@@ -1,8 +1,8 @@
 //! The clause that names all that may have left in a cell what a reader needs of it.
 
 ghost use Rattle.std.specs.Prelude.{◌≡◌, false, Some, IfOk, IfSome, IsTrue, slice_get};
-ghost use Rattle.judge_clauses.specs.Clauses.{Holds, Unless, says};
-ghost use Rattle.judge_clauses.specs.Values.{atom_of, AreTold};
+ghost use Rattle.judge_clauses.specs.Clauses.{IsValid, Unless, says};
+ghost use Rattle.judge_clauses.specs.Values.{atom_of, AreValues};
 ghost use Rattle.judge_clauses.specs.declared.clause.Atom.TheVariants.{Opening};
 ghost use Rattle.judge_clauses.specs.declared.question.Question.TheVariants.{IsSource};
 ghost use Rattle.judge_cells.specs.Sources.{IsRead, IsHiding, AreOut};
@@ -69,7 +69,7 @@ fn are_out<A: Allocator + Copy>(
 ) -> bool
     requires read { IsRead facts.now read need }
     requires latest { IfSome latest (IsHiding facts.now read) }
-    requires told { AreTold facts.now clause.now (atom_of (IsSource read)) values.now }
+    requires valued { AreValues facts.now clause.now (atom_of (IsSource read)) values.now }
     ensures { IsTrue result → AreOut facts.now clause.now read }
 {
     let rows = facts.rows();
@@ -94,7 +94,7 @@ pub(crate) fn are_listed<A: Allocator + Copy>(
     clause: &[Literal],
     read: Read,
 ) -> Result<bool, OutOfMemory>
-    ensures { IfOk result (λ yes. IsTrue yes → Holds facts.now clause.now) }
+    ensures { IfOk result (λ yes. IsTrue yes → IsValid facts.now clause.now) }
 {
     let Some(need) = need(facts, read) else {
         return Ok(false);

@@ -60,8 +60,8 @@ still-over None (Some u) o still met = absurd (cc)
 still-over (Some n) (Some u) o still met = stays-is n u o (unnegated (stays n u) still) (met n refl)
 
 module _ (c : Cell) (x : ℕ) where
-  told-here : (states : List ObjState) (e : Execution) (s : ObjState) → nat_eq e.object x ≡ true → slice_get states x ≡ Some s → answers (answer_at states e.object e.op) e.answer ≡ true → same_answer (answer_of s e.op) e.answer ≡ true
-  told-here states e s same at right =
+  answered-here : (states : List ObjState) (e : Execution) (s : ObjState) → nat_eq e.object x ≡ true → slice_get states x ≡ Some s → answers (answer_at states e.object e.op) e.answer ≡ true → same_answer (answer_of s e.op) e.answer ≡ true
+  answered-here states e s same at right =
       let on : x ≡ e.object = sym (nat_eq-is e.object x same) in
       let here : answer_at states e.object e.op ≡ Some (answer_of s e.op) = subst (λ n. answer_at states n e.op ≡ Some (answer_of s e.op)) on (answer_at-get states x e.op s at) in
       sym (ap (λ o. answers o e.answer) here) ∙ right
@@ -72,13 +72,13 @@ module _ (c : Cell) (x : ℕ) where
       elim (split (nat_eq e.object x)) [
         | inl same ↦
             let on : x ≡ e.object = sym (nat_eq-is e.object x same) in
-            let told : same_answer (answer_of at.state e.op) e.answer ≡ true = told-here states e at.state same at.there right in
+            let answered : same_answer (answer_of at.state e.op) e.answer ≡ true = answered-here states e at.state same at.there right in
             record {
               state = after_op at.state e.op;
               there = subst (λ n. slice_get (after_at states n e.op) x ≡ Some (after_op at.state e.op)) on (after_at-same states x e.op at.state at.there);
               proper = proper-after at.state e.op at.proper;
               fits = is_cell-after c at.state e.op ∙ at.fits;
-              holds = after-cell c at.state e.op e.answer at.proper at.fits told ∙ ap (over (puts c e.op e.answer)) at.holds ∙ ap (λ b. over (cond b (puts c e.op e.answer) None) o) (sym same);
+              holds = after-cell c at.state e.op e.answer at.proper at.fits answered ∙ ap (over (puts c e.op e.answer)) at.holds ∙ ap (λ b. over (cond b (puts c e.op e.answer) None) o) (sym same);
             }
         | inr other ↦
             record {
@@ -95,8 +95,8 @@ module _ (c : Cell) (x : ℕ) where
   asks-there states e o n at right is =
       elim (split (nat_eq e.object x)) [
         | inl same ↦
-            let told : same_answer (answer_of at.state e.op) e.answer ≡ true = told-here states e at.state same at.there right in
-            ap (meets n) (sym at.holds) ∙ asks-met c at.state e.op e.answer n at.fits told (sym (ap (λ b. cond b (asks c e.op e.answer) None) same) ∙ is)
+            let answered : same_answer (answer_of at.state e.op) e.answer ≡ true = answered-here states e at.state same at.there right in
+            ap (meets n) (sym at.holds) ∙ asks-met c at.state e.op e.answer n at.fits answered (sym (ap (λ b. cond b (asks c e.op e.answer) None) same) ∙ is)
         | inr other ↦
             absurd (
             let none : None ≡ Some n = sym (ap (λ b. cond b (asks c e.op e.answer) None) other) ∙ is in

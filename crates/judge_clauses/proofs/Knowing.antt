@@ -9,7 +9,7 @@ use Rattle.aud_witness.specs.Orders.{is_allowed, stands_before}
 use Rattle.aud_witness.proofs.Blocks.{stands_before-total}
 use Rattle.judge_clauses.specs.declared.clause.Atom.{Atom}
 use Rattle.judge_clauses.specs.declared.clause.Literal.{Literal}
-use Rattle.judge_clauses.specs.Clauses.{is_kept_in, says, atom_at, is_true, holds, meaning, FactsOf, Always, Unless, UnlessOne}
+use Rattle.judge_clauses.specs.Clauses.{is_kept_in, says, atom_at, is_true, holds, meaning, KnownFactsOf, Always, Unless, UnlessOne}
 use Rattle.judge_clauses.proofs.Holding.{holds-from}
 use Rattle.judge_clauses.proofs.Standing.{stands_before-apart, stands_before-itself}
 use Rattle.judge_clauses.proofs.Validity.{kept-allowed, must-keep}
@@ -31,7 +31,7 @@ opposites true false apart one = refl
 opposites false true apart one = refl
 opposites false false apart one = absurd (let is : false ≡ true = one refl in cc)
 
-module _ (f : FactsOf) where
+module _ (f : KnownFactsOf) where
   pub always-itself : (t u : ℕ) → t ≡ u → Always f (λ p. stands_before p t u ≡ false)
   always-itself t u same p shown = is_false (stands_before p t u) (λ front. stands_before-itself p t shown.full.once (subst (λ n. stands_before p t n ≡ true) (sym same) front))
 
@@ -53,13 +53,13 @@ module _ (f : FactsOf) where
       (λ behind. elim (stands_before-total p t u (shown.full.same t ∙ there_t) (shown.full.same u ∙ there_u) differ) [ inl first ↦ first | inr second ↦ absurd (cc) ])
 
   -- an atom of a literal that does not hold
-  pub told-itself : (l : Literal) (a : Atom) → atom_at f.atoms l.atom ≡ a → UnlessOne f l (λ p. says f.history p a ≡ not l.holds)
-  told-itself l a named p shown off = sym (ap (says f.history p) named) ∙ off-literal l.holds (says f.history p (atom_at f.atoms l.atom)) off
+  pub valued-itself : (l : Literal) (a : Atom) → atom_at f.atoms l.atom ≡ a → UnlessOne f l (λ p. says f.history p a ≡ not l.holds)
+  valued-itself l a named p shown off = sym (ap (says f.history p) named) ∙ off-literal l.holds (says f.history p (atom_at f.atoms l.atom)) off
 
-  pub told-turned : (l : Literal) (a b : Atom) → atom_at f.atoms l.atom ≡ a → Always f (λ p. says f.history p b ≡ not (says f.history p a)) → UnlessOne f l (λ p. says f.history p b ≡ l.holds)
-  told-turned l a b named turned p shown off = turned p shown ∙ ap not (told-itself l a named p shown off) ∙ not-not l.holds
+  pub valued-turned : (l : Literal) (a b : Atom) → atom_at f.atoms l.atom ≡ a → Always f (λ p. says f.history p b ≡ not (says f.history p a)) → UnlessOne f l (λ p. says f.history p b ≡ l.holds)
+  valued-turned l a b named turned p shown off = turned p shown ∙ ap not (valued-itself l a named p shown off) ∙ not-not l.holds
 
-  -- what is told by a literal of a clause
-  pub told-in : (c : List Literal) (k : ℕ) (l : Literal) (so : List Decision → Type 0) → slice_get c k ≡ Some l → UnlessOne f l so → Unless f c so
-  told-in c k l so at tells p shown broken =
+  -- what a literal of a clause says where it does not hold
+  pub valued-in : (c : List Literal) (k : ℕ) (l : Literal) (so : List Decision → Type 0) → slice_get c k ≡ Some l → UnlessOne f l so → Unless f c so
+  valued-in c k l so at tells p shown broken =
       tells p shown (is_false (is_true (meaning f p) l) (λ true_. let whole : holds (meaning f p) c ≡ true = holds-from (meaning f p) c k l at true_ in cc))

@@ -12,29 +12,29 @@ use Rattle.aud_witness.specs.Orders.{is_kept, is_allowed, Shows}
 use Rattle.aud_witness.proofs.Beginnings.{allowed_at}
 use Rattle.aud_witness.proofs.Good.{place_of}
 use Rattle.judge_clauses.specs.declared.clause.Literal.{Literal}
-use Rattle.judge_clauses.specs.Clauses.{is_kept_in, holds, meaning, Unless, FactsOf, Holds, clause_at, Follows, AreValid, IsUpTo}
+use Rattle.judge_clauses.specs.Clauses.{is_kept_in, holds, meaning, Unless, KnownFactsOf, IsValid, clause_at, Follows, AreValid, IsUpTo}
 use Rattle.judge_clauses.proofs.Standing.{stands_before-turn, stands_before-itself}
 use Rattle.aud_witness.specs.Orders.{stands_before}
 
 -- what follows from valid clauses is valid
-pub valid-follows : (f : FactsOf) (clauses : List (List Literal)) (count : ℕ) (c : List Literal) → AreValid f clauses count → Follows clauses count c → Holds f c
+pub valid-follows : (f : KnownFactsOf) (clauses : List (List Literal)) (count : ℕ) (c : List Literal) → AreValid f clauses count → Follows clauses count c → IsValid f c
 valid-follows f clauses count c valid follows p shown = follows (meaning f p) (λ k low. valid k low p shown)
 
 -- a valid clause without literals refutes
-pub valid-nothing : (f : FactsOf) → Holds f [] → (p : List Decision) → Shows f.plan.objects f.history p → ⊥
+pub valid-nothing : (f : KnownFactsOf) → IsValid f [] → (p : List Decision) → Shows f.plan.objects f.history p → ⊥
 valid-nothing f valid p shown = absurd (let wrong : false ≡ true = valid p shown in cc)
 
 -- one more valid clause
-pub valid-more : (f : FactsOf) (clauses : List (List Literal)) (count : ℕ) → AreValid f clauses count → Holds f (clause_at clauses count) → AreValid f clauses (count + 1)
-valid-more f clauses count valid next = below_more (λ k. Holds f (clause_at clauses k)) count valid next
+pub valid-more : (f : KnownFactsOf) (clauses : List (List Literal)) (count : ℕ) → AreValid f clauses count → IsValid f (clause_at clauses count) → AreValid f clauses (count + 1)
+valid-more f clauses count valid next = below_more (λ k. IsValid f (clause_at clauses k)) count valid next
 
 -- a valid clause of length 0
-pub valid-empty : (f : FactsOf) (c : List Literal) → length c ≡ 0 → Holds f c → Holds f []
+pub valid-empty : (f : KnownFactsOf) (c : List Literal) → length c ≡ 0 → IsValid f c → IsValid f []
 valid-empty f [] none valid = valid
 valid-empty f (l ∷ c) none valid = absurd (omega arith)
 
 -- a clause that cannot but hold is valid
-pub valid-unless : (f : FactsOf) (c : List Literal) → Unless f c (λ p. ⊥) → Holds f c
+pub valid-unless : (f : KnownFactsOf) (c : List Literal) → Unless f c (λ p. ⊥) → IsValid f c
 valid-unless f c never p shown =
     elim (split (holds (meaning f p) c)) [
       | inl is_so ↦ is_so
@@ -43,14 +43,14 @@ valid-unless f c never p shown =
 
 -- # Circles
 
-up-to-next : (f : FactsOf) (p : List Decision) (t u v : ℕ) → Shows f.plan.objects f.history p → IsUpTo p t u → stands_before p u v ≡ true → stands_before p t v ≡ true
+up-to-next : (f : KnownFactsOf) (p : List Decision) (t u v : ℕ) → Shows f.plan.objects f.history p → IsUpTo p t u → stands_before p u v ≡ true → stands_before p t v ≡ true
 up-to-next f p t u v shown up next =
     elim (split (nat_eq t u)) [
       | inl same ↦ subst (λ n. stands_before p n v ≡ true) (sym (nat_eq-is t u same)) next
       | inr other ↦ stands_before-turn p t u v shown.full.once (up other) next
     ]
 
-module _ (f : FactsOf) (c : List Literal) where
+module _ (f : KnownFactsOf) (c : List Literal) where
   pub unless-itself : (t : ℕ) → Unless f c (λ p. IsUpTo p t t)
   unless-itself t p shown broken other = absurd (let same : nat_eq t t ≡ true = nat_eq-refl t in cc)
 
@@ -58,7 +58,7 @@ module _ (f : FactsOf) (c : List Literal) where
   unless-next t u v up next p shown broken other = up-to-next f p t u v shown (up p shown broken) (next p shown broken)
 
   -- a circle cannot be
-  pub valid-circle : (t u : ℕ) → Unless f c (λ p. IsUpTo p t u) → Unless f c (λ p. stands_before p u t ≡ true) → Holds f c
+  pub valid-circle : (t u : ℕ) → Unless f c (λ p. IsUpTo p t u) → Unless f c (λ p. stands_before p u t ≡ true) → IsValid f c
   valid-circle t u up back =
       valid-unless f c (λ p shown broken. stands_before-itself p t shown.full.once (up-to-next f p t u t shown (up p shown broken) (back p shown broken)))
 

@@ -74,34 +74,34 @@ Follows clauses count c = (v : ℕ → Bool) → ((k : ℕ) → k < count → ho
 -- # Clauses of a history
 
 -- how contracts see what steps are checked against
-pub record FactsOf : Type 0 where
+pub record KnownFactsOf : Type 0 where
   pub plan : PlanOf
   pub history : History
   pub atoms : List Atom
 
 -- what numbers mean in p
-abbrev pub meaning : FactsOf → List Decision → ℕ → Bool
+abbrev pub meaning : KnownFactsOf → List Decision → ℕ → Bool
 meaning f p k = says f.history p (atom_at f.atoms k)
 
 -- in each order that shows the history something is so
-abbrev pub Always : FactsOf → (List Decision → Type 0) → Type 0
+abbrev pub Always : KnownFactsOf → (List Decision → Type 0) → Type 0
 Always f so = (p : List Decision) → Shows f.plan.objects f.history p → so p
 
 -- in each order that shows the history, and where the clause does not hold, something is so
-abbrev pub Unless : FactsOf → List Literal → (List Decision → Type 0) → Type 0
+abbrev pub Unless : KnownFactsOf → List Literal → (List Decision → Type 0) → Type 0
 Unless f c so = (p : List Decision) → Shows f.plan.objects f.history p → holds (meaning f p) c ≡ false → so p
 
 -- in each order that shows the history, and where the literal does not hold, something is so
-abbrev pub UnlessOne : FactsOf → Literal → (List Decision → Type 0) → Type 0
+abbrev pub UnlessOne : KnownFactsOf → Literal → (List Decision → Type 0) → Type 0
 UnlessOne f l so = (p : List Decision) → Shows f.plan.objects f.history p → is_true (meaning f p) l ≡ false → so p
 
 -- in each order that shows the history the clause holds
-abbrev pub Holds : FactsOf → List Literal → Type 0
-Holds f c = Always f (λ p. holds (meaning f p) c ≡ true)
+abbrev pub IsValid : KnownFactsOf → List Literal → Type 0
+IsValid f c = Always f (λ p. holds (meaning f p) c ≡ true)
 
 -- the first clauses, so many, hold in each of them
-abbrev pub AreValid : FactsOf → List (List Literal) → ℕ → Type 0
-AreValid f clauses count = (k : ℕ) → k < count → Holds f (clause_at clauses k)
+abbrev pub AreValid : KnownFactsOf → List (List Literal) → ℕ → Type 0
+AreValid f clauses count = (k : ℕ) → k < count → IsValid f (clause_at clauses k)
 
 -- T stands before U in p, or is U
 abbrev pub IsUpTo : List Decision → ℕ → ℕ → Type 0

@@ -32,10 +32,10 @@ impl<'a, A: Allocator + Copy> Model for KnownFacts<'a, A> {
     ghost use Rattle.std.specs.Prelude.{◌≡◌};
     ghost use Rattle.aud_history.specs.Table.{table_of};
     ghost use Rattle.aud_history.specs.WellFormed.{IsWellFormed};
-    ghost use Rattle.judge_clauses.specs.Clauses.{FactsOf};
+    ghost use Rattle.judge_clauses.specs.Clauses.{KnownFactsOf};
     ghost use Rattle.judge_clauses.specs.Touching.{AreMarked};
 
-    ghost Value = { FactsOf };
+    ghost Value = { KnownFactsOf };
 
     ghost view = { λ f. record { plan = f.history.now.plan; history = f.history.now.events; atoms = f.atoms.now } };
 

@@ -26,7 +26,7 @@ impl<'a, A: Allocator + Copy> KnownFacts<'a, A> {
         None
     }
 
-    /// Whether the transaction is kept, where it can have one fate only.
+    /// Whether the transaction commits, where it can have one fate only.
     fn fate(&self, tx: u32) -> Option<bool>
         ensures { IfSome result (λ b. Always self.now (λ p. is_kept_in p tx ≡ b)) }
     {
@@ -61,7 +61,7 @@ impl<'a, A: Allocator + Copy> KnownFacts<'a, A> {
     }
 
     /// Whether the one atom says that T stands before U, and the other that U stands before T: two transactions of the history.
-    fn are_turned(&self, one: Atom, other: Atom) -> bool
+    fn are_contrary(&self, one: Atom, other: Atom) -> bool
         ensures { IsTrue result → Always self.now (λ p. says self.now.history p other ≡ not (says self.now.history p one)) }
     {
         let Atom::Before(first, second) = one else {
@@ -74,14 +74,14 @@ impl<'a, A: Allocator + Copy> KnownFacts<'a, A> {
     }
 
     /// What the atom is where the literal does not hold, if the literal speaks of it.
-    pub(crate) fn told(&self, literal: Literal, atom: Atom) -> Option<bool>
+    pub(crate) fn value_by(&self, literal: Literal, atom: Atom) -> Option<bool>
         ensures { IfSome result (λ b. UnlessOne self.now literal (λ p. says self.now.history p atom ≡ b)) }
     {
         let found = self.atom(literal.atom)?;
         if found == atom {
             return Some(!literal.holds);
         }
-        if self.are_turned(found, atom) {
+        if self.are_contrary(found, atom) {
             return Some(literal.holds);
         }
         None
@@ -95,7 +95,7 @@ impl<'a, A: Allocator + Copy> KnownFacts<'a, A> {
             return Some(value);
         }
         for literal in clause {
-            if let Some(value) = self.told(*literal, atom) {
+            if let Some(value) = self.value_by(*literal, atom) {
                 return Some(value);
             }
         }

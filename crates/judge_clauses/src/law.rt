@@ -9,7 +9,7 @@ use std::alloc::Allocator;
 
 /// A law of objects, with what it is applied to.
 pub trait Law {
-    ghost use Rattle.judge_clauses.specs.Clauses.{Holds};
+    ghost use Rattle.judge_clauses.specs.Clauses.{IsValid};
 
     /// Whether the clause is an instance of the law, so that it holds in each order that shows the history.
     fn is_right<A: Allocator + Copy>(
@@ -18,5 +18,5 @@ pub trait Law {
         facts: &KnownFacts<A>,
         clause: &[Literal],
     ) -> Result<bool, OutOfMemory>
-        ensures { IfOk result (λ yes. IsTrue yes → Holds facts.now clause.now) };
+        ensures { IfOk result (λ yes. IsTrue yes → IsValid facts.now clause.now) };
 }

@@ -2,7 +2,7 @@
 
 ghost use Rattle.std.specs.Prelude.{◌≡◌, length, Some, slice_set, IfOk, IfSome};
 ghost use Rattle.aud_history.specs.Table.{table_of};
-ghost use Rattle.judge_clauses.specs.Values.{atom_of, AreTold, TellsAt};
+ghost use Rattle.judge_clauses.specs.Values.{atom_of, AreValues, HasValueAt};
 
 use crate::clause::{Atom, Literal};
 use crate::facts::KnownFacts;
@@ -27,7 +27,7 @@ impl<'a, A: Allocator + Copy> KnownFacts<'a, A> {
         clause: &[Literal],
         question: Question,
     ) -> Result<Vec<Option<bool>, A>, OutOfMemory>
-        ensures told { IfOk result (λ values. AreTold self.now clause.now (atom_of question) values.items) }
+        ensures valued { IfOk result (λ values. AreValues self.now clause.now (atom_of question) values.items) }
         ensures count { IfOk result (λ values. length values.items ≡ length (table_of self.now.history)) }
     {
         let mut values = Vec::new(alloc);
@@ -38,23 +38,23 @@ impl<'a, A: Allocator + Copy> KnownFacts<'a, A> {
     }
 
     /// At which place the literal gives which answer.
-    fn told_at(&self, literal: Literal, question: Question) -> Option<(usize, bool)>
-        ensures { IfSome result (λ told. TellsAt self.now literal (atom_of question) told.0 told.1) }
+    fn value_at(&self, literal: Literal, question: Question) -> Option<(usize, bool)>
+        ensures { IfSome result (λ valued. HasValueAt self.now literal (atom_of question) valued.0 valued.1) }
     {
         let tx = question.subject(self.atom(literal.atom)?)?;
-        let value = self.told(literal, question.of(tx))?;
+        let value = self.value_by(literal, question.of(tx))?;
         let place = self.place(tx)?;
         Some((place, value))
     }
 
     /// Adds the answers that the clause gives.
-    fn add_told(&self, clause: &[Literal], question: Question, values: &mut [Option<bool>])
-        requires { AreTold self.now clause.now (atom_of question) values.old }
-        ensures told { AreTold self.now clause.now (atom_of question) values.new }
+    fn add_values(&self, clause: &[Literal], question: Question, values: &mut [Option<bool>])
+        requires { AreValues self.now clause.now (atom_of question) values.old }
+        ensures valued { AreValues self.now clause.now (atom_of question) values.new }
         ensures count { length values.new ≡ length values.old }
     {
         for literal in clause {
-            let Some((place, value)) = self.told_at(*literal, question) else {
+            let Some((place, value)) = self.value_at(*literal, question) else {
                 continue;
             };
             put(values, place, value);
@@ -68,11 +68,11 @@ impl<'a, A: Allocator + Copy> KnownFacts<'a, A> {
         clause: &[Literal],
         question: Question,
     ) -> Result<Vec<Option<bool>, A>, OutOfMemory>
-        ensures told { IfOk result (λ values. AreTold self.now clause.now (atom_of question) values.items) }
+        ensures valued { IfOk result (λ values. AreValues self.now clause.now (atom_of question) values.items) }
         ensures count { IfOk result (λ values. length values.items ≡ length (table_of self.now.history)) }
     {
         let mut values = self.sure_values(alloc, clause, question)?;
-        self.add_told(clause, question, &mut values);
+        self.add_values(clause, question, &mut values);
         Ok(values)
     }
 }

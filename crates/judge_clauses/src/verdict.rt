@@ -3,7 +3,7 @@
 ghost use Rattle.std.specs.Prelude.{◌≡◌, [], IfOk, IsTrue};
 ghost use Rattle.aud_history.specs.WellFormed.{IsWellFormed};
 ghost use Rattle.aud_witness.specs.Orders.{Refuted};
-ghost use Rattle.judge_clauses.specs.Clauses.{Holds, AreValid};
+ghost use Rattle.judge_clauses.specs.Clauses.{IsValid, AreValid};
 
 use crate::clause::{Reason, Refutation, Step};
 use crate::facts::KnownFacts;
@@ -24,7 +24,7 @@ fn is_right<L: Law, A: Allocator + Copy>(
     step: &Step<L, A>,
 ) -> Result<bool, OutOfMemory>
     requires { AreValid facts.now steps.now count }
-    ensures { IfOk result (λ yes. IsTrue yes → Holds facts.now step.now) }
+    ensures { IfOk result (λ yes. IsTrue yes → IsValid facts.now step.now) }
 {
     let clause = step.clause();
     match step.reason() {
@@ -50,7 +50,7 @@ fn reach_nothing<L: Law, A: Allocator + Copy>(
     trail: &mut Trail<A>,
     steps: &[Step<L, A>],
 ) -> Result<Judgement, OutOfMemory>
-    ensures { IfOk result (λ j. j ≡ Judgement.Refutes → Holds facts.now []) }
+    ensures { IfOk result (λ j. j ≡ Judgement.Refutes → IsValid facts.now []) }
 {
     for i in 0..steps.len() {
         let step = &steps[i];

@@ -4,6 +4,6 @@
 mod law;
 
 pub use judge_cells::CellLaw;
-pub use judge_queues::{Front, QueueLaw};
+pub use judge_queues::{FrontItem, QueueLaw};
 pub use judge_sums::SumLaw;
 pub use law::ObjectLaw;

@@ -13,7 +13,7 @@ use Rattle.aud_witness.specs.Orders.{stands_before, Shows}
 use Rattle.judge_clauses.specs.declared.clause.Atom.TheVariants.{Item}
 use Rattle.judge_clauses.specs.declared.clause.Literal.{Literal}
 use Rattle.judge_clauses.specs.declared.clause.Take.{Take}
-use Rattle.judge_clauses.specs.Clauses.{FactsOf, is_kept_in, is_addition_of, item_of, says, Unless, Holds}
+use Rattle.judge_clauses.specs.Clauses.{KnownFactsOf, is_kept_in, is_addition_of, item_of, says, Unless, IsValid}
 use Rattle.search_model.specs.Queues.{takes_of, taken_before}
 use Rattle.judge_clauses.proofs.Standing.{first-named, stands_before-turn, stands_before-apart}
 use Rattle.judge_clauses.proofs.Validity.{valid-unless}
@@ -45,7 +45,7 @@ addition-is (Some found) a i is =
 is-addition : (o : Option (ℕ × ℕ)) (a i : ℕ) → o ≡ Some (a, i) → is_addition_of o a i ≡ true
 is-addition o a i is = ap (λ found. is_addition_of found a i) is ∙ true_and (nat_eq a a) (nat_eq i i) (nat_eq-refl a) (nat_eq-refl i)
 
-module _ (f : FactsOf) (c : List Literal) where
+module _ (f : KnownFactsOf) (c : List Literal) where
   -- who adds what is taken is the taker, or is kept and stands before
   item-stands : (take : Take) (a i : ℕ) (p : List Decision) → Shows f.plan.objects f.history p → is_in f.history take.taker ≡ true → says f.history p (Item take a i) ≡ true →
       (a ≡ take.taker) ⊎ ((stands_before p a take.taker ≡ true) × (is_kept_in p a ≡ true))
@@ -54,7 +54,7 @@ module _ (f : FactsOf) (c : List Literal) where
 
   -- another one adds what is taken, and does not stand before or is not kept
   pub valid-apart : (take : Take) (a i : ℕ) → is_in f.history take.taker ≡ true → nat_eq a take.taker ≡ false → Unless f c (λ p. says f.history p (Item take a i) ≡ true) →
-      Unless f c (λ p. is_kept_in p a ≡ true → stands_before p a take.taker ≡ true → ⊥) → Holds f c
+      Unless f c (λ p. is_kept_in p a ≡ true → stands_before p a take.taker ≡ true → ⊥) → IsValid f c
   valid-apart take a i there other is never =
       valid-unless f c (λ p shown broken.
       elim (item-stands take a i p shown there (is p shown broken)) [
@@ -74,7 +74,7 @@ module _ (f : FactsOf) (c : List Literal) where
   -- the place of what another one added
   pub valid-place : (take : Take) (a i : ℕ) (place : Bounds) → is_in f.history take.taker ≡ true → Unless f c (λ p. says f.history p (Item take a i) ≡ true) →
       Unless f c (λ p. IsWithin place (total f.history (net_of f.history (Takes take.object)) p take.taker -ℤ total f.history (net_of f.history (Additions take.object)) p a)) →
-      (IsWithin place (pos i -ℤ pos take.number) → ⊥) → Holds f c
+      (IsWithin place (pos i -ℤ pos take.number) → ⊥) → IsValid f c
   valid-place take a i place there is between out =
       valid-unless f c (λ p shown broken.
       let at = addition-is (item_of f.history p take) a i (is p shown broken) in
@@ -83,7 +83,7 @@ module _ (f : FactsOf) (c : List Literal) where
 
   -- the place of the taker's own addition
   pub valid-own : (take : Take) (i : ℕ) (place : Bounds) → is_in f.history take.taker ≡ true → Unless f c (λ p. says f.history p (Item take take.taker i) ≡ true) →
-      Unless f c (λ p. IsWithin place (total f.history (net_of f.history (Shortening take.object)) p take.taker)) → (IsWithin place (pos i -ℤ pos take.number) → ⊥) → Holds f c
+      Unless f c (λ p. IsWithin place (total f.history (net_of f.history (Shortening take.object)) p take.taker)) → (IsWithin place (pos i -ℤ pos take.number) → ⊥) → IsValid f c
   valid-own take i place there is between out =
       valid-unless f c (λ p shown broken.
       let at = addition-is (item_of f.history p take) take.taker i (is p shown broken) in
@@ -91,7 +91,7 @@ module _ (f : FactsOf) (c : List Literal) where
 
   module _ (fine : IsWellFormed f.history) (within : IsWithinLimits f.plan f.history) where
     -- one of the additions that are listed is what is taken
-    pub valid-items : (take : Take) (v : ℤ) (e : ℕ) → IsQueue f take.object → IsTaken f take v e → NoItem f c take take.taker v e (row_of f.history take.taker).block.executions → AreListed f c take v → Holds f c
+    pub valid-items : (take : Take) (v : ℤ) (e : ℕ) → IsQueue f take.object → IsTaken f take v e → NoItem f c take take.taker v e (row_of f.history take.taker).block.executions → AreListed f c take v → IsValid f c
     valid-items take v e is_queue taken own listed =
         valid-unless f c (λ p shown broken.
         let (d, (declared, opens)) = is_queue in
@@ -132,7 +132,7 @@ module _ (f : FactsOf) (c : List Literal) where
 
     -- an item that stood in front of the one that is taken, or of the taker's own, is stuck
     pub valid-gone : (take : Take) (a i b : ℕ) (v : ℤ) → IsQueue f take.object → is_in f.history take.taker ≡ true → take.number ≤ takes_of f.history take.object take.taker → Unless f c (λ p. says f.history p (Item take a i) ≡ true) →
-        IsStuck f c take.object v take.taker a b → Holds f c
+        IsStuck f c take.object v take.taker a b → IsValid f c
     valid-gone take a i b v is_queue there many is stuck =
         valid-unless f c (λ p shown broken.
         let (d, (declared, opens)) = is_queue in
@@ -154,7 +154,7 @@ module _ (f : FactsOf) (c : List Literal) where
         (gone-before f.plan f.history fine within take.object d declared opens p shown b take.taker n take.number v there many stuck.not_own up_to kept at low))
 
     -- an item that stood in the queue that was found empty is stuck
-    pub valid-left : (t x takes adds b : ℕ) (v : ℤ) → IsQueue f x → AsksIn f t x takes adds Empty → IsStuck f c x v t t b → Holds f c
+    pub valid-left : (t x takes adds b : ℕ) (v : ℤ) → IsQueue f x → AsksIn f t x takes adds Empty → IsStuck f c x v t t b → IsValid f c
     valid-left t x takes adds b v is_queue asks stuck =
         valid-unless f c (λ p shown broken.
         let (d, (declared, opens)) = is_queue in

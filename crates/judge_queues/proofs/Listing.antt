@@ -12,7 +12,7 @@ use Rattle.aud_history.specs.Table.{RowOf}
 use Rattle.judge_clauses.specs.declared.clause.Atom.TheVariants.{Item}
 use Rattle.judge_clauses.specs.declared.clause.Literal.{Literal}
 use Rattle.judge_clauses.specs.declared.clause.Take.{Take}
-use Rattle.judge_clauses.specs.Clauses.{FactsOf, says, Unless}
+use Rattle.judge_clauses.specs.Clauses.{KnownFactsOf, says, Unless}
 use Rattle.search_model.specs.Queues.{is_addition, adds}
 use Rattle.judge_clauses.specs.Touching.{mentions}
 use Rattle.search_model.specs.Blocks.{item, added, brings, is_addition_of, gives, takes_value}
@@ -37,7 +37,7 @@ item-at x (e ∷ es) (suc k) d v low is at =
     item-at x es k d v (omega (arith, low)) is
     (sym (get-right (cond (nat_eq e.object x) (item e.op) []) (added x es) (cond (nat_eq e.object x && is_addition e.op) 1 0 + adds x (take k es)) (adds x (take k es)) place) ∙ at)
 
-module _ (f : FactsOf) (c : List Literal) (taken : Take) (a : ℕ) (v : ℤ) (es : List Execution) where
+module _ (f : KnownFactsOf) (c : List Literal) (taken : Take) (a : ℕ) (v : ℤ) (es : List Execution) where
   -- one addition more
   pub no-item-more : (n k : ℕ) (d : Execution) → k < length es → n ≡ adds taken.object (take k es) → (nat_eq (get_or es k d).object taken.object && is_addition (get_or es k d).op) ≡ true →
       (is_addition_of taken.object v (get_or es k d) ≡ true → Unless f c (λ p. says f.history p (Item taken a n) ≡ false)) → NoItem f c taken a v n es → NoItem f c taken a v (n + 1) es
@@ -67,7 +67,7 @@ adds-few x (e ∷ es) = let rest = adds-few x es in go (nat_eq e.object x && is_
     go false rest = omega (arith, rest)
 
 -- a row's additions
-pub listed-from : (f : FactsOf) (c : List Literal) (taken : Take) (v : ℤ) (row : RowOf) (limit : ℕ) → limit ≡ length row.block.executions → NoItem f c taken row.tx v limit row.block.executions → IsListed f c taken v row
+pub listed-from : (f : KnownFactsOf) (c : List Literal) (taken : Take) (v : ℤ) (row : RowOf) (limit : ℕ) → limit ≡ length row.block.executions → NoItem f c taken row.tx v limit row.block.executions → IsListed f c taken v row
 listed-from f c taken v row limit all none i at p shown broken kept front =
     let size = added-length taken.object row.block.executions in
     let few = adds-few taken.object row.block.executions in
@@ -89,8 +89,8 @@ takes_value-untouched x v (e ∷ es) none =
     ap (λ b. (b && gives v e.op e.answer) || takes_value x v es) other ∙ takes_value-untouched x v es rest
 
 -- a row that does not touch the queue is listed, and no taker
-pub listed-untouched : (f : FactsOf) (c : List Literal) (taken : Take) (v : ℤ) (row : RowOf) → mentions taken.object row.block.executions ≡ false → IsListed f c taken v row
+pub listed-untouched : (f : KnownFactsOf) (c : List Literal) (taken : Take) (v : ℤ) (row : RowOf) → mentions taken.object row.block.executions ≡ false → IsListed f c taken v row
 listed-untouched f c taken v row none i at = absurd (let nothing : None ≡ Some v = sym (ap (λ l. slice_get l i) (added-untouched taken.object row.block.executions none)) ∙ at in cc)
 
-pub no_taker-untouched : (f : FactsOf) (c : List Literal) (x : ℕ) (v : ℤ) (t : ℕ) (row : RowOf) → mentions x row.block.executions ≡ false → IsNoTaker f c x v t row
+pub no_taker-untouched : (f : KnownFactsOf) (c : List Literal) (x : ℕ) (v : ℤ) (t : ℕ) (row : RowOf) → mentions x row.block.executions ≡ false → IsNoTaker f c x v t row
 no_taker-untouched f c x v t row none takes = absurd (let never = takes_value-untouched x v row.block.executions none in cc)

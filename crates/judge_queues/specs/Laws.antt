@@ -11,49 +11,49 @@ use Rattle.aud_witness.specs.Orders.{stands_before}
 use Rattle.judge_clauses.specs.declared.clause.Atom.TheVariants.{Item}
 use Rattle.judge_clauses.specs.declared.clause.Literal.{Literal}
 use Rattle.judge_clauses.specs.declared.clause.Take.{Take}
-use Rattle.judge_clauses.specs.Clauses.{FactsOf, is_kept_in, says, Always, Unless}
+use Rattle.judge_clauses.specs.Clauses.{KnownFactsOf, is_kept_in, says, Always, Unless}
 use Rattle.search_model.specs.Blocks.{added, added_of, takes_value, Asks}
 
 -- the object is a queue, which opens empty
-abbrev pub IsQueue : FactsOf → ℕ → Type 0
+abbrev pub IsQueue : KnownFactsOf → ℕ → Type 0
 IsQueue f x = (d : Declared) × ((slice_get f.plan.objects x ≡ Some d) × (opening_of d ≡ queue []))
 
 -- T is in the history, and after so many takes and so many additions it asks the queue for an item, and gets the answer
-abbrev pub AsksIn : FactsOf → ℕ → ℕ → ℕ → ℕ → Answer → Type 0
+abbrev pub AsksIn : KnownFactsOf → ℕ → ℕ → ℕ → ℕ → Answer → Type 0
 AsksIn f t x takes adds answer = (is_in f.history t ≡ true) × Asks x (row_of f.history t).block.executions takes adds answer
 
 -- the take is there, of this value, after so many own additions
-abbrev pub IsTaken : FactsOf → Take → ℤ → ℕ → Type 0
+abbrev pub IsTaken : KnownFactsOf → Take → ℤ → ℕ → Type 0
 IsTaken f take v adds = AsksIn f take.taker take.object take.number adds (Int v)
 
 -- none of the first additions of the value among the executions, so many, is what is taken
-abbrev pub NoItem : FactsOf → List Literal → Take → ℕ → ℤ → ℕ → List Execution → Type 0
+abbrev pub NoItem : KnownFactsOf → List Literal → Take → ℕ → ℤ → ℕ → List Execution → Type 0
 NoItem f c take a v limit es = (i : ℕ) → i < limit → slice_get (added take.object es) i ≡ Some v → Unless f c (λ p. says f.history p (Item take a i) ≡ false)
 
--- where the row is kept and stands before the taker, none of its additions of the value is what is taken
-abbrev pub IsListed : FactsOf → List Literal → Take → ℤ → RowOf → Type 0
+-- where the row commits and stands before the taker, none of its additions of the value is what is taken
+abbrev pub IsListed : KnownFactsOf → List Literal → Take → ℤ → RowOf → Type 0
 IsListed f c take v row =
     (i : ℕ) → slice_get (added take.object row.block.executions) i ≡ Some v →
     Unless f c (λ p. is_kept_in p row.tx ≡ true → stands_before p row.tx take.taker ≡ true → says f.history p (Item take row.tx i) ≡ false)
 
--- of each row that is kept and stands before the taker, none of its additions of the value is what is taken
-abbrev pub AreListed : FactsOf → List Literal → Take → ℤ → Type 0
+-- of each row that commits and stands before the taker, none of its additions of the value is what is taken
+abbrev pub AreListed : KnownFactsOf → List Literal → Take → ℤ → Type 0
 AreListed f c take v = (k : ℕ) (row : RowOf) → slice_get (table_of f.history) k ≡ Some row → IsListed f c take v row
 
--- a transaction is not kept, or does not stand before the other one
-abbrev pub NeverAdds : FactsOf → ℕ → ℕ → Type 0
+-- a transaction does not commit, or does not stand before the other one
+abbrev pub NeverAdds : KnownFactsOf → ℕ → ℕ → Type 0
 NeverAdds f a t = Always f (λ p. is_kept_in p a ≡ true → stands_before p a t ≡ true → ⊥)
 
--- the row does not take the value and stand before T and be kept
-abbrev pub IsNoTaker : FactsOf → List Literal → ℕ → ℤ → ℕ → RowOf → Type 0
+-- the row does not take the value and stand before T and commit
+abbrev pub IsNoTaker : KnownFactsOf → List Literal → ℕ → ℤ → ℕ → RowOf → Type 0
 IsNoTaker f c x v t row = takes_value x v row.block.executions ≡ true → Unless f c (λ p. is_kept_in p row.tx ≡ true → stands_before p row.tx t ≡ true → ⊥)
 
--- no row takes the value and stands before T and is kept
-abbrev pub AreNoTakers : FactsOf → List Literal → ℕ → ℤ → ℕ → Type 0
+-- no row takes the value and stands before T and commits
+abbrev pub AreNoTakers : KnownFactsOf → List Literal → ℕ → ℤ → ℕ → Type 0
 AreNoTakers f c x v t = (k : ℕ) (row : RowOf) → slice_get (table_of f.history) k ≡ Some row → IsNoTaker f c x v t row
 
 -- an item of B of the value stood in front of those of A, and neither T nor any before T takes it
-pub record IsStuck (f : FactsOf) (c : List Literal) (x : ℕ) (v : ℤ) (t a b : ℕ) : Type 0 where
+pub record IsStuck (f : KnownFactsOf) (c : List Literal) (x : ℕ) (v : ℤ) (t a b : ℕ) : Type 0 where
   pub adds : (i : ℕ) × (slice_get (added_of f.history x b) i ≡ Some v)
   pub not_own : takes_value x v (row_of f.history t).block.executions ≡ false
   pub front : Unless f c (λ p. stands_before p b a ≡ true)

@@ -2,7 +2,7 @@
 
 ghost use Rattle.std.specs.Prelude.{◌≡◌, ℕ, true, false, Some, slice_get, IsTrue};
 ghost use Rattle.aud_history.specs.Table.{RowOf, row_of, table_of};
-ghost use Rattle.judge_clauses.specs.Clauses.{Holds};
+ghost use Rattle.judge_clauses.specs.Clauses.{IsValid};
 ghost use Rattle.search_model.specs.Blocks.{added_of, takes_value};
 ghost use Rattle.judge_queues.specs.Laws.{IsNoTaker, AreNoTakers, IsStuck};
 
@@ -16,7 +16,7 @@ use std::alloc::Allocator;
 
 /// An item that stood in front: who added it, and its value.
 #[derive(Clone, Copy)]
-pub struct Front {
+pub struct FrontItem {
     pub adder: u32,
     pub value: i64,
 }
@@ -126,14 +126,14 @@ fn is_stuck<A: Allocator + Copy>(
 }
 
 /// Whether an item of another transaction stood in front of what is taken where the clause does not hold, and nobody took it.
-pub(crate) fn is_item_behind<A: Allocator + Copy>(
+pub(crate) fn has_item_in_front<A: Allocator + Copy>(
     facts: &KnownFacts<A>,
     clause: &[Literal],
     take: Take,
     item: (u32, u32),
-    front: Front,
+    front: FrontItem,
 ) -> bool
-    ensures { IsTrue result → Holds facts.now clause.now }
+    ensures { IsTrue result → IsValid facts.now clause.now }
 {
     let _history = facts.history();
     let (adder, addition) = item;
@@ -157,9 +157,9 @@ pub(crate) fn is_left<A: Allocator + Copy>(
     taker: u32,
     queue: u16,
     place: usize,
-    front: Front,
+    front: FrontItem,
 ) -> bool
-    ensures { IsTrue result → Holds facts.now clause.now }
+    ensures { IsTrue result → IsValid facts.now clause.now }
 {
     let _history = facts.history();
     if !is_queue(facts, queue) {

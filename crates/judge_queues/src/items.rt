@@ -2,7 +2,7 @@
 
 ghost use Rattle.std.specs.Prelude.{◌≡◌, true, false, Some, slice_get, IsTrue};
 ghost use Rattle.aud_history.specs.Table.{RowOf, table_of};
-ghost use Rattle.judge_clauses.specs.Clauses.{says, Unless, Holds};
+ghost use Rattle.judge_clauses.specs.Clauses.{says, Unless, IsValid};
 ghost use Rattle.judge_clauses.specs.declared.clause.Atom.TheVariants.{Item};
 ghost use Rattle.search_model.specs.Blocks.{is_addition_of};
 ghost use Rattle.judge_queues.specs.Laws.{NoItem, IsListed, AreListed};
@@ -16,7 +16,7 @@ use std::alloc::Allocator;
 
 /// Whose addition may be what is taken, and with which value.
 #[derive(Clone, Copy)]
-struct Source {
+struct Candidate {
     take: Take,
     adder: u32,
     value: i64,
@@ -26,7 +26,7 @@ struct Source {
 fn is_no_item<A: Allocator + Copy>(
     facts: &KnownFacts<A>,
     clause: &[Literal],
-    source: Source,
+    source: Candidate,
     addition: u32,
     execution: &Execution,
 ) -> bool
@@ -42,7 +42,7 @@ fn is_no_item<A: Allocator + Copy>(
 fn is_none_item<A: Allocator + Copy>(
     facts: &KnownFacts<A>,
     clause: &[Literal],
-    source: Source,
+    source: Candidate,
     limit: usize,
     executions: &[Execution],
 ) -> bool
@@ -66,7 +66,7 @@ fn is_none_item<A: Allocator + Copy>(
     true
 }
 
-/// Whether none of the row's additions of the value is what is taken where the clause does not hold, if the row is kept and stands before
+/// Whether none of the row's additions of the value is what is taken where the clause does not hold, if the row commits and stands before
 /// the taker.
 fn is_listed<A: Allocator + Copy>(
     facts: &KnownFacts<A>,
@@ -82,11 +82,11 @@ fn is_listed<A: Allocator + Copy>(
         return true;
     }
     let executions = row.block().executions();
-    let source = Source { take, adder, value };
+    let source = Candidate { take, adder, value };
     is_none_item(facts, clause, source, executions.len(), executions)
 }
 
-/// Whether none of the additions of the value by the row of the place is what is taken where the clause does not hold, if the row is kept and
+/// Whether none of the additions of the value by the row of the place is what is taken where the clause does not hold, if the row commits and
 /// stands before the taker. It looks at no executions of a row that does not touch the queue.
 fn is_listed_at<A: Allocator + Copy>(
     facts: &KnownFacts<A>,
@@ -106,7 +106,7 @@ fn is_listed_at<A: Allocator + Copy>(
     }
 }
 
-/// Whether no addition of the value by a row that is kept and stands before the taker is what is taken where the clause does not hold.
+/// Whether no addition of the value by a row that commits and stands before the taker is what is taken where the clause does not hold.
 fn are_listed<A: Allocator + Copy>(
     facts: &KnownFacts<A>,
     clause: &[Literal],
@@ -129,7 +129,7 @@ pub(crate) fn lists_items<A: Allocator + Copy>(
     clause: &[Literal],
     take: Take,
 ) -> bool
-    ensures { IsTrue result → Holds facts.now clause.now }
+    ensures { IsTrue result → IsValid facts.now clause.now }
 {
     let _history = facts.history();
     if !is_queue(facts, take.object) {
@@ -141,7 +141,7 @@ pub(crate) fn lists_items<A: Allocator + Copy>(
     let Some(row) = facts.row(take.taker) else {
         return false;
     };
-    let own = Source {
+    let own = Candidate {
         take,
         adder: take.taker,
         value: item.value,

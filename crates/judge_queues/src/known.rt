@@ -70,7 +70,7 @@ pub(crate) fn has_take<A: Allocator + Copy>(facts: &KnownFacts<A>, take: Take) -
     }
 }
 
-/// Whether the first transaction may be kept and stand before the second one, by real time and sure fates.
+/// Whether the first transaction may commit and stand before the second one, by real time and sure fates.
 pub(crate) fn may_come<A: Allocator + Copy>(facts: &KnownFacts<A>, first: u32, second: u32) -> bool
     ensures { result ≡ false → NeverAdds facts.now first second }
 {

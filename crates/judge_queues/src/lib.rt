@@ -7,5 +7,5 @@ mod known;
 mod law;
 mod places;
 
-pub use gone::Front;
+pub use gone::FrontItem;
 pub use law::QueueLaw;

@@ -1,7 +1,7 @@
 //! Clauses on the places of items in a queue.
 
 ghost use Rattle.std.specs.Prelude.{◌≡◌, ◌-ℤ◌, pos, true, false, nat_eq, IfOk, IfSome, IsTrue};
-ghost use Rattle.judge_clauses.specs.Clauses.{says, is_kept_in, Unless, Holds};
+ghost use Rattle.judge_clauses.specs.Clauses.{says, is_kept_in, Unless, IsValid};
 ghost use Rattle.aud_witness.specs.Orders.{stands_before};
 ghost use Rattle.judge_clauses.specs.declared.clause.Atom.TheVariants.{Item};
 ghost use Rattle.search_model.specs.declared.quantity.Quantity.TheVariants.{Takes, Additions, Shortening};
@@ -17,7 +17,7 @@ use judge_sums::{Bounds, sum_bounds, sum_bounds_without};
 use search_model::Quantity;
 use std::alloc::Allocator;
 
-/// Whether the adder is not kept, or does not stand before the taker, where the clause does not hold.
+/// Whether the adder does not commit, or does not stand before the taker, where the clause does not hold.
 pub(crate) fn never_comes<A: Allocator + Copy>(
     facts: &KnownFacts<A>,
     clause: &[Literal],
@@ -32,7 +32,7 @@ pub(crate) fn never_comes<A: Allocator + Copy>(
     facts.is_not_so(clause, Atom::Before(adder, taker))
 }
 
-/// Whether another transaction adds what is taken, though it does not stand before the taker or is not kept where the clause does not hold.
+/// Whether another transaction adds what is taken, though it does not stand before the taker or does not commit where the clause does not hold.
 pub(crate) fn is_apart<A: Allocator + Copy>(
     facts: &KnownFacts<A>,
     clause: &[Literal],
@@ -40,7 +40,7 @@ pub(crate) fn is_apart<A: Allocator + Copy>(
     adder: u32,
     addition: u32,
 ) -> bool
-    ensures { IsTrue result → Holds facts.now clause.now }
+    ensures { IsTrue result → IsValid facts.now clause.now }
 {
     if adder == take.taker || !facts.is_there(take.taker) {
         return false;
@@ -92,7 +92,7 @@ fn is_other_displaced<A: Allocator + Copy>(
     adder: u32,
     addition: u32,
 ) -> Result<bool, OutOfMemory>
-    ensures { IfOk result (λ yes. IsTrue yes → Holds facts.now clause.now) }
+    ensures { IfOk result (λ yes. IsTrue yes → IsValid facts.now clause.now) }
 {
     let item = Atom::Item(take, adder, addition);
     if adder == take.taker || !facts.is_there(take.taker) || !facts.is_so(clause, item) {
@@ -112,7 +112,7 @@ fn is_own_displaced<A: Allocator + Copy>(
     take: Take,
     addition: u32,
 ) -> Result<bool, OutOfMemory>
-    ensures { IfOk result (λ yes. IsTrue yes → Holds facts.now clause.now) }
+    ensures { IfOk result (λ yes. IsTrue yes → IsValid facts.now clause.now) }
 {
     let item = Atom::Item(take, take.taker, addition);
     if !facts.is_there(take.taker) || !facts.is_so(clause, item) {
@@ -134,7 +134,7 @@ pub(crate) fn is_displaced<A: Allocator + Copy>(
     adder: u32,
     addition: u32,
 ) -> Result<bool, OutOfMemory>
-    ensures { IfOk result (λ yes. IsTrue yes → Holds facts.now clause.now) }
+    ensures { IfOk result (λ yes. IsTrue yes → IsValid facts.now clause.now) }
 {
     if adder == take.taker {
         is_own_displaced(alloc, facts, clause, take, addition)
@@ -178,7 +178,7 @@ pub(crate) fn is_filled<A: Allocator + Copy>(
     queue: u16,
     place: usize,
 ) -> Result<bool, OutOfMemory>
-    ensures { IfOk result (λ yes. IsTrue yes → Holds facts.now clause.now) }
+    ensures { IfOk result (λ yes. IsTrue yes → IsValid facts.now clause.now) }
 {
     let Some(number) = shortening(facts, taker, queue, place) else {
         return Ok(false);

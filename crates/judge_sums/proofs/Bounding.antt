@@ -11,8 +11,8 @@ use Rattle.aud_witness.proofs.Bridge.{row-at}
 use Rattle.judge_clauses.specs.declared.clause.Atom.{Atom}
 use Rattle.judge_clauses.specs.declared.clause.Literal.{Literal}
 use Rattle.judge_clauses.specs.declared.question.Question.TheVariants.{DoesCommit, StandsBefore}
-use Rattle.judge_clauses.specs.Clauses.{is_kept_in, says, FactsOf, Unless, Holds}
-use Rattle.judge_clauses.specs.Values.{atom_of, AreTold}
+use Rattle.judge_clauses.specs.Clauses.{is_kept_in, says, KnownFactsOf, Unless, IsValid}
+use Rattle.judge_clauses.specs.Values.{atom_of, AreValues}
 use Rattle.judge_clauses.proofs.Validity.{valid-unless}
 use Rattle.search_model.specs.declared.quantity.Quantity.{Quantity}
 use Rattle.search_model.specs.Quantities.{net, net_of}
@@ -21,11 +21,11 @@ use Rattle.judge_sums.specs.Between.{fits}
 use Rattle.judge_sums.specs.Laws.{ComesTo}
 use Rattle.judge_sums.proofs.Adding.{sum_of-more}
 
-told-fits : (o : Option Bool) (b : Bool) → ((c : Bool) → o ≡ Some c → b ≡ c) → fits o b ≡ true
-told-fits None b is = refl
-told-fits (Some true) b is = is true refl
-told-fits (Some false) true is = sym (is false refl)
-told-fits (Some false) false is = refl
+valued-fits : (o : Option Bool) (b : Bool) → ((c : Bool) → o ≡ Some c → b ≡ c) → fits o b ≡ true
+valued-fits None b is = refl
+valued-fits (Some true) b is = is true refl
+valued-fits (Some false) true is = sym (is false refl)
+valued-fits (Some false) false is = refl
 
 -- the row at a place is that of the transaction at the place
 pub place-row : (h : History) (k : ℕ) (row : RowOf) → k < length (table_of h) → slice_get (table_of h) k ≡ Some row → row ≡ row_of h (get_or (transactions h) k 0)
@@ -43,14 +43,14 @@ row-there h k low =
     let size : length (table_of h) ≡ length (transactions h) = length-map (transactions h) (row_of h) in
     row-at h (transactions h) k 0 (omega (arith, low, size))
 
-module _ (f : FactsOf) (c : List Literal) where
+module _ (f : KnownFactsOf) (c : List Literal) where
   -- what is known of a row at its place
-  known-at : (about : ℕ → Atom) (values : List (Option Bool)) (k : ℕ) (row : RowOf) (o : Option Bool) → AreTold f c about values → slice_get (table_of f.history) k ≡ Some row →
+  known-at : (about : ℕ → Atom) (values : List (Option Bool)) (k : ℕ) (row : RowOf) (o : Option Bool) → AreValues f c about values → slice_get (table_of f.history) k ≡ Some row →
       IfSome o (λ b. slice_get values k ≡ Some (Some b)) → (b : Bool) → o ≡ Some b → Unless f c (λ p. says f.history p (about row.tx) ≡ b)
-  known-at about values k row None told at there b is = absurd (cc)
-  known-at about values k row (Some d) told at there b is =
+  known-at about values k row None valued at there b is = absurd (cc)
+  known-at about values k row (Some d) valued at there b is =
       let same : d ≡ b = same_Some d b is in
-      told k row b at (there ∙ ap (λ e. Some (Some e)) same)
+      valued k row b at (there ∙ ap (λ e. Some (Some e)) same)
 
   module _ {E : Type 0} (says : E → ℤ → Type 0) (quantity : Quantity) (r : ℕ) where
     -- what is said of what the first rows come to
@@ -58,7 +58,7 @@ module _ (f : FactsOf) (c : List Literal) where
     Bounded sum k = Unless f c (λ p. says sum (sum_of (share (net_of f.history quantity) p r) (take k (transactions f.history))))
 
     pub bounded-more : (k : ℕ) (sum own next : E) (weight : ℤ) (row : RowOf) (kept before : Option Bool) (fates places : List (Option Bool)) → k < length (table_of f.history) → slice_get (table_of f.history) k ≡ Some row →
-        weight ≡ net quantity row.block.executions → AreTold f c (atom_of DoesCommit) fates → AreTold f c (atom_of (StandsBefore r)) places → IfSome kept (λ b. slice_get fates k ≡ Some (Some b)) → IfSome before (λ b. slice_get places k ≡ Some (Some b)) →
+        weight ≡ net quantity row.block.executions → AreValues f c (atom_of DoesCommit) fates → AreValues f c (atom_of (StandsBefore r)) places → IfSome kept (λ b. slice_get fates k ≡ Some (Some b)) → IfSome before (λ b. slice_get places k ≡ Some (Some b)) →
         ((x y : Bool) → fits kept x ≡ true → fits before y ≡ true → says own (cond (x && y) weight (pos 0))) →
         ((m n : ℤ) → says sum m → says own n → says next (m +ℤ n)) → Bounded sum k → Bounded next (k + 1)
     bounded-more k sum own next weight row kept before fates places low at is told_fates told_places fate place shares adds so_far p shown broken =
@@ -68,8 +68,8 @@ module _ (f : FactsOf) (c : List Literal) where
         let t : ℕ = get_or ts k 0 in
         let own_row : row ≡ row_of f.history t = place-row f.history k row low at in
         let g : ℕ → ℤ = share (net_of f.history quantity) p r in
-        let is_kept_t : fits kept (is_kept_in p row.tx) ≡ true = told-fits kept (is_kept_in p row.tx) (λ b known. known-at (atom_of DoesCommit) fates k row kept told_fates at fate b known p shown broken) in
-        let is_before_t : fits before (stands_before p row.tx r) ≡ true = told-fits before (stands_before p row.tx r) (λ b known. known-at (atom_of (StandsBefore r)) places k row before told_places at place b known p shown broken) in
+        let is_kept_t : fits kept (is_kept_in p row.tx) ≡ true = valued-fits kept (is_kept_in p row.tx) (λ b known. known-at (atom_of DoesCommit) fates k row kept told_fates at fate b known p shown broken) in
+        let is_before_t : fits before (stands_before p row.tx r) ≡ true = valued-fits before (stands_before p row.tx r) (λ b known. known-at (atom_of (StandsBefore r)) places k row before told_places at place b known p shown broken) in
         let one : says own (cond (is_kept_in p row.tx && stands_before p row.tx r) weight (pos 0)) = shares (is_kept_in p row.tx) (stands_before p row.tx r) is_kept_t is_before_t in
         let by_weight : says own (cond (is_kept_in p row.tx && stands_before p row.tx r) (net quantity row.block.executions) (pos 0)) =
         subst (λ n. says own (cond (is_kept_in p row.tx && stands_before p row.tx r) n (pos 0))) is one in
@@ -86,5 +86,5 @@ module _ (f : FactsOf) (c : List Literal) where
         subst (λ l. says bounds (sum_of (share (net_of f.history quantity) p r) l)) (take_all k ts enough) (so_far p shown broken)
 
     -- a sum that does not lie between its bounds
-    pub valid-excluded : (bounds : E) (n : ℤ) → Unless f c (λ p. says bounds (total f.history (net_of f.history quantity) p r)) → ComesTo f quantity r n → (says bounds n → ⊥) → Holds f c
+    pub valid-excluded : (bounds : E) (n : ℤ) → Unless f c (λ p. says bounds (total f.history (net_of f.history quantity) p r)) → ComesTo f quantity r n → (says bounds n → ⊥) → IsValid f c
     valid-excluded bounds n between comes out = valid-unless f c (λ p shown broken. out (subst (says bounds) (comes p shown) (between p shown broken)))

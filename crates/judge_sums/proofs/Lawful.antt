@@ -7,7 +7,7 @@ use Rattle.aud_history.specs.FirstFault.{IsWithinLimits}
 use Rattle.aud_history.specs.Histories.{is_in}
 use Rattle.aud_history.specs.Table.{row_of}
 use Rattle.judge_clauses.specs.declared.clause.Literal.{Literal}
-use Rattle.judge_clauses.specs.Clauses.{FactsOf, Holds}
+use Rattle.judge_clauses.specs.Clauses.{KnownFactsOf, IsValid}
 use Rattle.judge_clauses.proofs.Validity.{valid-unless}
 use Rattle.search_model.specs.Quantities.{Contradict}
 use Rattle.search_model.specs.declared.quantity.Quantity.TheVariants.{Count, Element}
@@ -17,7 +17,7 @@ use Rattle.judge_sums.proofs.Counting.{IsCount, count-after, count-seen, count-r
 use Rattle.judge_sums.proofs.Members.{IsMember, element-after, element-seen, element-room}
 use Rattle.judge_sums.proofs.Finding.{counted, consistent}
 
-module _ (f : FactsOf) (fine : IsWellFormed f.history) (within : IsWithinLimits f.plan f.history) where
+module _ (f : KnownFactsOf) (fine : IsWellFormed f.history) (within : IsWithinLimits f.plan f.history) where
   pub element-comes : (r x : ℕ) (v n : ℤ) → IsSet f x → IsAskedBy f r (Element x v) n → ComesTo f (Element x v) r n
   element-comes r x v n is_set asks p shown =
       let (d, (declared, opens)) = is_set in
@@ -31,7 +31,7 @@ module _ (f : FactsOf) (fine : IsWellFormed f.history) (within : IsWithinLimits 
       omega (arith, ints, sum)
 
   -- a block that contradicts itself
-  pub valid-clash : (c : List Literal) (t x : ℕ) (v0 : ℤ) → CountsFrom f x v0 → HasRoomForAll f x v0 → is_in f.history t ≡ true → Contradict (Count x) (row_of f.history t).block.executions → Holds f c
+  pub valid-clash : (c : List Literal) (t x : ℕ) (v0 : ℤ) → CountsFrom f x v0 → HasRoomForAll f x v0 → is_in f.history t ≡ true → Contradict (Count x) (row_of f.history t).block.executions → IsValid f c
   valid-clash c t x v0 counts room there contradict =
       valid-unless f c (λ p shown broken.
       let (d, (declared, opens)) = counts in

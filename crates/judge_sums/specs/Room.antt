@@ -2,7 +2,7 @@
 use Rattle.std.specs.Prelude.{◌≡◌, ℕ, ℤ, pos, ◌+ℤ◌, ◌-ℤ◌, ◌≤ℤ◌}
 use Rattle.aud_history.specs.Table.{transactions}
 use Rattle.aud_object.specs.Objects.{greatest, least}
-use Rattle.judge_clauses.specs.Clauses.{FactsOf}
+use Rattle.judge_clauses.specs.Clauses.{KnownFactsOf}
 use Rattle.judge_sums.specs.declared.bounds.Bounds.{Bounds}
 use Rattle.search_model.specs.declared.quantity.Quantity.TheVariants.{Count}
 use Rattle.search_model.specs.Quantities.{reach_of}
@@ -14,7 +14,7 @@ pub record HasRoom (n : ℤ) (s : ℕ) : Type 0 where
   pub high : (n +ℤ pos s) ≤ℤ greatest
 
 -- as far as all transactions together may take the counter
-abbrev pub HasRoomForAll : FactsOf → ℕ → ℤ → Type 0
+abbrev pub HasRoomForAll : KnownFactsOf → ℕ → ℤ → Type 0
 HasRoomForAll f x n = (s : ℕ) → pos s ≡ sum_of (λ t. pos (reach_of f.history (Count x) t)) (transactions f.history) → HasRoom n s
 
 -- the one has so much more to either side than the other

@@ -3,7 +3,7 @@
 ghost use Rattle.std.specs.Prelude.{◌≡◌, ℤ, Bool, true, false, ◌&&◌, ◌+ℤ◌, ◌-ℤ◌, if◌then◌else◌, Some, pos, slice_get, IfOk, IfSome, IsTrue};
 ghost use Rattle.aud_witness.specs.Orders.{stands_before};
 ghost use Rattle.judge_clauses.specs.Clauses.{Unless};
-ghost use Rattle.judge_clauses.specs.Values.{atom_of, AreTold};
+ghost use Rattle.judge_clauses.specs.Values.{atom_of, AreValues};
 ghost use Rattle.judge_clauses.specs.declared.question.Question.TheVariants.{DoesCommit, StandsBefore};
 ghost use Rattle.aud_history.specs.Table.{RowOf, table_of};
 ghost use Rattle.search_model.specs.Quantities.{net, net_of};
@@ -118,8 +118,8 @@ fn sum_by<E: Estimate, A: Allocator + Copy>(
     kept: &[Option<bool>],
     before: &[Option<bool>],
 ) -> Option<E>
-    requires fates { AreTold facts.now clause.now (atom_of DoesCommit) kept.now }
-    requires places { AreTold facts.now clause.now (atom_of (StandsBefore reader)) before.now }
+    requires fates { AreValues facts.now clause.now (atom_of DoesCommit) kept.now }
+    requires places { AreValues facts.now clause.now (atom_of (StandsBefore reader)) before.now }
     ensures { IfSome result (λ sum. Unless facts.now clause.now (λ p. E.says sum (total facts.now.history (net_of facts.now.history quantity) p reader))) }
 {
     let _clause = clause;
@@ -141,8 +141,8 @@ fn put_out<A: Allocator + Copy>(
     before: &mut [Option<bool>],
 )
     requires known { Unless facts.now clause.now (λ p. stands_before p out reader ≡ false) }
-    requires places { AreTold facts.now clause.now (atom_of (StandsBefore reader)) before.old }
-    ensures { AreTold facts.now clause.now (atom_of (StandsBefore reader)) before.new }
+    requires places { AreValues facts.now clause.now (atom_of (StandsBefore reader)) before.old }
+    ensures { AreValues facts.now clause.now (atom_of (StandsBefore reader)) before.new }
 {
     let _clause = clause;
     if let Some(place) = facts.place(out) {

@@ -1,7 +1,7 @@
 //! The laws of sums.
 
 ghost use Rattle.std.specs.Prelude.{◌≡◌, IfOk, IfSome, IsTrue};
-ghost use Rattle.judge_clauses.specs.Clauses.{Holds};
+ghost use Rattle.judge_clauses.specs.Clauses.{IsValid};
 ghost use Rattle.search_model.specs.declared.quantity.Quantity.TheVariants.{Count, Element};
 ghost use Rattle.judge_sums.specs.Laws.{ComesTo, CountsFrom, IsSet, IsAskedBy};
 
@@ -101,7 +101,7 @@ fn is_excluded<E: Estimate, A: Allocator + Copy>(
     number: i64,
 ) -> Result<bool, OutOfMemory>
     requires { ComesTo facts.now quantity reader number }
-    ensures { IfOk result (λ yes. IsTrue yes → Holds facts.now clause.now) }
+    ensures { IfOk result (λ yes. IsTrue yes → IsValid facts.now clause.now) }
 {
     match estimated(alloc, start, facts, clause, quantity, reader)? {
         Some(sum) => Ok(sum.excludes(number)),
@@ -116,7 +116,7 @@ fn is_clash<A: Allocator + Copy>(
     tx: u32,
     counter: u16,
 ) -> bool
-    ensures { IsTrue result → Holds facts.now clause.now }
+    ensures { IsTrue result → IsValid facts.now clause.now }
 {
     let _history = facts.history();
     let _clause = clause;

@@ -7,7 +7,7 @@ ghost use Rattle.judge_sums.specs.Rests.{HasRest};
 
 use crate::estimate::Estimate;
 
-/// Whether the number is a multiple of the modulus, if that can be told.
+/// Whether the number is a multiple of the modulus, if that can be said.
 fn is_multiple(number: i64, modulus: i64) -> Option<bool>
     ensures yes { result ≡ Some true → nat_abs modulus ∣ nat_abs number }
     ensures no { result ≡ Some false → nat_abs modulus ∣ nat_abs number → ⊥ }

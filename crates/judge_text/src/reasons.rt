@@ -3,7 +3,7 @@
 use crate::fields::Fields;
 use aud_event::OutOfMemory;
 use judge_clauses::Reason;
-use judge_laws::{CellLaw, Front, ObjectLaw, QueueLaw, SumLaw};
+use judge_laws::{CellLaw, FrontItem, ObjectLaw, QueueLaw, SumLaw};
 use std::alloc::Global;
 
 /// The numbers after the word, if the array has nothing else.
@@ -56,8 +56,8 @@ fn sum_law(fields: Fields<'_>) -> Option<SumLaw> {
 }
 
 /// What stood in front: the two fields from the place on.
-fn front(fields: Fields<'_>, place: usize) -> Option<Front> {
-    Some(Front {
+fn front(fields: Fields<'_>, place: usize) -> Option<FrontItem> {
+    Some(FrontItem {
         adder: fields.number(place)?,
         value: fields.signed(place.checked_add(1)?)?,
     })

@@ -1,7 +1,7 @@
 use Rattle.std.proofs.Common.{w64}
 use mir.Val.{to_z, of_z}
 use Rattle.judge_queues.proofs.Lawful.{valid-gone}
-use Rattle.judge_queues.proofs.gone.is_item_behind.Goals as goal
+use Rattle.judge_queues.proofs.gone.has_item_in_front.Goals as goal
 
 pub returns : goal.returns
 returns g c = λ so.

@@ -1,6 +1,0 @@
-use Rattle.std.specs.Prelude.{◌≡◌, length}
-use Rattle.judge_clauses.specs.Values.{atom_of, AreTold}
-use Rattle.judge_clauses.proofs.facts.KnownFacts.add_told.Given as goal
-
-abbrev pub invariant-loop-literal : goal.invariant-loop-literal
-invariant-loop-literal g l = (length l.values ≡ length l.initial.values) × (AreTold l.self l.clause (atom_of l.question) l.values)
