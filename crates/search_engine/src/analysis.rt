@@ -3,7 +3,7 @@
 use crate::grounds::{Help, View, add_conflict, add_grounds};
 use crate::heap::{Heap, bump};
 use crate::items::{at, fill, neg, set, var};
-use crate::known::{Conflict, Ground, State, UNKNOWN};
+use crate::known::{Assigned, Conflict, Ground, UNKNOWN};
 use aud_event::OutOfMemory;
 use std::alloc::{Allocator, Global};
 
@@ -53,12 +53,12 @@ pub(crate) fn make_marks<A: Allocator + Copy>(
 }
 
 /// The level since which the literal is assigned.
-pub(crate) fn level_of(states: &[State], literal: u32) -> u32 {
+pub(crate) fn level_of(states: &[Assigned], literal: u32) -> u32 {
     at(states, var(literal), UNKNOWN).level
 }
 
 /// The highest level of the literals.
-pub(crate) fn highest(states: &[State], literals: &[u32]) -> u32 {
+pub(crate) fn highest(states: &[Assigned], literals: &[u32]) -> u32 {
     let mut level = 0;
     for literal in literals {
         level = level_of(states, *literal).max(level);
@@ -104,7 +104,7 @@ fn take_in_one<A: Allocator + Copy>(
 fn take_in<A: Allocator + Copy>(
     analysis: &mut Analysis<A>,
     heap: &mut Heap<A>,
-    states: &[State],
+    states: &[Assigned],
     level: u32,
 ) -> Result<usize, OutOfMemory> {
     let mut count: usize = 0;
@@ -131,7 +131,7 @@ fn last_met(trail: &[u32], is_met: &[bool], before: usize) -> usize {
 }
 
 /// Whether all of the literals were met, or hold in any case.
-fn are_met(todo: &[u32], is_met: &[bool], states: &[State]) -> bool {
+fn are_met(todo: &[u32], is_met: &[bool], states: &[Assigned]) -> bool {
     for literal in todo {
         if level_of(states, *literal) != 0 && !at(is_met, var(*literal), false) {
             return false;
@@ -219,7 +219,7 @@ fn shorten<A: Allocator + Copy>(
 }
 
 /// Puts a literal of the highest level after the first one, and gives that level, to which the search goes back.
-fn order_clause(clause: &mut [u32], states: &[State]) -> u32 {
+fn order_clause(clause: &mut [u32], states: &[Assigned]) -> u32 {
     let mut best: usize = 1;
     let mut level = 0;
     for place in 1..clause.len() {
@@ -281,7 +281,7 @@ pub(crate) fn read_conflict<A: Allocator + Copy>(
 /// Of how many levels the literals of the clause are.
 pub(crate) fn count_levels<A: Allocator + Copy>(
     analysis: &mut Analysis<A>,
-    states: &[State],
+    states: &[Assigned],
 ) -> u32 {
     analysis.stamp = analysis.stamp.wrapping_add(1);
     let mut count: u32 = 0;

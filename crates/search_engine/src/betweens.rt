@@ -1,12 +1,12 @@
 //! Between a source and its reader nobody writes.
 
 use crate::cells::{
-    CellOf, Cells, NO_CELL, NO_PART, NO_READER, NO_SOURCE, NO_WRITER, Need, Part, Source, Writer,
-    meets,
+    CellOf, CellUse, Cells, NO_CELL, NO_PART, NO_READER, NO_SOURCE, NO_WRITER, ReadsFrom, Writer,
 };
 use crate::items::{FALSE, NONE, TRUE, at, neg, short};
 use crate::known::{Conflict, Ground, Known, assign, value};
 use crate::spans::{Span, before, span_of};
+use search_model::{Need, meets};
 use std::alloc::Allocator;
 
 /// The literal that the other row stands before the source's writer, or that never holds, if it is the opening.
@@ -22,7 +22,7 @@ fn before_source<A: Allocator + Copy>(
     }
 }
 
-/// The clause of a source and another writer of its cell: it is not the source, or the other one is not kept, does not stand before the
+/// The clause of a source and another writer of its cell: it is not the source, or the other one does not commit, does not stand before the
 /// reader, or stands before the source. Where the other one is the reader or the source it holds in any case.
 pub(crate) fn clause_of<A: Allocator + Copy>(
     cells: &Cells<A>,
@@ -38,7 +38,7 @@ pub(crate) fn clause_of<A: Allocator + Copy>(
     }
     let last = before_source(cells, spans, found.writer, other.row);
     let stands = before(spans, other.row, reader);
-    [neg(found.literal), neg(other.kept), neg(stands), last]
+    [neg(found.literal), neg(other.commits), neg(stands), last]
 }
 
 /// What the clause forces: its only open literal, or the one that never holds, where all fail, or else the one that always does.
@@ -146,7 +146,7 @@ fn writers_before(writers: &[Writer], cell: CellOf, row: usize) -> usize {
 }
 
 /// Whether the source fails.
-fn fails(values: &[i8], sources: &[Source], source: u32) -> bool {
+fn fails(values: &[i8], sources: &[ReadsFrom], source: u32) -> bool {
     let literal = at(sources, source as usize, NO_SOURCE).literal;
     value(values, literal) == -1
 }
@@ -223,8 +223,8 @@ fn judge_parts<A: Allocator + Copy>(
     known: &mut Known<A>,
     cells: &Cells<A>,
     spans: &[Span],
-    one: Part,
-    other: Part,
+    one: CellUse,
+    other: CellUse,
 ) -> Option<Conflict> {
     if one.writer == NONE {
         return None;

@@ -88,6 +88,14 @@ fn bits_from(row: usize, word: usize) -> u64 {
     }
 }
 
+/// Those rows of the word that the first of the two has on its side, and it itself, but not those that the second has.
+fn fresh_in(bits: &[u64], words: usize, rows: (usize, usize), word: usize) -> u64 {
+    let (one, other) = rows;
+    let wanted = at(bits, one.wrapping_mul(words).wrapping_add(word), 0);
+    let known = at(bits, other.wrapping_mul(words).wrapping_add(word), 0);
+    (wanted | bit_in(one, word)) & !known
+}
+
 /// The row stands before the other, and before all that this one does: `through` are the two rows of the pair that all follows from.
 fn join<A: Allocator + Copy>(
     known: &mut Known<A>,
@@ -99,13 +107,7 @@ fn join<A: Allocator + Copy>(
     let words = closure.words;
     let (from, to) = through;
     for word in 0..words {
-        let theirs = at(&closure.after, to.wrapping_mul(words).wrapping_add(word), 0);
-        let mine = at(
-            &closure.after,
-            row.wrapping_mul(words).wrapping_add(word),
-            0,
-        );
-        let mut fresh = (theirs | bit_in(to, word)) & !mine;
+        let mut fresh = fresh_in(&closure.after, words, (to, row), word);
         for _ in 0..64 {
             if fresh == 0 {
                 break;
@@ -141,17 +143,7 @@ pub(crate) fn close<A: Allocator + Copy>(
         return None;
     }
     for word in 0..words {
-        let mine = at(
-            &closure.before,
-            row.wrapping_mul(words).wrapping_add(word),
-            0,
-        );
-        let theirs = at(
-            &closure.before,
-            other.wrapping_mul(words).wrapping_add(word),
-            0,
-        );
-        let mut fresh = (mine | bit_in(row, word)) & !theirs;
+        let mut fresh = fresh_in(&closure.before, words, (row, other), word);
         for _ in 0..64 {
             if fresh == 0 {
                 break;

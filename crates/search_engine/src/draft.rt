@@ -21,7 +21,7 @@ pub(crate) enum Role {
 
 /// Why a clause holds, by the numbers of what it is about.
 #[derive(Clone, Copy)]
-pub(crate) enum Cause {
+pub(crate) enum Origin {
     Sources(u32),
     SourceStands(u32),
     /// The source, and the other writer.
@@ -95,15 +95,15 @@ pub(crate) fn add_pairs<A: Allocator + Copy>(
         }
     }
     for row in 0..spans.len() {
-        if spans[row].kept == NONE {
-            spans[row].kept = add_variable(variables, Role::Commits(short(row)), true, true)?;
+        if spans[row].commits == NONE {
+            spans[row].commits = add_variable(variables, Role::Commits(short(row)), true, true)?;
         }
     }
     Ok(())
 }
 
 /// Where in a clause its length stands, how many levels its literals had, the next clauses that watch its first and second
-/// literal, the number of its cause, the step that gives it, and its first literal.
+/// literal, the number of its origin, the step that gives it, and its first literal.
 pub(crate) const LENGTH: usize = 0;
 
 pub(crate) const LEVELS: usize = 1;
@@ -120,8 +120,8 @@ pub(crate) const LITERALS: usize = 6;
 #[derive(Drop)]
 pub(crate) struct Clauses<A: Allocator + Copy = Global> {
     pub arena: Vec<u32, A>,
-    /// The causes of those that are no learned ones.
-    pub causes: Vec<Cause, A>,
+    /// The origins of those that are no learned ones.
+    pub origins: Vec<Origin, A>,
     /// For each literal the first clause that watches it.
     pub heads: Vec<u32, A>,
     /// The learned ones that are still there.
@@ -133,7 +133,7 @@ impl<A: Allocator + Copy> Clauses<A> {
     pub(crate) fn empty(alloc: A) -> Clauses<A> {
         Clauses {
             arena: Vec::new(alloc),
-            causes: Vec::new(alloc),
+            origins: Vec::new(alloc),
             heads: Vec::new(alloc),
             learned: Vec::new(alloc),
         }
@@ -145,11 +145,11 @@ pub(crate) fn append<A: Allocator + Copy>(
     arena: &mut Vec<u32, A>,
     literals: &[u32],
     levels: u32,
-    cause: u32,
+    origin: u32,
     step: u32,
 ) -> Result<u32, OutOfMemory> {
     let place = short(arena.len());
-    let head = [short(literals.len()), levels, NONE, NONE, cause, step];
+    let head = [short(literals.len()), levels, NONE, NONE, origin, step];
     arena.extend_from_slice(&head)?;
     arena.extend_from_slice(literals)?;
     Ok(place)
@@ -174,15 +174,15 @@ fn extend<A: Allocator + Copy>(
 /// Adds the clause of different literals, if none of them holds in any case. Those that fail in any case are left out.
 pub(crate) fn add_clause<A: Allocator + Copy>(
     clauses: &mut Clauses<A>,
-    cause: Cause,
+    origin: Origin,
     literals: &[u32],
 ) -> Result<(), OutOfMemory> {
     if literals.contains(&TRUE) {
         return Ok(());
     }
-    let number = short(clauses.causes.len());
+    let number = short(clauses.origins.len());
     let place = clauses.arena.len();
-    clauses.causes.push(cause)?;
+    clauses.origins.push(origin)?;
     append(&mut clauses.arena, &[], 0, number, NONE)?;
     extend(&mut clauses.arena, place, literals)
 }

@@ -3,11 +3,11 @@
 use crate::draft::Role;
 use crate::items::{FALSE, NONE, at, fill, neg, set, short};
 use crate::orders::{block, decisions_of, first_bad, order_of};
-use crate::problem::{Problem, Work};
-use crate::reading::{Asked, read};
+use crate::problem::{Allowance, Problem};
+use crate::reading::{Encoded, read};
 use crate::refuted::refutation_of;
 use crate::solver::{
-    Bounds, Found, Solver, begin, bytes_held, go_back, prepare, search, solver_of,
+    Found, Limits, Solver, backjump, begin, bytes_held, prepare, search, solver_of,
 };
 use crate::spans::{Span, instant, span_of};
 use aud_event::{ObjKind, OutOfMemory};
@@ -20,7 +20,7 @@ use std::alloc::{Allocator, Global};
 
 /// What the engine came to: an order that it tried, steps that refute the history, or nothing within its effort.
 #[derive(Drop)]
-pub enum Answer<A: Allocator + Copy = Global> {
+pub enum Solved<A: Allocator + Copy = Global> {
     Order(Vec<Decision, A>),
     Refuted(Refutation<ObjectLaw, A>),
     Unknown,
@@ -34,7 +34,7 @@ pub struct Effort {
     pub bytes: usize,
 }
 
-/// An order by an instant, near which orders are sought: which part of twenty of its time each transaction took effect after, how many
+/// An order by an instant, near which orders are remainder_or_sum: which part of twenty of its time each transaction took effect after, how many
 /// places one may stand away, and whether there may be such orders.
 #[derive(Clone, Copy)]
 struct Near {
@@ -56,20 +56,20 @@ fn nearby(part: u64, reach: usize) -> Near {
 /// speedup of Las Vegas algorithms, 1993; by Knuth's two counters).
 #[derive(Clone, Copy)]
 struct Luby {
-    turn: u64,
+    index: u64,
     share: u64,
 }
 
 /// The share of the restart after.
 fn next_share(now: Luby) -> Luby {
-    if now.turn & now.turn.wrapping_neg() == now.share {
+    if now.index & now.index.wrapping_neg() == now.share {
         Luby {
-            turn: now.turn.wrapping_add(1),
+            index: now.index.wrapping_add(1),
             share: 1,
         }
     } else {
         Luby {
-            turn: now.turn,
+            index: now.index,
             share: now.share.wrapping_mul(2),
         }
     }
@@ -225,7 +225,7 @@ fn search_by_restarts<A: Allocator + Copy>(
     shape: &Shape<A>,
     solver: &mut Solver<A>,
     effort: Effort,
-) -> Result<Option<Answer<A>>, OutOfMemory> {
+) -> Result<Option<Solved<A>>, OutOfMemory> {
     let mut nears = [
         nearby(19, 6),
         nearby(10, 12),
@@ -234,7 +234,7 @@ fn search_by_restarts<A: Allocator + Copy>(
     ];
     let rows = solver.problem.spans.len();
     let mut turn = 0;
-    let mut luby = Luby { turn: 1, share: 1 };
+    let mut luby = Luby { index: 1, share: 1 };
     let unit = (rows as u64 / 8).max(100);
     for restart in 0..u64::MAX {
         let mut used = None;
@@ -248,7 +248,7 @@ fn search_by_restarts<A: Allocator + Copy>(
             turn = place;
             let found = nears[place % 4];
             let ranks = ranks_of(alloc, &solver.problem.spans, found.part)?;
-            go_back(solver, 0);
+            backjump(solver, 0);
             assume_near(solver, &ranks, found.reach)?;
             budget = restart.saturating_mul(100).saturating_add(300);
         }
@@ -256,16 +256,16 @@ fn search_by_restarts<A: Allocator + Copy>(
             .conflicts
             .saturating_add(budget)
             .min(effort.conflicts);
-        let bounds = Bounds {
+        let limits = Limits {
             conflicts,
             looks: effort.looks,
             bytes: effort.bytes,
         };
-        solver.tries_best = true;
-        match search(solver, bounds)? {
+        solver.tries_best = restart % 2 == 0;
+        match search(solver, limits)? {
             Found::Nothing => return Ok(None),
             Found::All => match try_found(alloc, shape, solver)? {
-                Tried::Good(decisions) => return Ok(Some(Answer::Order(decisions))),
+                Tried::Good(decisions) => return Ok(Some(Solved::Order(decisions))),
                 Tried::Blocked => {}
                 Tried::Nothing => return Ok(None),
             },
@@ -278,20 +278,20 @@ fn search_by_restarts<A: Allocator + Copy>(
                 let is_past = solver.known.looks >= effort.looks;
                 let is_full = bytes_held(solver) > effort.bytes;
                 if solver.conflicts >= effort.conflicts || is_past || is_full {
-                    return Ok(Some(Answer::Unknown));
+                    return Ok(Some(Solved::Unknown));
                 }
             }
         }
     }
-    Ok(Some(Answer::Unknown))
+    Ok(Some(Solved::Unknown))
 }
 
 /// The refutation that the search wrote down, if it did.
-fn refuted<A: Allocator + Copy>(alloc: A, solver: &Solver<A>) -> Result<Answer<A>, OutOfMemory> {
+fn refuted<A: Allocator + Copy>(alloc: A, solver: &Solver<A>) -> Result<Solved<A>, OutOfMemory> {
     let found = refutation_of(alloc, &solver.problem, &solver.log.steps, solver.log.last)?;
     match found {
-        Some(refutation) => Ok(Answer::Refuted(refutation)),
-        None => Ok(Answer::Unknown),
+        Some(refutation) => Ok(Solved::Refuted(refutation)),
+        None => Ok(Solved::Unknown),
     }
 }
 
@@ -309,11 +309,11 @@ fn law_of_block<A: Allocator + Copy>(
 }
 
 /// The refutation of a history by one law.
-fn refuted_by<A: Allocator + Copy>(alloc: A, law: ObjectLaw) -> Result<Answer<A>, OutOfMemory> {
+fn refuted_by<A: Allocator + Copy>(alloc: A, law: ObjectLaw) -> Result<Solved<A>, OutOfMemory> {
     let mut steps = Vec::new(alloc);
     steps.push(Step::new(Vec::new(alloc), Reason::Law(law)))?;
     let atoms = Vec::new(alloc);
-    Ok(Answer::Refuted(Refutation { atoms, steps }))
+    Ok(Solved::Refuted(Refutation { atoms, steps }))
 }
 
 /// Searches, and gives the order that it found or the steps that it wrote down. None where there is no order, and nothing was written
@@ -323,7 +323,7 @@ fn search_for<A: Allocator + Copy>(
     shape: &Shape<A>,
     solver: &mut Solver<A>,
     effort: Effort,
-) -> Result<Option<Answer<A>>, OutOfMemory> {
+) -> Result<Option<Solved<A>>, OutOfMemory> {
     prepare(solver)?;
     if begin(solver)? {
         let found = search_by_restarts(alloc, shape, solver, effort)?;
@@ -344,7 +344,7 @@ fn search_problem<A: Allocator + Copy>(
     problem: Problem<A>,
     effort: Effort,
     logs: bool,
-) -> Result<Option<Answer<A>>, OutOfMemory> {
+) -> Result<Option<Solved<A>>, OutOfMemory> {
     let mut solver = solver_of(alloc, problem, logs)?;
     search_for(alloc, shape, &mut solver, effort)
 }
@@ -355,19 +355,19 @@ fn search_once<A: Allocator + Copy>(
     shape: &Shape<A>,
     effort: Effort,
     logs: bool,
-) -> Result<Option<Answer<A>>, OutOfMemory> {
-    let work = Work {
+) -> Result<Option<Solved<A>>, OutOfMemory> {
+    let allowance = Allowance {
         looks: 0,
         most: effort.looks,
         bytes: effort.bytes,
     };
-    match read(alloc, shape, work)? {
-        Asked::Problem(problem) => search_problem(alloc, shape, problem, effort, logs),
-        Asked::Block(tx, object, cell) => {
+    match read(alloc, shape, allowance)? {
+        Encoded::Problem(problem) => search_problem(alloc, shape, problem, effort, logs),
+        Encoded::Block(tx, object, cell) => {
             let law = law_of_block(shape, tx, object, cell);
             Ok(Some(refuted_by(alloc, law)?))
         }
-        Asked::Large => Ok(Some(Answer::Unknown)),
+        Encoded::Large => Ok(Some(Solved::Unknown)),
     }
 }
 
@@ -377,12 +377,12 @@ pub fn solve<A: Allocator + Copy>(
     alloc: A,
     shape: &Shape<A>,
     effort: Effort,
-) -> Result<Answer<A>, OutOfMemory> {
+) -> Result<Solved<A>, OutOfMemory> {
     if let Some(answer) = search_once(alloc, shape, effort, false)? {
         return Ok(answer);
     }
     match search_once(alloc, shape, effort, true)? {
         Some(answer) => Ok(answer),
-        None => Ok(Answer::Unknown),
+        None => Ok(Solved::Unknown),
     }
 }

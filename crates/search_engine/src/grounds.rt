@@ -2,9 +2,9 @@
 
 use crate::betweens::clause_of;
 use crate::cells::Cells;
-use crate::draft::{Cause, LITERALS, Role};
+use crate::draft::{LITERALS, Origin, Role};
 use crate::items::{FALSE, NONE, TRUE, at, between, neg, var};
-use crate::known::{Conflict, Ground, Known, State, UNKNOWN, place_if, value};
+use crate::known::{Assigned, Conflict, Ground, Known, UNKNOWN, place_if, value};
 use crate::spans::{Span, before};
 use crate::sums::{NO_SUM, NO_TERM, Sum, Sums, Term};
 use aud_event::OutOfMemory;
@@ -14,9 +14,9 @@ use std::alloc::Allocator;
 #[derive(Drop)]
 pub(crate) struct View<'a, A: Allocator + Copy> {
     pub values: &'a [i8],
-    pub states: &'a [State],
+    pub states: &'a [Assigned],
     pub arena: &'a [u32],
-    pub causes: &'a [Cause],
+    pub origins: &'a [Origin],
     pub roles: &'a [Role],
     pub spans: &'a [Span],
     pub cells: &'a Cells<A>,
@@ -86,7 +86,7 @@ fn add_circle<A: Allocator + Copy>(
 }
 
 /// Whether the term was known to hold or to fail before that place.
-fn is_decided(values: &[i8], states: &[State], term: &Term, limit: u32) -> bool {
+fn is_decided(values: &[i8], states: &[Assigned], term: &Term, limit: u32) -> bool {
     let [first, second] = term.literals;
     let fails = place_if(values, states, first, -1).min(place_if(values, states, second, -1));
     let holds = place_if(values, states, first, 1).max(place_if(values, states, second, 1));
@@ -94,7 +94,7 @@ fn is_decided(values: &[i8], states: &[State], term: &Term, limit: u32) -> bool 
 }
 
 /// When the term came to help to raise the least of the sum, or to lower the greatest, or never.
-fn help_at(values: &[i8], states: &[State], term: &Term, rises: bool) -> u32 {
+fn help_at(values: &[i8], states: &[Assigned], term: &Term, rises: bool) -> u32 {
     let [first, second] = term.literals;
     if rises {
         place_if(values, states, first, 1).max(place_if(values, states, second, 1))
@@ -106,7 +106,7 @@ fn help_at(values: &[i8], states: &[State], term: &Term, rises: bool) -> u32 {
 /// Adds the literals by which the term helps.
 fn add_help<A: Allocator + Copy>(
     values: &[i8],
-    states: &[State],
+    states: &[Assigned],
     term: &Term,
     rises: bool,
     out: &mut Vec<u32, A>,

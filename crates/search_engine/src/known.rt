@@ -21,14 +21,14 @@ pub(crate) enum Ground {
 
 /// Since when and why a variable is assigned.
 #[derive(Clone, Copy)]
-pub(crate) struct State {
+pub(crate) struct Assigned {
     pub level: u32,
     /// Its place in the trail, from 1.
     pub place: u32,
     pub ground: Ground,
 }
 
-pub(crate) const UNKNOWN: State = State {
+pub(crate) const UNKNOWN: Assigned = Assigned {
     level: 0,
     place: 0,
     ground: Ground::Choice,
@@ -48,7 +48,7 @@ pub(crate) enum Conflict {
 pub(crate) struct Known<A: Allocator + Copy = Global> {
     /// Of each literal 1 if it holds, -1 if it fails, and else 0.
     pub values: Vec<i8, A>,
-    pub states: Vec<State, A>,
+    pub states: Vec<Assigned, A>,
     pub trail: Vec<u32, A>,
     pub count: usize,
     /// How many of them were looked at by clauses, and by the rest.
@@ -98,7 +98,7 @@ pub(crate) fn value(values: &[i8], literal: u32) -> i8 {
 pub(crate) fn assign<A: Allocator + Copy>(known: &mut Known<A>, literal: u32, ground: Ground) {
     set(&mut known.values, literal as usize, 1);
     set(&mut known.values, neg(literal) as usize, -1);
-    let state = State {
+    let state = Assigned {
         level: short(known.levels.len()),
         place: short(known.count).wrapping_add(1),
         ground,
@@ -109,7 +109,7 @@ pub(crate) fn assign<A: Allocator + Copy>(known: &mut Known<A>, literal: u32, gr
 }
 
 /// When the variable was assigned, or never.
-pub(crate) fn place_if(values: &[i8], states: &[State], literal: u32, wanted: i8) -> u32 {
+pub(crate) fn place_if(values: &[i8], states: &[Assigned], literal: u32, wanted: i8) -> u32 {
     if value(values, literal) == wanted {
         at(states, var(literal), UNKNOWN).place
     } else {

@@ -25,4 +25,4 @@ mod spans;
 mod sums;
 mod visits;
 
-pub use engine::{Answer, Effort, solve};
+pub use engine::{Effort, Solved, solve};

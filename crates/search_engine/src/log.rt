@@ -1,7 +1,7 @@
 //! The steps of a search, as they are found: clauses, and what each one follows from.
 
 use crate::analysis::Analysis;
-use crate::draft::{CAUSE, Cause, STEP};
+use crate::draft::{CAUSE, Origin, STEP};
 use crate::grounds::{Help, View, add_grounds, literals_of, pair_of};
 use crate::items::{NONE, at, between, fill, neg, set, short, var};
 use crate::known::{Conflict, Ground, UNKNOWN};
@@ -9,10 +9,10 @@ use crate::sums::NO_SUM;
 use aud_event::OutOfMemory;
 use std::alloc::{Allocator, Global};
 
-/// What a step follows from: its cause alone, or the steps that the hints between these places name.
+/// What a step follows from: its origin alone, or the steps that the hints between these places name.
 #[derive(Clone, Copy)]
 pub(crate) enum Why {
-    Cause(Cause),
+    Origin(Origin),
     Units(usize, usize),
 }
 
@@ -27,12 +27,12 @@ pub(crate) struct Logged {
 pub(crate) const NOT_LOGGED: Logged = Logged {
     from: 0,
     to: 0,
-    why: Why::Cause(Cause::Tried),
+    why: Why::Origin(Origin::Tried),
 };
 
 /// The steps, with their literals and hints.
 #[derive(Drop)]
-pub(crate) struct Steps<A: Allocator + Copy = Global> {
+pub(crate) struct StepLog<A: Allocator + Copy = Global> {
     pub steps: Vec<Logged, A>,
     pub literals: Vec<u32, A>,
     pub hints: Vec<u32, A>,
@@ -54,12 +54,12 @@ const NOT_PLACED: Placed = Placed {
 #[derive(Drop)]
 pub(crate) struct Log<A: Allocator + Copy = Global> {
     pub is_on: bool,
-    pub steps: Steps<A>,
+    pub steps: StepLog<A>,
     /// The step of the last conflict.
     pub last: u32,
-    /// For each cause of a clause the step that gives it; for each variable the step that gives the literal which holds in any case, and
+    /// For each origin of a clause the step that gives it; for each variable the step that gives the literal which holds in any case, and
     /// the last step that it was forced by.
-    causes: Vec<u32, A>,
+    origins: Vec<u32, A>,
     units: Vec<u32, A>,
     forced: Vec<u32, A>,
     is_needed: Vec<bool, A>,
@@ -73,13 +73,13 @@ impl<A: Allocator + Copy> Log<A> {
     pub(crate) fn empty(alloc: A, is_on: bool) -> Log<A> {
         Log {
             is_on,
-            steps: Steps {
+            steps: StepLog {
                 steps: Vec::new(alloc),
                 literals: Vec::new(alloc),
                 hints: Vec::new(alloc),
             },
             last: NONE,
-            causes: Vec::new(alloc),
+            origins: Vec::new(alloc),
             units: Vec::new(alloc),
             forced: Vec::new(alloc),
             is_needed: Vec::new(alloc),
@@ -90,20 +90,20 @@ impl<A: Allocator + Copy> Log<A> {
     }
 }
 
-/// Room for so many variables and causes.
+/// Room for so many variables and origins.
 pub(crate) fn make_log<A: Allocator + Copy>(
     log: &mut Log<A>,
     variables: usize,
-    causes: usize,
+    origins: usize,
 ) -> Result<(), OutOfMemory> {
-    fill(&mut log.causes, causes, NONE)?;
+    fill(&mut log.origins, origins, NONE)?;
     fill(&mut log.units, variables, NONE)?;
     fill(&mut log.forced, variables, NONE)?;
     fill(&mut log.is_needed, variables, false)
 }
 
 /// How many bytes the steps take, about.
-pub(crate) fn bytes_logged<A: Allocator + Copy>(steps: &Steps<A>) -> usize {
+pub(crate) fn bytes_logged<A: Allocator + Copy>(steps: &StepLog<A>) -> usize {
     let words = steps.literals.len().saturating_add(steps.hints.len());
     let heads = steps.steps.len().saturating_mul(48);
     words.saturating_mul(4).saturating_add(heads)
@@ -111,7 +111,7 @@ pub(crate) fn bytes_logged<A: Allocator + Copy>(steps: &Steps<A>) -> usize {
 
 /// Adds a step, and gives its number.
 fn add_step<A: Allocator + Copy>(
-    steps: &mut Steps<A>,
+    steps: &mut StepLog<A>,
     literals: &[u32],
     why: Why,
 ) -> Result<u32, OutOfMemory> {
@@ -125,41 +125,41 @@ fn add_step<A: Allocator + Copy>(
 
 /// The step that gives the clause.
 fn step_of_clause<A: Allocator + Copy>(
-    steps: &mut Steps<A>,
-    causes: &mut [u32],
+    steps: &mut StepLog<A>,
+    origins: &mut [u32],
     view: &View<'_, A>,
     clause: u32,
 ) -> Result<u32, OutOfMemory> {
     let place = clause as usize;
-    let cause = at(view.arena, place.wrapping_add(CAUSE), NONE);
-    if cause == NONE {
+    let origin = at(view.arena, place.wrapping_add(CAUSE), NONE);
+    if origin == NONE {
         return Ok(at(view.arena, place.wrapping_add(STEP), NONE));
     }
-    let known = at(causes, cause as usize, NONE);
+    let known = at(origins, origin as usize, NONE);
     if known != NONE {
         return Ok(known);
     }
-    let why = Why::Cause(at(view.causes, cause as usize, Cause::Tried));
+    let why = Why::Origin(at(view.origins, origin as usize, Origin::Tried));
     let number = add_step(steps, literals_of(view.arena, clause), why)?;
-    set(causes, cause as usize, number);
+    set(origins, origin as usize, number);
     Ok(number)
 }
 
 /// Why the literals force this one, where no clause does.
-fn cause_of<A: Allocator + Copy>(view: &View<'_, A>, literal: u32, ground: Ground) -> Cause {
+fn cause_of<A: Allocator + Copy>(view: &View<'_, A>, literal: u32, ground: Ground) -> Origin {
     match ground {
         Ground::Circle(row, other) => match pair_of(view.roles, literal) {
-            Some((first, last)) => Cause::Circle(short(first), row, other, short(last)),
-            None => Cause::Tried,
+            Some((first, last)) => Origin::Circle(short(first), row, other, short(last)),
+            None => Origin::Tried,
         },
-        Ground::Between(source, writer) => Cause::Between(source, writer),
-        Ground::Low(sum) | Ground::High(sum) => at(view.sums, sum as usize, NO_SUM).cause,
-        Ground::Choice | Ground::Clause(_) => Cause::Tried,
+        Ground::Between(source, writer) => Origin::Between(source, writer),
+        Ground::Low(sum) | Ground::High(sum) => at(view.sums, sum as usize, NO_SUM).origin,
+        Ground::Choice | Ground::Clause(_) => Origin::Tried,
     }
 }
 
 /// Whether the step has these literals.
-fn is_step<A: Allocator + Copy>(steps: &Steps<A>, number: u32, literals: &[u32]) -> bool {
+fn is_step<A: Allocator + Copy>(steps: &StepLog<A>, number: u32, literals: &[u32]) -> bool {
     match steps.steps.get(number as usize) {
         Some(step) => *between(&steps.literals, step.from, step.to) == *literals,
         None => false,
@@ -196,28 +196,28 @@ fn step_of<A: Allocator + Copy>(
 ) -> Result<u32, OutOfMemory> {
     let ground = at(view.states, var(literal), UNKNOWN).ground;
     if let Ground::Clause(clause) = ground {
-        return step_of_clause(&mut log.steps, &mut log.causes, view, clause);
+        return step_of_clause(&mut log.steps, &mut log.origins, view, clause);
     }
     make_clause(&mut log.clause, view, helps, literal)?;
     let known = at(&log.forced, var(literal), NONE);
     if is_step(&log.steps, known, &log.clause) {
         return Ok(known);
     }
-    let why = Why::Cause(cause_of(view, literal, ground));
+    let why = Why::Origin(cause_of(view, literal, ground));
     let number = add_step(&mut log.steps, &log.clause, why)?;
     set(&mut log.forced, var(literal), number);
     Ok(number)
 }
 
 /// Why the conflict cannot be, if it is of no clause.
-fn cause_of_conflict<A: Allocator + Copy>(view: &View<'_, A>, conflict: Conflict) -> Cause {
+fn cause_of_conflict<A: Allocator + Copy>(view: &View<'_, A>, conflict: Conflict) -> Origin {
     match conflict {
-        Conflict::Clause(_) => Cause::Tried,
+        Conflict::Clause(_) => Origin::Tried,
         Conflict::Circle(row, from, to, other) => {
-            Cause::Circle(short(row), short(from), short(to), short(other))
+            Origin::Circle(short(row), short(from), short(to), short(other))
         }
-        Conflict::Between(source, writer) => Cause::Between(source, writer),
-        Conflict::Sum(sum, _) => at(view.sums, sum as usize, NO_SUM).cause,
+        Conflict::Between(source, writer) => Origin::Between(source, writer),
+        Conflict::Sum(sum, _) => at(view.sums, sum as usize, NO_SUM).origin,
     }
 }
 
@@ -229,13 +229,13 @@ pub(crate) fn log_conflict<A: Allocator + Copy>(
     literals: &[u32],
 ) -> Result<(), OutOfMemory> {
     if let Conflict::Clause(clause) = conflict {
-        log.last = step_of_clause(&mut log.steps, &mut log.causes, view, clause)?;
+        log.last = step_of_clause(&mut log.steps, &mut log.origins, view, clause)?;
         return Ok(());
     }
     log.clause.clear();
     log.clause.extend_from_slice(literals)?;
     turn_all(&mut log.clause);
-    let why = Why::Cause(cause_of_conflict(view, conflict));
+    let why = Why::Origin(cause_of_conflict(view, conflict));
     log.last = add_step(&mut log.steps, &log.clause, why)?;
     Ok(())
 }

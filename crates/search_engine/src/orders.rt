@@ -1,10 +1,10 @@
 //! Orders that a search found, and their trial.
 
 use crate::closure::is_before;
-use crate::draft::{Cause, LITERALS, add_clause};
+use crate::draft::{LITERALS, Origin, add_clause};
 use crate::items::{FALSE, NONE, TRUE, at, neg, set, short};
 use crate::known::{Ground, assign, value};
-use crate::solver::{Solver, go_back};
+use crate::solver::{Solver, backjump};
 use crate::spans::{Span, before, instant, span_of};
 use crate::visits::watch_both;
 use aud_event::OutOfMemory;
@@ -87,10 +87,10 @@ pub(crate) fn decisions_of<A: Allocator + Copy>(
     let mut decisions = Vec::new(alloc);
     for row in order {
         let found = span_of(&solver.problem.spans, *row);
-        let is_kept = value(&solver.known.values, found.kept) == 1;
+        let commits = value(&solver.known.values, found.commits) == 1;
         decisions.push(Decision {
             tx: found.tx,
-            fate: if is_kept { Fate::C } else { Fate::A },
+            fate: if commits { Fate::C } else { Fate::A },
         })?;
     }
     Ok(decisions)
@@ -122,7 +122,7 @@ pub(crate) fn first_bad<A: Allocator + Copy>(
     first_refused(&mut cursor, decisions)
 }
 
-/// Adds the literals that those that are kept before the place do not stand there in this order.
+/// Adds the literals that those that commit before the place do not stand there in this order.
 fn deny_before<A: Allocator + Copy>(
     clause: &mut Vec<u32, A>,
     solver: &Solver<A>,
@@ -132,14 +132,14 @@ fn deny_before<A: Allocator + Copy>(
     let spans = &solver.problem.spans[..];
     let mut last = NONE as usize;
     for row in crate::items::between(order, 0, place.saturating_add(1)) {
-        let kept = span_of(spans, *row).kept;
+        let commits = span_of(spans, *row).commits;
         let is_last = at(order, place, 0) == *row;
-        if is_last || value(&solver.known.values, kept) == 1 {
+        if is_last || value(&solver.known.values, commits) == 1 {
             if last != NONE as usize {
                 clause.push(before(spans, *row, last))?;
             }
             if !is_last {
-                clause.push(neg(kept))?;
+                clause.push(neg(commits))?;
             }
             last = *row;
         }
@@ -147,7 +147,7 @@ fn deny_before<A: Allocator + Copy>(
     Ok(())
 }
 
-/// Adds the literals that another one is kept and stands before the row at the place.
+/// Adds the literals that another one commits and stands before the row at the place.
 fn deny_after<A: Allocator + Copy>(
     clause: &mut Vec<u32, A>,
     solver: &Solver<A>,
@@ -157,13 +157,13 @@ fn deny_after<A: Allocator + Copy>(
     let spans = &solver.problem.spans[..];
     let row = at(order, place, 0);
     for (index, other) in order.iter().enumerate() {
-        let kept = span_of(spans, *other).kept;
-        let holds = value(&solver.known.values, kept) == 1;
-        if index != place && kept != FALSE {
+        let commits = span_of(spans, *other).commits;
+        let holds = value(&solver.known.values, commits) == 1;
+        if index != place && commits != FALSE {
             if holds && index > place {
                 clause.push(before(spans, *other, row))?;
             } else if !holds {
-                clause.push(kept)?;
+                clause.push(commits)?;
             }
         }
     }
@@ -185,7 +185,7 @@ fn sort_open(literals: &mut [u32], values: &[i8]) -> usize {
     count
 }
 
-/// The row at the place is not legal after exactly those that are kept before it, in this order: the search goes on without that. False
+/// The row at the place is not legal after exactly those that commit before it, in this order: the search goes on without that. False
 /// where nothing is left.
 pub(crate) fn block<A: Allocator + Copy>(
     alloc: A,
@@ -196,11 +196,11 @@ pub(crate) fn block<A: Allocator + Copy>(
     let mut clause = Vec::new(alloc);
     deny_before(&mut clause, solver, order, place)?;
     deny_after(&mut clause, solver, order, place)?;
-    go_back(solver, 0);
+    backjump(solver, 0);
     let open = sort_open(&mut clause, &solver.known.values);
     let number = short(solver.problem.clauses.arena.len());
     let clauses = &mut solver.problem.clauses;
-    add_clause(clauses, Cause::Tried, &clause)?;
+    add_clause(clauses, Origin::Tried, &clause)?;
     watch_both(&mut clauses.arena, &mut clauses.heads, number);
     let first = at(
         &clauses.arena,

@@ -1,27 +1,27 @@
 //! Queues: which addition is taken, how many are taken and added before, and what was added before is taken before.
 
-use crate::draft::{Cause, Clauses, Role, Variables, add_clause, add_variable, ask};
+use crate::draft::{Clauses, Origin, Role, Variables, add_clause, add_variable, ask};
 use crate::items::{FALSE, NONE, TRUE, at, between, neg, set, short};
 use crate::problem::{Problem, is_large, spend};
 use crate::spans::{Span, before, instant, span_of};
-use crate::sums::{Beside, Sums, add_terms, end_sum, find_beside, sum_ended};
+use crate::sums::{Concurrent, Sums, add_terms, end_sum, find_concurrent, sum_ended};
 use aud_event::OutOfMemory;
 use std::alloc::{Allocator, Global};
 
 /// What a transaction does on a queue.
 #[derive(Clone, Copy, PartialEq, Eq)]
-pub(crate) enum Deed {
+pub(crate) enum QueueOp {
     Adds(i64),
     Takes(i64),
     SeesEmpty,
 }
 
-/// A deed, with the place of its row among those that touch the queue, and its place in the block.
+/// An operation, with the place of its row among those that touch the queue, and its place in the block.
 #[derive(Clone, Copy)]
-pub(crate) struct Move {
+pub(crate) struct PlacedOp {
     pub place: usize,
     pub number: u32,
-    pub deed: Deed,
+    pub op: QueueOp,
 }
 
 /// A take, or that the queue is seen empty, by the number of the take or the place in the block.
@@ -66,16 +66,16 @@ pub(crate) const NO_ITEM: ItemOf = ItemOf {
 
 /// What the clauses of queues are about, by numbers.
 #[derive(Drop)]
-pub(crate) struct Items<A: Allocator + Copy = Global> {
+pub(crate) struct QueueItems<A: Allocator + Copy = Global> {
     pub takes: Vec<TakeOf, A>,
     pub items: Vec<ItemOf, A>,
     pub gone: Vec<GoneOf, A>,
 }
 
-impl<A: Allocator + Copy> Items<A> {
+impl<A: Allocator + Copy> QueueItems<A> {
     /// No items. It does not allocate.
-    pub(crate) fn empty(alloc: A) -> Items<A> {
-        Items {
+    pub(crate) fn empty(alloc: A) -> QueueItems<A> {
+        QueueItems {
             takes: Vec::new(alloc),
             items: Vec::new(alloc),
             gone: Vec::new(alloc),
@@ -85,7 +85,7 @@ impl<A: Allocator + Copy> Items<A> {
 
 /// A value that a row adds or takes: the place of the row, and how many of its additions were before.
 #[derive(Clone, Copy, PartialEq, Eq, PartialOrd, Ord)]
-struct Held {
+struct Holding {
     value: i64,
     place: usize,
     index: u32,
@@ -104,27 +104,27 @@ struct Added {
 
 /// What is known of one queue while its clauses are made.
 #[derive(Drop)]
-struct Queue<A: Allocator + Copy = Global> {
-    /// The rows that touch it, and how many each one takes, and less how many it adds, if it may be kept; and both together.
+struct QueueUse<A: Allocator + Copy = Global> {
+    /// The rows that touch it, and how many each one takes, and less how many it adds, if it may commit; and both together.
     rows: Vec<usize, A>,
     takes: Vec<i64, A>,
     adds: Vec<i64, A>,
     both: Vec<i64, A>,
     /// Who adds and who takes each value.
-    adders: Vec<Held, A>,
-    takers: Vec<Held, A>,
+    adders: Vec<Holding, A>,
+    takers: Vec<Holding, A>,
     added: Vec<Added, A>,
 }
 
 /// Who adds and who takes each value, by what ended before each row.
 #[derive(Drop)]
-struct Ended<A: Allocator + Copy = Global> {
+struct EndedTotals<A: Allocator + Copy = Global> {
     takes: Vec<i64, A>,
     adds: Vec<i64, A>,
     both: Vec<i64, A>,
 }
 
-const NOT_HELD: Held = Held {
+const NOT_HELD: Holding = Holding {
     value: 0,
     place: 0,
     index: 0,
@@ -140,7 +140,7 @@ const NOT_ADDED: Added = Added {
 };
 
 /// The first place in the order of values whose value is not below, or, if it is to be above, is above that one.
-fn place_of(held: &[Held], value: i64, above: bool) -> usize {
+fn place_of(held: &[Holding], value: i64, above: bool) -> usize {
     let mut low = 0;
     let mut high = held.len();
     for _ in 0..64 {
@@ -166,19 +166,19 @@ fn count(counts: &mut [i64], place: usize, amount: i64) {
 
 /// Reads who adds what, as which of its own additions.
 fn read_adders<A: Allocator + Copy>(
-    adders: &mut Vec<Held, A>,
-    moves: &[Move],
+    adders: &mut Vec<Holding, A>,
+    ops: &[PlacedOp],
 ) -> Result<(), OutOfMemory> {
     let mut index: u32 = 0;
     let mut last = usize::MAX;
-    for found in moves {
+    for found in ops {
         let place = found.place;
         if place != last {
             index = 0;
             last = place;
         }
-        if let Deed::Adds(value) = found.deed {
-            adders.push(Held {
+        if let QueueOp::Adds(value) = found.op {
+            adders.push(Holding {
                 value,
                 place,
                 index,
@@ -190,19 +190,19 @@ fn read_adders<A: Allocator + Copy>(
     Ok(())
 }
 
-/// Reads who takes what, of those that may be kept.
+/// Reads who takes what, of those that may commit.
 fn read_takers<A: Allocator + Copy>(
-    takers: &mut Vec<Held, A>,
+    takers: &mut Vec<Holding, A>,
     rows: &[usize],
     spans: &[Span],
-    moves: &[Move],
+    ops: &[PlacedOp],
 ) -> Result<(), OutOfMemory> {
-    for found in moves {
+    for found in ops {
         let place = found.place;
-        if let Deed::Takes(value) = found.deed {
-            if span_of(spans, at(rows, place, 0)).kept != FALSE {
+        if let QueueOp::Takes(value) = found.op {
+            if span_of(spans, at(rows, place, 0)).commits != FALSE {
                 let index = 0;
-                takers.push(Held {
+                takers.push(Holding {
                     value,
                     place,
                     index,
@@ -214,27 +214,27 @@ fn read_takers<A: Allocator + Copy>(
     Ok(())
 }
 
-/// Counts what each row takes, and less what it adds, if it may be kept.
-fn count_moves(
+/// Counts what each row takes, and less what it adds, if it may commit.
+fn count_ops(
     takes: &mut [i64],
     adds: &mut [i64],
     rows: &[usize],
     spans: &[Span],
-    moves: &[Move],
+    ops: &[PlacedOp],
 ) {
-    for found in moves {
-        if span_of(spans, at(rows, found.place, 0)).kept != FALSE {
-            match found.deed {
-                Deed::Adds(_) => count(adds, found.place, -1),
-                Deed::Takes(_) => count(takes, found.place, 1),
-                Deed::SeesEmpty => {}
+    for found in ops {
+        if span_of(spans, at(rows, found.place, 0)).commits != FALSE {
+            match found.op {
+                QueueOp::Adds(_) => count(adds, found.place, -1),
+                QueueOp::Takes(_) => count(takes, found.place, 1),
+                QueueOp::SeesEmpty => {}
             }
         }
     }
 }
 
 /// When the first of the takers ended.
-fn first_end(takers: &[Held], rows: &[usize], spans: &[Span]) -> u32 {
+fn first_end(takers: &[Holding], rows: &[usize], spans: &[Span]) -> u32 {
     let mut first = NONE;
     for taker in takers {
         first = first.min(span_of(spans, at(rows, taker.place, 0)).last);
@@ -242,24 +242,24 @@ fn first_end(takers: &[Held], rows: &[usize], spans: &[Span]) -> u32 {
     first
 }
 
-/// Lists the values that are added by those that may be kept, in the order of their rows, after one that is none. A row's value after
+/// Lists the values that are added by those that may commit, in the order of their rows, after one that is none. A row's value after
 /// itself counts once.
 fn list_added<A: Allocator + Copy>(
-    queue: &mut Queue<A>,
+    queue: &mut QueueUse<A>,
     spans: &[Span],
-    moves: &[Move],
+    ops: &[PlacedOp],
 ) -> Result<(), OutOfMemory> {
     let mut last = NOT_ADDED;
     last.place = usize::MAX;
     last.next = 1;
     queue.added.push(last)?;
-    for found in moves {
-        let Deed::Adds(value) = found.deed else {
+    for found in ops {
+        let QueueOp::Adds(value) = found.op else {
             continue;
         };
         let row = at(&queue.rows, found.place, 0);
         let is_same = last.place == found.place && last.value == value;
-        if span_of(spans, row).kept == FALSE || is_same {
+        if span_of(spans, row).commits == FALSE || is_same {
             continue;
         }
         let takers = place_of(&queue.takers, value, false);
@@ -278,9 +278,9 @@ fn list_added<A: Allocator + Copy>(
     Ok(())
 }
 
-/// What a row asks of the queue at one of its deeds.
+/// What a row asks of the queue at one of its operations.
 #[derive(Clone, Copy)]
-struct Asked {
+struct Demand {
     take: TakeOf,
     number: u32,
     place: usize,
@@ -291,21 +291,21 @@ struct Asked {
 /// The clause that the value, which was added before, is taken before.
 fn add_gone<A: Allocator + Copy>(
     alloc: A,
-    queue: &Queue<A>,
+    queue: &QueueUse<A>,
     variables: &mut Variables<A>,
     clauses: &mut Clauses<A>,
     spans: &[Span],
-    asked: Asked,
+    asked: Demand,
     added: Added,
     ahead: u32,
     guard: u32,
     number: u32,
 ) -> Result<(), OutOfMemory> {
-    let kept = span_of(spans, at(&queue.rows, added.place, 0)).kept;
+    let commits = span_of(spans, at(&queue.rows, added.place, 0)).commits;
     let mut clause = Vec::new(alloc);
     clause.push(neg(ahead))?;
     clause.push(neg(guard))?;
-    clause.push(neg(kept))?;
+    clause.push(neg(commits))?;
     let mut last = usize::MAX;
     for taker in between(&queue.takers, added.takers, added.takers_end) {
         if taker.place != asked.place && taker.place != last {
@@ -317,13 +317,13 @@ fn add_gone<A: Allocator + Copy>(
     for literal in clause.iter() {
         ask(&mut variables.decided, *literal);
     }
-    add_clause(clauses, Cause::Gone(number), &clause)
+    add_clause(clauses, Origin::Gone(number), &clause)
 }
 
-/// Whether the row takes the value from the queue. Its moves are given.
-fn takes_value(moves: &[Move], value: i64) -> bool {
-    for found in moves {
-        if found.deed == Deed::Takes(value) {
+/// Whether the row takes the value from the queue. Its operations are given.
+fn takes_value(ops: &[PlacedOp], value: i64) -> bool {
+    for found in ops {
+        if found.op == QueueOp::Takes(value) {
             return true;
         }
     }
@@ -334,10 +334,10 @@ fn takes_value(moves: &[Move], value: i64) -> bool {
 /// before are let go for all rows that follow.
 fn add_all_gone<A: Allocator + Copy>(
     alloc: A,
-    queue: &mut Queue<A>,
+    queue: &mut QueueUse<A>,
     problem: &mut Problem<A>,
-    own: &[Move],
-    asked: Asked,
+    own: &[PlacedOp],
+    asked: Demand,
     adder: usize,
     guard: u32,
     item: u32,
@@ -349,7 +349,7 @@ fn add_all_gone<A: Allocator + Copy>(
     let count = queue.added.len();
     let mut known = 0;
     for _ in 0..count {
-        spend(&mut problem.work, 1);
+        spend(&mut problem.allowance, 1);
         let place = at(&queue.added, known, NOT_ADDED).next;
         let found = at(&queue.added, place, NOT_ADDED);
         if place >= count {
@@ -386,20 +386,20 @@ fn add_all_gone<A: Allocator + Copy>(
     Ok(())
 }
 
-/// Whether the addition may be what the row at the place takes: neither is it not kept, nor did it begin too late.
+/// Whether the addition may be what the row at the place takes: its row may commit, and stand before that one.
 fn may_be_taken(queue_rows: &[usize], spans: &[Span], adder: usize, place: usize) -> bool {
     let row = at(queue_rows, adder, 0);
     let taker = at(queue_rows, place, 0);
-    span_of(spans, row).kept != FALSE && before(spans, row, taker) != FALSE
+    span_of(spans, row).commits != FALSE && before(spans, row, taker) != FALSE
 }
 
 /// The additions that the row may take the value from: first its own ones before, then those of others.
 fn find_items<A: Allocator + Copy>(
-    found: &mut Vec<Held, A>,
-    queue: &Queue<A>,
+    found: &mut Vec<Holding, A>,
+    queue: &QueueUse<A>,
     spans: &[Span],
-    own: &[Move],
-    asked: Asked,
+    own: &[PlacedOp],
+    asked: Demand,
     value: i64,
 ) -> Result<(), OutOfMemory> {
     let mut index: u32 = 0;
@@ -407,10 +407,10 @@ fn find_items<A: Allocator + Copy>(
         if known.number >= asked.number {
             break;
         }
-        if let Deed::Adds(added) = known.deed {
+        if let QueueOp::Adds(added) = known.op {
             if added == value {
                 let place = asked.place;
-                found.push(Held {
+                found.push(Holding {
                     value,
                     place,
                     index,
@@ -429,14 +429,14 @@ fn find_items<A: Allocator + Copy>(
     Ok(())
 }
 
-/// An addition that is taken stands before the taker, is kept, and as many are taken before as were added before it.
+/// An addition that is taken stands before the taker, commits, and as many are taken before as were added before it.
 fn add_item<A: Allocator + Copy>(
-    queue: &Queue<A>,
-    ended: &Ended<A>,
-    beside: &Beside<A>,
+    queue: &QueueUse<A>,
+    ended: &EndedTotals<A>,
+    concurrent: &Concurrent<A>,
     problem: &mut Problem<A>,
-    asked: Asked,
-    held: Held,
+    asked: Demand,
+    held: Holding,
     literal: u32,
     item: u32,
 ) -> Result<(), OutOfMemory> {
@@ -453,27 +453,31 @@ fn add_item<A: Allocator + Copy>(
             sums,
             decided,
             spans,
-            beside,
+            concurrent,
             rows,
             &queue.both,
             place,
             usize::MAX,
         )?;
-        return end_sum(sums, from, literal, wanted, Cause::Place(item));
+        return end_sum(sums, from, literal, wanted, Origin::Place(item));
     }
     let row = at(rows, adder, 0);
     let stands = before(spans, row, asked.take.row);
     ask(decided, stands);
-    let cause = Cause::ItemStands(item);
-    add_clause(clauses, cause, &[neg(literal), stands])?;
-    add_clause(clauses, cause, &[neg(literal), span_of(spans, row).kept])?;
+    let origin = Origin::ItemStands(item);
+    add_clause(clauses, origin, &[neg(literal), stands])?;
+    add_clause(
+        clauses,
+        origin,
+        &[neg(literal), span_of(spans, row).commits],
+    )?;
     wanted = wanted.wrapping_sub(at(&ended.takes, place, 0));
     wanted = wanted.wrapping_sub(at(&ended.adds, adder, 0));
     add_terms(
         sums,
         decided,
         spans,
-        beside,
+        concurrent,
         rows,
         &queue.takes,
         place,
@@ -483,17 +487,17 @@ fn add_item<A: Allocator + Copy>(
         sums,
         decided,
         spans,
-        beside,
+        concurrent,
         rows,
         &queue.adds,
         adder,
         place,
     )?;
-    end_sum(sums, from, literal, wanted, Cause::Place(item))
+    end_sum(sums, from, literal, wanted, Origin::Place(item))
 }
 
 /// Which of the additions is tried first: the first that took effect before the taker did.
-fn favoured(found: &[Held], queue_rows: &[usize], spans: &[Span], row: usize) -> usize {
+fn favoured(found: &[Holding], queue_rows: &[usize], spans: &[Span], row: usize) -> usize {
     let own = instant(span_of(spans, row), 15);
     for (index, held) in found.iter().enumerate() {
         if instant(span_of(spans, at(queue_rows, held.place, 0)), 15) <= own {
@@ -506,16 +510,16 @@ fn favoured(found: &[Held], queue_rows: &[usize], spans: &[Span], row: usize) ->
 /// Adds what a take of the value asks.
 fn add_take<A: Allocator + Copy>(
     alloc: A,
-    queue: &mut Queue<A>,
-    ended: &Ended<A>,
-    beside: &Beside<A>,
+    queue: &mut QueueUse<A>,
+    ended: &EndedTotals<A>,
+    concurrent: &Concurrent<A>,
     problem: &mut Problem<A>,
-    own: &[Move],
-    asked: Asked,
+    own: &[PlacedOp],
+    asked: Demand,
     value: i64,
 ) -> Result<(), OutOfMemory> {
     let mut found = Vec::new(alloc);
-    spend(&mut problem.work, own.len());
+    spend(&mut problem.allowance, own.len());
     find_items(&mut found, queue, &problem.spans, own, asked, value)?;
     let best = favoured(&found, &queue.rows, &problem.spans, asked.take.row);
     let take = short(problem.items.takes.len());
@@ -533,21 +537,23 @@ fn add_take<A: Allocator + Copy>(
         let role = Role::Item(item);
         let literal = add_variable(&mut problem.variables, role, index == best, true)?;
         clause.push(literal)?;
-        add_item(queue, ended, beside, problem, asked, *held, literal, item)?;
+        add_item(
+            queue, ended, concurrent, problem, asked, *held, literal, item,
+        )?;
         add_all_gone(alloc, queue, problem, own, asked, held.place, literal, item)?;
     }
-    add_clause(&mut problem.clauses, Cause::Items(take), &clause)
+    add_clause(&mut problem.clauses, Origin::Items(take), &clause)
 }
 
 /// Adds what it asks that the queue is seen empty.
 fn add_empty<A: Allocator + Copy>(
     alloc: A,
-    queue: &mut Queue<A>,
-    ended: &Ended<A>,
-    beside: &Beside<A>,
+    queue: &mut QueueUse<A>,
+    ended: &EndedTotals<A>,
+    concurrent: &Concurrent<A>,
     problem: &mut Problem<A>,
-    own: &[Move],
-    asked: Asked,
+    own: &[PlacedOp],
+    asked: Demand,
 ) -> Result<(), OutOfMemory> {
     let spans = &problem.spans[..];
     let (sums, decided) = (&mut problem.sums, &mut problem.variables.decided);
@@ -560,25 +566,25 @@ fn add_empty<A: Allocator + Copy>(
         sums,
         decided,
         spans,
-        beside,
+        concurrent,
         &queue.rows,
         both,
         place,
         usize::MAX,
     )?;
-    let cause = Cause::Empty(short(asked.take.row), asked.take.object, asked.number);
-    end_sum(sums, from, TRUE, wanted, cause)?;
+    let origin = Origin::Empty(short(asked.take.row), asked.take.object, asked.number);
+    end_sum(sums, from, TRUE, wanted, origin)?;
     add_all_gone(alloc, queue, problem, own, asked, place, TRUE, NONE)
 }
 
-/// Adds what the moves of one row ask.
+/// Adds what the operations of one row ask.
 fn add_row<A: Allocator + Copy>(
     alloc: A,
-    queue: &mut Queue<A>,
-    ended: &Ended<A>,
-    beside: &Beside<A>,
+    queue: &mut QueueUse<A>,
+    ended: &EndedTotals<A>,
+    concurrent: &Concurrent<A>,
     problem: &mut Problem<A>,
-    own: &[Move],
+    own: &[PlacedOp],
     object: u16,
 ) -> Result<(), OutOfMemory> {
     let (mut taken, mut added): (i64, i64) = (0, 0);
@@ -587,13 +593,13 @@ fn add_row<A: Allocator + Copy>(
             break;
         }
         let row = at(&queue.rows, found.place, 0);
-        let is_empty = found.deed == Deed::SeesEmpty;
+        let is_empty = found.op == QueueOp::SeesEmpty;
         let number = if is_empty {
             found.number
         } else {
             (taken & 0xffff_ffff) as u32
         };
-        let asked = Asked {
+        let asked = Demand {
             take: TakeOf {
                 row,
                 object,
@@ -604,23 +610,23 @@ fn add_row<A: Allocator + Copy>(
             taken,
             added,
         };
-        match found.deed {
-            Deed::Adds(_) => added = added.wrapping_add(1),
-            Deed::Takes(value) => {
-                add_take(alloc, queue, ended, beside, problem, own, asked, value)?;
+        match found.op {
+            QueueOp::Adds(_) => added = added.wrapping_add(1),
+            QueueOp::Takes(value) => {
+                add_take(alloc, queue, ended, concurrent, problem, own, asked, value)?;
                 taken = taken.wrapping_add(1);
             }
-            Deed::SeesEmpty => {
-                add_empty(alloc, queue, ended, beside, problem, own, asked)?;
+            QueueOp::SeesEmpty => {
+                add_empty(alloc, queue, ended, concurrent, problem, own, asked)?;
             }
         }
     }
     Ok(())
 }
 
-/// The queue of these rows, before its moves are read.
-fn queue_of<A: Allocator + Copy>(alloc: A, rows: Vec<usize, A>) -> Queue<A> {
-    Queue {
+/// The queue of these rows, before its operations are read.
+fn queue_of<A: Allocator + Copy>(alloc: A, rows: Vec<usize, A>) -> QueueUse<A> {
+    QueueUse {
         rows,
         takes: Vec::new(alloc),
         adds: Vec::new(alloc),
@@ -631,67 +637,67 @@ fn queue_of<A: Allocator + Copy>(alloc: A, rows: Vec<usize, A>) -> Queue<A> {
     }
 }
 
-/// Reads the moves.
+/// Reads the operations.
 fn read_queue<A: Allocator + Copy>(
-    queue: &mut Queue<A>,
+    queue: &mut QueueUse<A>,
     spans: &[Span],
-    moves: &[Move],
+    ops: &[PlacedOp],
 ) -> Result<(), OutOfMemory> {
     let count = queue.rows.len();
     crate::items::fill(&mut queue.takes, count, 0)?;
     crate::items::fill(&mut queue.adds, count, 0)?;
-    read_adders(&mut queue.adders, moves)?;
-    read_takers(&mut queue.takers, &queue.rows, spans, moves)?;
+    read_adders(&mut queue.adders, ops)?;
+    read_takers(&mut queue.takers, &queue.rows, spans, ops)?;
     let (takes, adds) = (&mut queue.takes, &mut queue.adds);
-    count_moves(takes, adds, &queue.rows, spans, moves);
+    count_ops(takes, adds, &queue.rows, spans, ops);
     for place in 0..count {
         let both = at(&queue.takes, place, 0).wrapping_add(at(&queue.adds, place, 0));
         queue.both.push(both)?;
     }
-    list_added(queue, spans, moves)
+    list_added(queue, spans, ops)
 }
 
 /// Adds up what ended before each row.
 fn read_ended<A: Allocator + Copy>(
-    ended: &mut Ended<A>,
-    queue: &Queue<A>,
-    beside: &Beside<A>,
+    ended: &mut EndedTotals<A>,
+    queue: &QueueUse<A>,
+    concurrent: &Concurrent<A>,
     spans: &[Span],
 ) -> Result<(), OutOfMemory> {
-    let (rows, places) = (&queue.rows[..], &beside.ended[..]);
+    let (rows, places) = (&queue.rows[..], &concurrent.ended[..]);
     sum_ended(&mut ended.takes, places, spans, rows, &queue.takes)?;
     sum_ended(&mut ended.adds, places, spans, rows, &queue.adds)?;
     sum_ended(&mut ended.both, places, spans, rows, &queue.both)
 }
 
-/// Adds a queue: the rows that touch it, and their moves in the order of the rows and of their blocks.
+/// Adds a queue: the rows that touch it, and their operations in the order of the rows and of their blocks.
 pub(crate) fn add_queue<A: Allocator + Copy>(
     alloc: A,
     problem: &mut Problem<A>,
-    beside: &mut Beside<A>,
+    concurrent: &mut Concurrent<A>,
     object: u16,
     rows: Vec<usize, A>,
-    moves: &[Move],
+    ops: &[PlacedOp],
 ) -> Result<(), OutOfMemory> {
     let mut queue = queue_of(alloc, rows);
-    read_queue(&mut queue, &problem.spans, moves)?;
-    find_beside(beside, &problem.spans, &queue.rows)?;
-    let mut ended = Ended {
+    read_queue(&mut queue, &problem.spans, ops)?;
+    find_concurrent(concurrent, &problem.spans, &queue.rows)?;
+    let mut ended = EndedTotals {
         takes: Vec::new(alloc),
         adds: Vec::new(alloc),
         both: Vec::new(alloc),
     };
-    read_ended(&mut ended, &queue, beside, &problem.spans)?;
+    read_ended(&mut ended, &queue, concurrent, &problem.spans)?;
     let mut from = 0;
-    for place in 0..moves.len() {
+    for place in 0..ops.len() {
         let next = place.wrapping_add(1);
-        let is_last = match moves.get(next) {
-            Some(other) => other.place != moves[place].place,
+        let is_last = match ops.get(next) {
+            Some(other) => other.place != ops[place].place,
             None => true,
         };
         if is_last {
-            let own = between(moves, from, next);
-            add_row(alloc, &mut queue, &ended, beside, problem, own, object)?;
+            let own = between(ops, from, next);
+            add_row(alloc, &mut queue, &ended, concurrent, problem, own, object)?;
             from = next;
         }
     }

@@ -1,22 +1,24 @@
 //! Reads what the transactions of a history ask of an order.
 
-use crate::cells::{Need, Touch, add_cell, sort_parts};
-use crate::draft::{Cause, add_pairs};
+use crate::cells::{Touch, add_cell, sort_parts};
+use crate::draft::{Origin, add_pairs};
 use crate::items::{TRUE, at, between, short};
-use crate::problem::{Problem, Work, is_large, sort_uses, spend};
-use crate::queues::{Deed, Move, add_queue};
+use crate::problem::{Allowance, Problem, is_large, sort_uses, spend};
+use crate::queues::{PlacedOp, QueueOp, add_queue};
 use crate::spans::{NOBODY, Span, count_pairs, spans_of};
-use crate::sums::{Beside, add_terms, end_sum, find_beside, sum_ended};
+use crate::sums::{Concurrent, add_terms, end_sum, find_concurrent, sum_ended};
 use aud_event::{Answer, ObjDecl, ObjKind, Op, OutOfMemory};
 use aud_history::TxRow;
 use aud_order::Shape;
-use search_model::{Cell, added_item, asks, cell_of, count_change, count_seen, puts, taken_item};
+use search_model::{
+    Cell, Need, added_item, asks, cell_of, count_change, count_seen, meets, puts, taken_item,
+};
 use std::alloc::{Allocator, Global};
 
 /// What a history asks: an order, as a problem, or nothing, as one transaction contradicts itself on a cell, or more than there is room
 /// for.
 #[derive(Drop)]
-pub(crate) enum Asked<A: Allocator + Copy> {
+pub(crate) enum Encoded<A: Allocator + Copy> {
     Problem(Problem<A>),
     Block(u32, u16, Cell),
     Large,
@@ -39,13 +41,6 @@ struct Count {
     row: usize,
     need: Option<i64>,
     gain: i64,
-}
-
-/// What an execution tells of its cell: what it sees, and what it leaves where it changes it.
-#[derive(Clone, Copy)]
-struct Seen {
-    sees: Option<Need>,
-    leaves: Option<Option<i64>>,
 }
 
 /// The element or the key that the operation is about.
@@ -86,51 +81,34 @@ fn read_uses<A: Allocator + Copy>(
     Ok(())
 }
 
-/// What the cell has to hold.
-fn need_of(need: search_model::Need) -> Need {
-    let (value, differs) = match need {
-        search_model::Need::Absent => (None, false),
-        search_model::Need::Present => (None, true),
-        search_model::Need::Holding(value) => (Some(value), false),
-    };
-    Need { value, differs }
-}
-
-/// What the execution tells of the cell.
-fn seen_by(cell: Cell, op: Op, answer: Answer) -> Seen {
-    let sees = match asks(cell, op, answer) {
-        Some(need) => Some(need_of(need)),
-        None => None,
-    };
-    Seen {
-        sees,
-        leaves: puts(cell, op, answer),
+/// What the cell holds that is as it is needed, where that is one thing.
+fn content_of(need: Need) -> Option<Option<i64>> {
+    match need {
+        Need::Absent => Some(None),
+        Need::Present => None,
+        Need::Holding(value) => Some(Some(value)),
     }
 }
 
-/// Adds what the execution tells to what its transaction did before. False where it contradicts that. The value is what the transaction
-/// knows to be in the cell.
-fn add_seen(touch: &mut Touch, value: &mut Option<Option<i64>>, seen: Seen) -> bool {
-    if let Some(need) = seen.sees {
-        match *value {
-            Some(known) => {
-                if (known == need.value) == need.differs {
-                    return false;
-                }
-            }
-            None => {
-                touch.need = Some(need);
-                if !need.differs {
-                    *value = Some(need.value);
-                }
-            }
+/// Adds what an execution needs of the cell, if it does. False where the content, as far as the transaction knows it, is another one.
+fn add_need(touch: &mut Touch, content: &mut Option<Option<i64>>, need: Option<Need>) -> bool {
+    match (need, *content) {
+        (Some(need), Some(known)) => return meets(need, known),
+        (Some(need), None) => {
+            touch.need = Some(need);
+            *content = content_of(need);
         }
-    }
-    if seen.leaves.is_some() {
-        touch.leaves = seen.leaves;
-        *value = seen.leaves;
+        (None, _) => {}
     }
     true
+}
+
+/// Adds what an execution leaves in the cell, if it changes it.
+fn add_left(touch: &mut Touch, content: &mut Option<Option<i64>>, left: Option<Option<i64>>) {
+    if left.is_some() {
+        touch.leaves = left;
+        *content = left;
+    }
 }
 
 /// What each row does with a cell, by its executions there; or the row that contradicts itself.
@@ -139,7 +117,7 @@ fn read_touches<A: Allocator + Copy>(
     uses: &[Use],
     kind: ObjKind,
 ) -> Result<Option<usize>, OutOfMemory> {
-    let mut value = None;
+    let mut content = None;
     for found in uses {
         let is_same = match touches.last() {
             Some(last) => last.row == found.row,
@@ -151,14 +129,16 @@ fn read_touches<A: Allocator + Copy>(
                 need: None,
                 leaves: None,
             })?;
-            value = None;
+            content = None;
         }
-        let seen = seen_by(part_of(kind, found.key), found.op, found.answer);
+        let cell = part_of(kind, found.key);
+        let need = asks(cell, found.op, found.answer);
         let last = touches.len().wrapping_sub(1);
         if let Some(touch) = touches.get_mut(last) {
-            if !add_seen(touch, &mut value, seen) {
+            if !add_need(touch, &mut content, need) {
                 return Ok(Some(found.row));
             }
+            add_left(touch, &mut content, puts(cell, found.op, found.answer));
         }
     }
     Ok(None)
@@ -213,11 +193,11 @@ fn count_members<A: Allocator + Copy>(
 ) -> Result<(), OutOfMemory> {
     for touch in touches {
         let need = match touch.need {
-            Some(need) => Some(i64::from(need.value.is_some())),
+            Some(need) => Some(i64::from(need != Need::Absent)),
             None => None,
         };
         let gain = match (touch.need, touch.leaves) {
-            (Some(need), Some(left)) if need.value != left => if left.is_some() { 1 } else { -1 },
+            (Some(need), Some(left)) if !meets(need, left) => if left.is_some() { 1 } else { -1 },
             _ => 0,
         };
         counts.push(Count {
@@ -232,7 +212,7 @@ fn count_members<A: Allocator + Copy>(
 /// Adds a sum for each reader of a counter, or of an element of a set, as far as there is room.
 fn add_all_sums<A: Allocator + Copy>(
     problem: &mut Problem<A>,
-    beside: &Beside<A>,
+    concurrent: &Concurrent<A>,
     counts: &[Count],
     named: (u16, Option<i64>),
     opening: i64,
@@ -246,13 +226,13 @@ fn add_all_sums<A: Allocator + Copy>(
             break;
         }
         let row = short(count.row);
-        let cause = match named.1 {
-            Some(element) => Cause::Element(row, named.0, element),
-            None => Cause::Counter(row, named.0),
+        let origin = match named.1 {
+            Some(element) => Origin::Element(row, named.0, element),
+            None => Origin::Counter(row, named.0),
         };
         let wanted = need.saturating_sub(opening);
         let wanted = wanted.saturating_sub(at(&tables.ended, place, 0));
-        add_sum(problem, beside, tables, place, wanted, cause)?;
+        add_sum(problem, concurrent, tables, place, wanted, origin)?;
     }
     Ok(())
 }
@@ -268,24 +248,36 @@ struct Tables<A: Allocator + Copy = Global> {
 /// Adds the sum of what stands before the row at the place.
 fn add_sum<A: Allocator + Copy>(
     problem: &mut Problem<A>,
-    beside: &Beside<A>,
+    concurrent: &Concurrent<A>,
     tables: &Tables<A>,
     place: usize,
     wanted: i64,
-    cause: Cause,
+    origin: Origin,
 ) -> Result<(), OutOfMemory> {
     let (sums, decided) = (&mut problem.sums, &mut problem.variables.decided);
     let from = sums.terms.len();
     let (rows, gains, spans) = (&tables.rows[..], &tables.gains[..], &problem.spans[..]);
-    add_terms(sums, decided, spans, beside, rows, gains, place, usize::MAX)?;
-    spend(&mut problem.work, sums.terms.len().saturating_sub(from));
-    end_sum(sums, from, TRUE, wanted, cause)
+    add_terms(
+        sums,
+        decided,
+        spans,
+        concurrent,
+        rows,
+        gains,
+        place,
+        usize::MAX,
+    )?;
+    spend(
+        &mut problem.allowance,
+        sums.terms.len().saturating_sub(from),
+    );
+    end_sum(sums, from, TRUE, wanted, origin)
 }
 
 /// Reads the tables of the counts.
 fn read_tables<A: Allocator + Copy>(
     tables: &mut Tables<A>,
-    beside: &mut Beside<A>,
+    concurrent: &mut Concurrent<A>,
     spans: &[Span],
     counts: &[Count],
 ) -> Result<(), OutOfMemory> {
@@ -293,16 +285,16 @@ fn read_tables<A: Allocator + Copy>(
         tables.rows.push(count.row)?;
         tables.gains.push(count.gain)?;
     }
-    find_beside(beside, spans, &tables.rows)?;
+    find_concurrent(concurrent, spans, &tables.rows)?;
     let (rows, gains) = (&tables.rows[..], &tables.gains[..]);
-    sum_ended(&mut tables.ended, &beside.ended, spans, rows, gains)
+    sum_ended(&mut tables.ended, &concurrent.ended, spans, rows, gains)
 }
 
 /// Adds what is asked of a counter, or of an element of a set.
 fn add_counts<A: Allocator + Copy>(
     alloc: A,
     problem: &mut Problem<A>,
-    beside: &mut Beside<A>,
+    concurrent: &mut Concurrent<A>,
     counts: &[Count],
     named: (u16, Option<i64>),
     opening: i64,
@@ -312,24 +304,24 @@ fn add_counts<A: Allocator + Copy>(
         gains: Vec::new(alloc),
         ended: Vec::new(alloc),
     };
-    read_tables(&mut tables, beside, &problem.spans, counts)?;
-    add_all_sums(problem, beside, counts, named, opening, &tables)
+    read_tables(&mut tables, concurrent, &problem.spans, counts)?;
+    add_all_sums(problem, concurrent, counts, named, opening, &tables)
 }
 
 /// What the execution does to its queue.
-fn deed_of(op: Op, answer: Answer) -> Deed {
+fn queue_op_of(op: Op, answer: Answer) -> QueueOp {
     if let Some(value) = added_item(op) {
-        return Deed::Adds(value);
+        return QueueOp::Adds(value);
     }
     match taken_item(op, answer) {
-        Some(value) => Deed::Takes(value),
-        None => Deed::SeesEmpty,
+        Some(value) => QueueOp::Takes(value),
+        None => QueueOp::SeesEmpty,
     }
 }
 
-/// The moves of the rows on a queue, and the rows.
+/// The operations of the rows on a queue, and the rows.
 fn read_queue_uses<A: Allocator + Copy>(
-    moves: &mut Vec<Move, A>,
+    ops: &mut Vec<PlacedOp, A>,
     rows: &mut Vec<usize, A>,
     uses: &[Use],
 ) -> Result<(), OutOfMemory> {
@@ -341,11 +333,11 @@ fn read_queue_uses<A: Allocator + Copy>(
         if !is_same {
             rows.push(found.row)?;
         }
-        let deed = deed_of(found.op, found.answer);
-        moves.push(Move {
+        let op = queue_op_of(found.op, found.answer);
+        ops.push(PlacedOp {
             place: rows.len().wrapping_sub(1),
             number: short(found.number),
-            deed,
+            op,
         })?;
     }
     Ok(())
@@ -355,27 +347,34 @@ fn read_queue_uses<A: Allocator + Copy>(
 fn add_queue_uses<A: Allocator + Copy>(
     alloc: A,
     problem: &mut Problem<A>,
-    beside: &mut Beside<A>,
+    concurrent: &mut Concurrent<A>,
     uses: &[Use],
     object: u16,
 ) -> Result<(), OutOfMemory> {
     let mut rows = Vec::new(alloc);
-    let mut moves = Vec::new(alloc);
-    read_queue_uses(&mut moves, &mut rows, uses)?;
-    add_queue(alloc, problem, beside, object, rows, &moves)
+    let mut ops = Vec::new(alloc);
+    read_queue_uses(&mut ops, &mut rows, uses)?;
+    add_queue(alloc, problem, concurrent, object, rows, &ops)
 }
 
 /// Adds what is asked of an element of a set.
 fn add_members<A: Allocator + Copy>(
     alloc: A,
     problem: &mut Problem<A>,
-    beside: &mut Beside<A>,
+    concurrent: &mut Concurrent<A>,
     touches: &[Touch],
     named: (u16, i64),
 ) -> Result<(), OutOfMemory> {
     let mut counts = Vec::new(alloc);
     count_members(&mut counts, touches)?;
-    add_counts(alloc, problem, beside, &counts, (named.0, Some(named.1)), 0)
+    add_counts(
+        alloc,
+        problem,
+        concurrent,
+        &counts,
+        (named.0, Some(named.1)),
+        0,
+    )
 }
 
 /// Adds what is asked of a cell of a register or a map.
@@ -398,7 +397,7 @@ fn add_values<A: Allocator + Copy>(
 fn add_cell_uses<A: Allocator + Copy>(
     alloc: A,
     problem: &mut Problem<A>,
-    beside: &mut Beside<A>,
+    concurrent: &mut Concurrent<A>,
     uses: &[Use],
     named: (u16, i64),
     declared: (ObjKind, i64),
@@ -409,7 +408,7 @@ fn add_cell_uses<A: Allocator + Copy>(
         return Ok(refused);
     }
     if declared.0 == ObjKind::SetOf {
-        add_members(alloc, problem, beside, &touches, named)?;
+        add_members(alloc, problem, concurrent, &touches, named)?;
     } else {
         add_values(alloc, problem, &touches, named, declared)?;
     }
@@ -420,7 +419,7 @@ fn add_cell_uses<A: Allocator + Copy>(
 fn add_uses<A: Allocator + Copy>(
     alloc: A,
     problem: &mut Problem<A>,
-    beside: &mut Beside<A>,
+    concurrent: &mut Concurrent<A>,
     uses: &[Use],
     named: (u16, i64),
     declared: (ObjKind, i64),
@@ -430,15 +429,22 @@ fn add_uses<A: Allocator + Copy>(
             let mut counts = Vec::new(alloc);
             let refused = read_counts(&mut counts, uses)?;
             if refused.is_none() {
-                add_counts(alloc, problem, beside, &counts, (named.0, None), declared.1)?;
+                add_counts(
+                    alloc,
+                    problem,
+                    concurrent,
+                    &counts,
+                    (named.0, None),
+                    declared.1,
+                )?;
             }
             Ok(refused)
         }
         ObjKind::Queue => {
-            add_queue_uses(alloc, problem, beside, uses, named.0)?;
+            add_queue_uses(alloc, problem, concurrent, uses, named.0)?;
             Ok(None)
         }
-        _ => add_cell_uses(alloc, problem, beside, uses, named, declared),
+        _ => add_cell_uses(alloc, problem, concurrent, uses, named, declared),
     }
 }
 
@@ -457,7 +463,7 @@ fn add_all<A: Allocator + Copy>(
     objects: &[ObjDecl<A>],
     uses: &[Use],
 ) -> Result<Option<Use>, OutOfMemory> {
-    let mut beside = Beside::empty(alloc);
+    let mut concurrent = Concurrent::empty(alloc);
     let mut from = 0;
     for (place, found) in uses.iter().enumerate() {
         let next = place.wrapping_add(1);
@@ -469,7 +475,7 @@ fn add_all<A: Allocator + Copy>(
         }
         let own = between(uses, from, next);
         let declared = declared_as(objects, found.object);
-        let refused = add_uses(alloc, problem, &mut beside, own, named, declared)?;
+        let refused = add_uses(alloc, problem, &mut concurrent, own, named, declared)?;
         if let Some(row) = refused {
             return Ok(Some(Use { row, ..*found }));
         }
@@ -501,21 +507,21 @@ fn add_history<A: Allocator + Copy>(
 pub(crate) fn read<A: Allocator + Copy>(
     alloc: A,
     shape: &Shape<A>,
-    work: Work,
-) -> Result<Asked<A>, OutOfMemory> {
+    allowance: Allowance,
+) -> Result<Encoded<A>, OutOfMemory> {
     let spans = spans_of(alloc, shape.table().rows())?;
-    if count_pairs(&spans).saturating_mul(100) > work.bytes {
-        return Ok(Asked::Large);
+    if count_pairs(&spans).saturating_mul(100) > allowance.bytes {
+        return Ok(Encoded::Large);
     }
-    let mut problem = Problem::of(alloc, spans, work);
+    let mut problem = Problem::of(alloc, spans, allowance);
     let refused = add_history(alloc, &mut problem, shape)?;
     if let Some(found) = refused {
         let tx = at(&problem.spans, found.row, NOBODY).tx;
         let (kind, _) = declared_as(shape.plan().objects(), found.object);
-        return Ok(Asked::Block(tx, found.object, part_of(kind, found.key)));
+        return Ok(Encoded::Block(tx, found.object, part_of(kind, found.key)));
     }
     if is_large(&problem) {
-        return Ok(Asked::Large);
+        return Ok(Encoded::Large);
     }
-    Ok(Asked::Problem(problem))
+    Ok(Encoded::Problem(problem))
 }

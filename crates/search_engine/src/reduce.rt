@@ -2,14 +2,14 @@
 
 use crate::draft::{CAUSE, Clauses, LEVELS, LINK, LITERALS};
 use crate::items::{NONE, at, set, short, var};
-use crate::known::{Ground, Known, State, UNKNOWN};
+use crate::known::{Assigned, Ground, Known, UNKNOWN};
 use crate::visits::watch_all;
 use aud_event::OutOfMemory;
 use std::alloc::Allocator;
 
 /// A learned clause by its use: the fewer levels and literals the better.
 #[derive(Clone, Copy, PartialEq, Eq, PartialOrd, Ord)]
-struct Rank {
+struct ClauseRank {
     levels: u32,
     length: u32,
     clause: u32,
@@ -29,7 +29,7 @@ fn set_word(arena: &mut [u32], clause: u32, which: usize, to: u32) {
 fn mark<A: Allocator + Copy>(alloc: A, clauses: &mut Clauses<A>) -> Result<(), OutOfMemory> {
     let mut ranks = Vec::new(alloc);
     for clause in clauses.learned.iter() {
-        ranks.push(Rank {
+        ranks.push(ClauseRank {
             levels: word(&clauses.arena, *clause, LEVELS),
             length: word(&clauses.arena, *clause, 0),
             clause: *clause,
@@ -55,7 +55,7 @@ fn next_clause(arena: &[u32], clause: u32) -> u32 {
 }
 
 /// Notes in each clause which variable it is the ground of, or none.
-fn note_grounds(arena: &mut [u32], trail: &[u32], states: &[State]) {
+fn note_grounds(arena: &mut [u32], trail: &[u32], states: &[Assigned]) {
     let mut clause: u32 = 0;
     for _ in 0..arena.len() {
         if clause as usize >= arena.len() {
@@ -72,7 +72,7 @@ fn note_grounds(arena: &mut [u32], trail: &[u32], states: &[State]) {
 }
 
 /// The clause moves to another place, and the variable that it is the ground of is told.
-fn move_clause(arena: &mut [u32], states: &mut [State], clause: u32, to: u32) {
+fn move_clause(arena: &mut [u32], states: &mut [Assigned], clause: u32, to: u32) {
     let variable = word(arena, clause, LINK) as usize;
     let mut state = at(states, variable, UNKNOWN);
     state.ground = Ground::Clause(to);
@@ -90,7 +90,7 @@ fn stays(arena: &[u32], clause: u32) -> bool {
 }
 
 /// Moves the clauses together that stay, and gives where they end.
-fn pack(arena: &mut [u32], states: &mut [State]) -> u32 {
+fn pack(arena: &mut [u32], states: &mut [Assigned]) -> u32 {
     let mut clause: u32 = 0;
     let mut to: u32 = 0;
     for _ in 0..arena.len() {

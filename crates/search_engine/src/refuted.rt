@@ -1,15 +1,15 @@
 //! Refutations from the steps of a search.
 
 use crate::cells::{NO_CELL, NO_READER, NO_SOURCE, NO_WRITER};
-use crate::draft::{Cause, Role};
+use crate::draft::{Origin, Role};
 use crate::items::{NONE, at, between, fill, set, short, var};
-use crate::log::{Logged, NOT_LOGGED, Steps, Why};
+use crate::log::{Logged, NOT_LOGGED, StepLog, Why};
 use crate::problem::Problem;
 use crate::queues::{NO_ITEM, NO_TAKE, TakeOf};
 use crate::spans::span_of;
 use aud_event::OutOfMemory;
 use judge_clauses::{Atom, Literal, Read, Reason, Refutation, Step, Take};
-use judge_laws::{CellLaw, Front, ObjectLaw, QueueLaw, SumLaw};
+use judge_laws::{CellLaw, FrontItem, ObjectLaw, QueueLaw, SumLaw};
 use std::alloc::{Allocator, Global};
 
 /// The transaction of the row.
@@ -85,7 +85,7 @@ fn atom_of<A: Allocator + Copy>(problem: &Problem<A>, variable: usize) -> Atom {
 /// The law that what was added before is taken before.
 fn gone_of<A: Allocator + Copy>(problem: &Problem<A>, number: u32) -> Option<ObjectLaw> {
     let found = problem.items.gone.get(number as usize)?;
-    let front = Front {
+    let front = FrontItem {
         adder: tx_of(problem, found.row),
         value: found.value,
     };
@@ -98,53 +98,55 @@ fn gone_of<A: Allocator + Copy>(problem: &Problem<A>, number: u32) -> Option<Obj
     Some(ObjectLaw::Queue(QueueLaw::Gone(take, adder, addition, front)))
 }
 
-/// The law of the cause, if it is one of objects.
-fn law_of<A: Allocator + Copy>(problem: &Problem<A>, cause: Cause) -> Option<ObjectLaw> {
-    match cause {
-        Cause::Sources(reader) => Some(ObjectLaw::Cell(CellLaw::Sources(read_of(problem, reader)))),
-        Cause::SourceStands(source) => {
+/// The law of the origin, if it is one of objects.
+fn law_of<A: Allocator + Copy>(problem: &Problem<A>, origin: Origin) -> Option<ObjectLaw> {
+    match origin {
+        Origin::Sources(reader) => Some(ObjectLaw::Cell(CellLaw::Sources(read_of(
+            problem, reader,
+        )))),
+        Origin::SourceStands(source) => {
             let (read, writer) = source_of(problem, source);
             Some(ObjectLaw::Cell(CellLaw::SourceStands(read, writer?)))
         }
-        Cause::Between(source, other) => {
+        Origin::Between(source, other) => {
             let (read, writer) = source_of(problem, source);
             Some(ObjectLaw::Cell(CellLaw::Between(read, writer, writer_of(problem, other)?)))
         }
-        Cause::Counter(row, object) => Some(ObjectLaw::Sum(SumLaw::Counter(
+        Origin::Counter(row, object) => Some(ObjectLaw::Sum(SumLaw::Counter(
             tx_of(problem, row as usize),
             object,
         ))),
-        Cause::Remainder(row, object, modulus) => Some(ObjectLaw::Sum(SumLaw::Remainder(
+        Origin::Remainder(row, object, modulus) => Some(ObjectLaw::Sum(SumLaw::Remainder(
             tx_of(problem, row as usize),
             object,
             modulus,
         ))),
-        Cause::Element(row, object, element) => {
+        Origin::Element(row, object, element) => {
             Some(ObjectLaw::Sum(SumLaw::Element(tx_of(problem, row as usize), object, element)))
         }
-        Cause::Items(take) => {
+        Origin::Items(take) => {
             let found = at(&problem.items.takes, take as usize, NO_TAKE);
             Some(ObjectLaw::Queue(QueueLaw::Items(take_of(problem, found))))
         }
-        Cause::ItemStands(item) => {
+        Origin::ItemStands(item) => {
             let (take, adder, addition) = item_of(problem, item);
             Some(ObjectLaw::Queue(QueueLaw::ItemStands(take, adder, addition)))
         }
-        Cause::Place(item) => {
+        Origin::Place(item) => {
             let (take, adder, addition) = item_of(problem, item);
             Some(ObjectLaw::Queue(QueueLaw::Place(take, adder, addition)))
         }
-        Cause::Empty(row, object, place) => {
+        Origin::Empty(row, object, place) => {
             Some(ObjectLaw::Queue(QueueLaw::Empty(tx_of(problem, row as usize), object, place)))
         }
-        Cause::Gone(number) => gone_of(problem, number),
-        Cause::Circle(_, _, _, _) | Cause::Tried => None,
+        Origin::Gone(number) => gone_of(problem, number),
+        Origin::Circle(_, _, _, _) | Origin::Tried => None,
     }
 }
 
 /// The steps that the last one needs, with their numbers among these, and the numbers of the atoms.
 #[derive(Drop)]
-struct Numbers<A: Allocator + Copy = Global> {
+struct Renumbering<A: Allocator + Copy = Global> {
     steps: Vec<u32, A>,
     atoms: Vec<u32, A>,
 }
@@ -248,7 +250,7 @@ fn hints_of<A: Allocator + Copy>(
 fn reason_of<A: Allocator + Copy>(
     alloc: A,
     problem: &Problem<A>,
-    steps: &Steps<A>,
+    steps: &StepLog<A>,
     numbers: &[u32],
     why: Why,
 ) -> Result<Option<Reason<ObjectLaw, A>>, OutOfMemory> {
@@ -257,11 +259,11 @@ fn reason_of<A: Allocator + Copy>(
             let hints = between(&steps.hints, from, to);
             Ok(Some(Reason::Units(hints_of(alloc, hints, numbers)?)))
         }
-        Why::Cause(Cause::Circle(first, row, other, last)) => {
+        Why::Origin(Origin::Circle(first, row, other, last)) => {
             let rows = [first, row, other, last];
             Ok(Some(Reason::Circle(circle_of(alloc, problem, rows)?)))
         }
-        Why::Cause(cause) => match law_of(problem, cause) {
+        Why::Origin(origin) => match law_of(problem, origin) {
             Some(law) => Ok(Some(Reason::Law(law))),
             None => Ok(None),
         },
@@ -270,7 +272,7 @@ fn reason_of<A: Allocator + Copy>(
 
 /// Room for the numbers of steps and atoms.
 fn make_numbers<A: Allocator + Copy>(
-    numbers: &mut Numbers<A>,
+    numbers: &mut Renumbering<A>,
     steps: usize,
     variables: usize,
 ) -> Result<(), OutOfMemory> {
@@ -282,10 +284,10 @@ fn make_numbers<A: Allocator + Copy>(
 fn numbers_of<A: Allocator + Copy>(
     alloc: A,
     problem: &Problem<A>,
-    steps: &Steps<A>,
+    steps: &StepLog<A>,
     last: u32,
-) -> Result<Numbers<A>, OutOfMemory> {
-    let mut numbers = Numbers {
+) -> Result<Renumbering<A>, OutOfMemory> {
+    let mut numbers = Renumbering {
         steps: Vec::new(alloc),
         atoms: Vec::new(alloc),
     };
@@ -303,9 +305,9 @@ fn numbers_of<A: Allocator + Copy>(
 fn add_step<A: Allocator + Copy>(
     alloc: A,
     refutation: &mut Refutation<ObjectLaw, A>,
-    numbers: &mut Numbers<A>,
+    numbers: &mut Renumbering<A>,
     problem: &Problem<A>,
-    steps: &Steps<A>,
+    steps: &StepLog<A>,
     logged: Logged,
 ) -> Result<bool, OutOfMemory> {
     let literals = between(&steps.literals, logged.from, logged.to);
@@ -323,9 +325,9 @@ fn add_step<A: Allocator + Copy>(
 fn add_steps<A: Allocator + Copy>(
     alloc: A,
     refutation: &mut Refutation<ObjectLaw, A>,
-    numbers: &mut Numbers<A>,
+    numbers: &mut Renumbering<A>,
     problem: &Problem<A>,
-    steps: &Steps<A>,
+    steps: &StepLog<A>,
 ) -> Result<bool, OutOfMemory> {
     for (number, logged) in steps.steps.iter().enumerate() {
         if at(&numbers.steps, number, NONE) != NONE {
@@ -342,7 +344,7 @@ fn add_steps<A: Allocator + Copy>(
 pub(crate) fn refutation_of<A: Allocator + Copy>(
     alloc: A,
     problem: &Problem<A>,
-    steps: &Steps<A>,
+    steps: &StepLog<A>,
     last: u32,
 ) -> Result<Option<Refutation<ObjectLaw, A>>, OutOfMemory> {
     let mut numbers = numbers_of(alloc, problem, steps, last)?;

@@ -106,15 +106,15 @@ fn make_room_to_learn<A: Allocator + Copy>(
 ) -> Result<(), OutOfMemory> {
     make_heap(&mut solver.heap, count)?;
     make_marks(&mut solver.analysis, count)?;
-    let causes = solver.problem.clauses.causes.len();
-    make_log(&mut solver.log, count, causes)
+    let origins = solver.problem.clauses.origins.len();
+    make_log(&mut solver.log, count, origins)
 }
 
 /// Makes room.
 fn make_all_room<A: Allocator + Copy>(solver: &mut Solver<A>) -> Result<(), OutOfMemory> {
     let count = solver.problem.variables.roles.len();
     make_room(&mut solver.known, count)?;
-    solver.known.looks = solver.problem.work.looks;
+    solver.known.looks = solver.problem.allowance.looks;
     make_room_to_learn(solver, count)?;
     watch_all(&mut solver.problem.clauses, count.saturating_mul(2))
 }
@@ -271,7 +271,7 @@ fn unassign_from<A: Allocator + Copy>(
 }
 
 /// Goes back to the level.
-pub(crate) fn go_back<A: Allocator + Copy>(solver: &mut Solver<A>, level: u32) {
+pub(crate) fn backjump<A: Allocator + Copy>(solver: &mut Solver<A>, level: u32) {
     if solver.known.levels.len() <= level as usize {
         return;
     }
@@ -331,7 +331,7 @@ macro_rules! view_of {
             values: &$solver.known.values,
             states: &$solver.known.states,
             arena: &$solver.problem.clauses.arena,
-            causes: &$solver.problem.clauses.causes,
+            origins: &$solver.problem.clauses.origins,
             roles: &$solver.problem.variables.roles,
             spans: &$solver.problem.spans,
             cells: &$solver.problem.cells,
@@ -401,7 +401,7 @@ fn write_clause<A: Allocator + Copy>(solver: &mut Solver<A>) -> Result<u32, OutO
 
 /// The level to which the search goes back, where the clause forces a literal from that one on. Where that is far, it is one below the
 /// highest, and further with each conflict since the last decision: what was decided between stays.
-fn level_back<A: Allocator + Copy>(solver: &mut Solver<A>, level: u32, top: u32) -> u32 {
+fn backjump_level<A: Allocator + Copy>(solver: &mut Solver<A>, level: u32, top: u32) -> u32 {
     if solver.decisions > solver.at_conflict {
         solver.stride = 1;
     } else {
@@ -420,8 +420,8 @@ fn learn_clause<A: Allocator + Copy>(solver: &mut Solver<A>, top: u32) -> Result
     let level = make_clause(solver, top)?;
     let levels = count_levels(&mut solver.analysis, &solver.known.states);
     let step = write_clause(solver)?;
-    let to = level_back(solver, level, top);
-    go_back(solver, to);
+    let to = backjump_level(solver, level, top);
+    backjump(solver, to);
     add_learned(solver, levels, step, level)
 }
 
@@ -462,10 +462,10 @@ fn resolve<A: Allocator + Copy>(
         return Ok(Some(Found::Nothing));
     }
     if top == 1 && !solver.assumed.is_empty() {
-        go_back(solver, 0);
+        backjump(solver, 0);
         return Ok(Some(Found::NotAssumed));
     }
-    go_back(solver, top);
+    backjump(solver, top);
     learn_clause(solver, top)?;
     solver.heap.step /= 0.95;
     let_go(solver)?;
@@ -564,7 +564,7 @@ pub(crate) fn begin<A: Allocator + Copy>(solver: &mut Solver<A>) -> Result<bool,
 
 /// How far a search may go.
 #[derive(Clone, Copy)]
-pub(crate) struct Bounds {
+pub(crate) struct Limits {
     pub conflicts: u64,
     pub looks: u64,
     pub bytes: usize,
@@ -575,11 +575,11 @@ pub(crate) fn bytes_held<A: Allocator + Copy>(solver: &Solver<A>) -> usize {
     bytes_of(&solver.problem).saturating_add(bytes_logged(&solver.log.steps))
 }
 
-/// Whether the search is past its bounds.
-fn is_spent<A: Allocator + Copy>(solver: &Solver<A>, bounds: Bounds) -> bool {
-    solver.conflicts >= bounds.conflicts
-        || solver.known.looks >= bounds.looks
-        || bytes_held(solver) > bounds.bytes
+/// Whether the search is past its limits.
+fn is_spent<A: Allocator + Copy>(solver: &Solver<A>, limits: Limits) -> bool {
+    solver.conflicts >= limits.conflicts
+        || solver.known.looks >= limits.looks
+        || bytes_held(solver) > limits.bytes
 }
 
 /// The weight of the variable that would be decided next.
@@ -610,19 +610,19 @@ fn levels_kept(levels: &[usize], trail: &[u32], weights: &[f64], next: f64) -> u
 /// Goes back to where other variables would be decided now.
 fn begin_again<A: Allocator + Copy>(solver: &mut Solver<A>) {
     if !solver.assumed.is_empty() {
-        go_back(solver, 0);
+        backjump(solver, 0);
         return;
     }
     let next = next_weight(&mut solver.heap, &solver.known.values);
     let (levels, trail) = (&solver.known.levels[..], &solver.known.trail[..]);
     let level = levels_kept(levels, trail, &solver.heap.weights, next);
-    go_back(solver, level);
+    backjump(solver, level);
 }
 
-/// Searches within the bounds.
+/// Searches within the limits.
 pub(crate) fn search<A: Allocator + Copy>(
     solver: &mut Solver<A>,
-    bounds: Bounds,
+    limits: Limits,
 ) -> Result<Found, OutOfMemory> {
     for _ in 0..u64::MAX {
         let conflict = propagate(&mut solver.problem, &mut solver.known, &mut solver.closure);
@@ -632,7 +632,7 @@ pub(crate) fn search<A: Allocator + Copy>(
             }
             continue;
         }
-        if is_spent(solver, bounds) {
+        if is_spent(solver, limits) {
             let count = solver.known.count;
             note_best(solver, count)?;
             begin_again(solver);
@@ -641,7 +641,7 @@ pub(crate) fn search<A: Allocator + Copy>(
         if solver.known.levels.is_empty() && !solver.assumed.is_empty() {
             if !assume(solver)? {
                 solver.conflicts = solver.conflicts.wrapping_add(1);
-                go_back(solver, 0);
+                backjump(solver, 0);
                 return Ok(Found::NotAssumed);
             }
             continue;

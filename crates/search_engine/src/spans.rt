@@ -18,8 +18,8 @@ pub(crate) struct Span {
     pub end: usize,
     /// The variable of the pair with the next row. Those with the rows after it follow.
     pub base: usize,
-    /// The literal that it is kept.
-    pub kept: u32,
+    /// The literal that it commits.
+    pub commits: u32,
 }
 
 /// A transaction that does not matter.
@@ -30,7 +30,7 @@ pub(crate) const NOBODY: Span = Span {
     until: 0,
     end: 0,
     base: 0,
-    kept: FALSE,
+    commits: FALSE,
 };
 
 /// The row's span at the place, or one that does not matter.
@@ -77,14 +77,14 @@ fn first_after(spans: &[Span], stamp: u32) -> usize {
     low
 }
 
-/// The rows' spans. The literals that those are kept whose fates are open are still none.
+/// The rows' spans. The literals that those commit whose fates are open are still none.
 pub(crate) fn spans_of<A: Allocator + Copy>(
     alloc: A,
     rows: &[TxRow<A>],
 ) -> Result<Vec<Span, A>, OutOfMemory> {
     let mut spans = Vec::new(alloc);
     for row in rows {
-        let (last, kept) = match row.status() {
+        let (last, commits) = match row.status() {
             Status::Committed => (row.last(), TRUE),
             Status::Aborted => (row.last(), FALSE),
             Status::CommitPending => (NONE, NONE),
@@ -97,7 +97,7 @@ pub(crate) fn spans_of<A: Allocator + Copy>(
             until: row.last(),
             end: 0,
             base: 0,
-            kept,
+            commits,
         })?;
     }
     number_pairs(&mut spans);

@@ -1,6 +1,6 @@
 //! Sums: of those that stand before one, each changes a count, and what that sees is the sum.
 
-use crate::draft::{Cause, Variables, ask};
+use crate::draft::{Origin, Variables, ask};
 use crate::items::{FALSE, NONE, TRUE, at, fill, set, short, var};
 use crate::spans::{Span, before, span_of};
 use aud_event::OutOfMemory;
@@ -20,7 +20,7 @@ pub(crate) struct Term {
 /// If the guard holds, the terms sum up to what is wanted.
 #[derive(Clone, Copy)]
 pub(crate) struct Sum {
-    pub cause: Cause,
+    pub origin: Origin,
     pub guard: u32,
     pub from: usize,
     pub to: usize,
@@ -42,7 +42,7 @@ pub(crate) const NO_TERM: Term = Term {
 };
 
 pub(crate) const NO_SUM: Sum = Sum {
-    cause: Cause::Tried,
+    origin: Origin::Tried,
     guard: FALSE,
     from: 0,
     to: 0,
@@ -80,7 +80,7 @@ impl<A: Allocator + Copy> Sums<A> {
 
 /// For the rows that touch one object, in their order: which of them ran beside each one, and after which each one had ended.
 #[derive(Drop)]
-pub(crate) struct Beside<A: Allocator + Copy = Global> {
+pub(crate) struct Concurrent<A: Allocator + Copy = Global> {
     pub starts: Vec<usize, A>,
     pub others: Vec<usize, A>,
     /// The first of the rows that began after it ended.
@@ -88,10 +88,10 @@ pub(crate) struct Beside<A: Allocator + Copy = Global> {
     active: Vec<usize, A>,
 }
 
-impl<A: Allocator + Copy> Beside<A> {
+impl<A: Allocator + Copy> Concurrent<A> {
     /// Of no rows. It does not allocate.
-    pub(crate) fn empty(alloc: A) -> Beside<A> {
-        Beside {
+    pub(crate) fn empty(alloc: A) -> Concurrent<A> {
+        Concurrent {
             starts: Vec::new(alloc),
             others: Vec::new(alloc),
             ended: Vec::new(alloc),
@@ -123,38 +123,44 @@ fn let_end(
 }
 
 /// Finds which of the rows ran beside which.
-pub(crate) fn find_beside<A: Allocator + Copy>(
-    beside: &mut Beside<A>,
+pub(crate) fn find_concurrent<A: Allocator + Copy>(
+    concurrent: &mut Concurrent<A>,
     spans: &[Span],
     rows: &[usize],
 ) -> Result<(), OutOfMemory> {
-    beside.starts.clear();
-    beside.others.clear();
-    beside.ended.clear();
-    beside.active.clear();
-    fill(&mut beside.ended, rows.len(), rows.len())?;
+    concurrent.starts.clear();
+    concurrent.others.clear();
+    concurrent.ended.clear();
+    concurrent.active.clear();
+    fill(&mut concurrent.ended, rows.len(), rows.len())?;
     for place in 0..rows.len() {
-        let kept = let_end(&mut beside.active, &mut beside.ended, rows, spans, place);
-        beside.active.truncate(kept);
-        beside.starts.push(beside.others.len())?;
-        beside.others.extend_from_slice(&beside.active)?;
+        let kept = let_end(
+            &mut concurrent.active,
+            &mut concurrent.ended,
+            rows,
+            spans,
+            place,
+        );
+        concurrent.active.truncate(kept);
+        concurrent.starts.push(concurrent.others.len())?;
+        concurrent.others.extend_from_slice(&concurrent.active)?;
         let end = span_of(spans, rows[place]).end;
         for later in place.wrapping_add(1)..rows.len() {
             if rows[later] >= end {
                 break;
             }
-            beside.others.push(later)?;
+            concurrent.others.push(later)?;
         }
-        beside.active.push(place)?;
+        concurrent.active.push(place)?;
     }
-    beside.starts.push(beside.others.len())?;
+    concurrent.starts.push(concurrent.others.len())?;
     Ok(())
 }
 
-/// Adds what each of the rows gains that is kept to the place after which it had ended.
+/// Adds what each of the rows gains that commits to the place after which it had ended.
 fn add_gains(sums: &mut [i64], ended: &[usize], spans: &[Span], rows: &[usize], gains: &[i64]) {
     for place in 0..rows.len() {
-        if span_of(spans, rows[place]).kept == TRUE {
+        if span_of(spans, rows[place]).commits == TRUE {
             let first = at(ended, place, 0);
             let known = at(sums, first, 0);
             set(sums, first, known.wrapping_add(at(gains, place, 0)));
@@ -171,7 +177,7 @@ fn sum_up(sums: &mut [i64]) {
     }
 }
 
-/// For each of the rows what those add up to that had ended before it began and are kept.
+/// For each of the rows what those add up to that had ended before it began and commit.
 pub(crate) fn sum_ended<A: Allocator + Copy>(
     sums: &mut Vec<i64, A>,
     ended: &[usize],
@@ -186,7 +192,7 @@ pub(crate) fn sum_ended<A: Allocator + Copy>(
     Ok(())
 }
 
-/// Adds a term to the sum that is being made: the row stands before the other one, and is kept.
+/// Adds a term to the sum that is being made: the row stands before the other one, and commits.
 pub(crate) fn add_term<A: Allocator + Copy>(
     terms: &mut Vec<Term, A>,
     decided: &mut [bool],
@@ -196,17 +202,17 @@ pub(crate) fn add_term<A: Allocator + Copy>(
     row: usize,
     other: usize,
 ) -> Result<(), OutOfMemory> {
-    let kept = span_of(spans, row).kept;
+    let commits = span_of(spans, row).commits;
     let stands = before(spans, row, other);
-    if gain == 0 || kept == FALSE || stands == FALSE {
+    if gain == 0 || commits == FALSE || stands == FALSE {
         return Ok(());
     }
     ask(decided, stands);
     terms.push(Term {
         sum,
         gain,
-        literals: [stands, kept],
-        holding: u8::from(stands == TRUE).wrapping_add(u8::from(kept == TRUE)),
+        literals: [stands, commits],
+        holding: u8::from(stands == TRUE).wrapping_add(u8::from(commits == TRUE)),
         failing: 0,
     })?;
     Ok(())
@@ -217,7 +223,7 @@ pub(crate) fn add_terms<A: Allocator + Copy>(
     sums: &mut Sums<A>,
     decided: &mut [bool],
     spans: &[Span],
-    beside: &Beside<A>,
+    concurrent: &Concurrent<A>,
     rows: &[usize],
     gains: &[i64],
     place: usize,
@@ -225,7 +231,7 @@ pub(crate) fn add_terms<A: Allocator + Copy>(
 ) -> Result<(), OutOfMemory> {
     let number = short(sums.sums.len());
     let row = at(rows, place, 0);
-    for other in others_of(&beside.starts, &beside.others, place) {
+    for other in others_of(&concurrent.starts, &concurrent.others, place) {
         if *other != skipped {
             let (gain, from) = (at(gains, *other, 0), at(rows, *other, 0));
             add_term(&mut sums.terms, decided, spans, number, gain, from, row)?;
@@ -268,16 +274,16 @@ fn divisor(terms: &[Term]) -> i64 {
     divisor
 }
 
-/// The cause and what is wanted of a sum of such terms; where they leave another remainder, a sum that is out of reach.
-fn sought(terms: &[Term], cause: Cause, wanted: i64, high: i64) -> (Cause, i64) {
-    let Cause::Counter(row, object) = cause else {
-        return (cause, wanted);
+/// The origin and what is wanted of a sum of such terms; where they leave another remainder, a sum that is out of reach.
+fn remainder_or_sum(terms: &[Term], origin: Origin, wanted: i64, high: i64) -> (Origin, i64) {
+    let Origin::Counter(row, object) = origin else {
+        return (origin, wanted);
     };
     let modulus = divisor(terms);
     match wanted.checked_rem(modulus) {
-        Some(0) | None => (cause, wanted),
+        Some(0) | None => (origin, wanted),
         Some(_) => (
-            Cause::Remainder(row, object, modulus),
+            Origin::Remainder(row, object, modulus),
             high.saturating_add(1),
         ),
     }
@@ -289,7 +295,7 @@ pub(crate) fn end_sum<A: Allocator + Copy>(
     from: usize,
     guard: u32,
     wanted: i64,
-    cause: Cause,
+    origin: Origin,
 ) -> Result<(), OutOfMemory> {
     let (mut low, mut high, mut most): (i64, i64, i64) = (0, 0, 1);
     for term in crate::items::between(&sums.terms, from, sums.terms.len()) {
@@ -305,11 +311,11 @@ pub(crate) fn end_sum<A: Allocator + Copy>(
         return Ok(());
     }
     let terms = crate::items::between(&sums.terms, from, sums.terms.len());
-    let (cause, wanted) = sought(terms, cause, wanted, high);
+    let (origin, wanted) = remainder_or_sum(terms, origin, wanted, high);
     sums.waiting.push(short(sums.sums.len()))?;
     let to = sums.terms.len();
     sums.sums.push(Sum {
-        cause,
+        origin,
         guard,
         from,
         to,
