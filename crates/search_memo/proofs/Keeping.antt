@@ -10,7 +10,7 @@ use Rattle.aud_history.specs.Histories.{History}
 use Rattle.aud_history.specs.Table.{row_of}
 use Rattle.search_memo.specs.declared.stored_states.StoredStates.{StoredStates}
 use Rattle.search_memo.specs.declared.stored_states.StoredStates.TheVariants.{Whole, After}
-use Rattle.search_memo.specs.declared.stored_states.Step.{Step}
+use Rattle.search_memo.specs.declared.stored_states.BlockStep.{BlockStep}
 use Rattle.search_memo.specs.declared.stored_states.Cost.{Cost}
 use Rattle.search_memo.specs.StoredStates.{state_from, states_on, states_of, run_way, IsWay, LeadsFrom, IsMoreOf}
 
@@ -71,7 +71,7 @@ get-take (x ∷ xs) (suc n) zero d inside = refl
 get-take (x ∷ xs) (suc n) (suc k) d inside = get-take xs n k d (omega arith)
 
 -- what is kept after others
-after-at : {A : Type 0} (h : History) (ks : List (StoredStates A)) (k : ℕ) (d kept : StoredStates A) (step : Step) (cost : Cost) → k < length ks → kept ≡ get_or ks k d → kept ≡ After step cost → step.from < k →
+after-at : {A : Type 0} (h : History) (ks : List (StoredStates A)) (k : ℕ) (d kept : StoredStates A) (step : BlockStep) (cost : Cost) → k < length ks → kept ≡ get_or ks k d → kept ≡ After step cost → step.from < k →
     slice_get (states_of h ks) k ≡ Some (unwrap_or (replayed (get_or (states_of h ks) step.from []) (row_of h step.tx).block) [])
 after-at h ks k d kept step cost inside is behind before =
     states-at h ks k d inside ∙ ap (λ (x : StoredStates _). Some (state_from h (take k (states_of h ks)) x)) (sym is ∙ behind)
@@ -93,7 +93,7 @@ ran-first : (h : History) (way : List ℕ) (o : Option (List ObjState)) (states 
 ran-first h way None states is = absurd (cc)
 ran-first h way (Some next) states is = (next, (refl, is))
 
-pub way-back : {A : Type 0} (h : History) (ks : List (StoredStates A)) (at last : ℕ) (d kept : StoredStates A) (step : Step) (cost : Cost) (way more : List ℕ) → at < length ks → kept ≡ get_or ks at d → kept ≡ After step cost → step.from < at → more ≡ way ++ step.tx ∷ [] →
+pub way-back : {A : Type 0} (h : History) (ks : List (StoredStates A)) (at last : ℕ) (d kept : StoredStates A) (step : BlockStep) (cost : Cost) (way more : List ℕ) → at < length ks → kept ≡ get_or ks at d → kept ≡ After step cost → step.from < at → more ≡ way ++ step.tx ∷ [] →
     IsWayFrom h ks at way last → IsWayFrom h ks step.from more last
 way-back h ks at last d kept step cost way more inside is behind before grown known earlier states ran =
     let turned : reverse more ≡ step.tx ∷ reverse way = ap reverse grown ∙ reverse-append way (step.tx ∷ []) in

@@ -30,7 +30,7 @@ use Rattle.search_memo.specs.declared.memo.Seen.{Seen}
 use Rattle.search_memo.specs.Known.{IsKnown, IsKnownOf}
 use Rattle.search_memo.specs.StoredStates.{IsMoreOf, LeadsTo}
 use Rattle.search_memo.specs.Visited.{EntryOf, AreWith, IsKeptAs}
-use Rattle.search_memo.specs.Memos.{MemoOf, states_reached, Names, NameWay, IsDead, IsTransition, IsTrueMemo, AreSeen, IsGrown, IsFurther, IsStep, IsNext, IsAfter}
+use Rattle.search_memo.specs.Memos.{MemoOf, states_reached, Names, NameWay, IsRefutedEntry, IsTransition, IsTrueMemo, AreSeen, IsGrown, IsFurther, IsStep, IsNext, IsAfter}
 use Rattle.search_memo.specs.Recorders.{IsNotedAlike}
 use Rattle.search_memo.proofs.Refuting.{next-shown}
 
@@ -200,7 +200,7 @@ known-here is_for P shape all seen n s at placed same own sound there good refut
 
 -- a refuted prefix that others know of is one of which an entry might be there
 pub known-dead : {A : Type 0} (P : List Decision → Type 0) (shape : ShapeOf) (all : List (List ObjState)) (seen : List (Option (Seen A))) (n : ℕ) (s : Seen A) (placed : List Bool) → AreSeen all seen → slice_get seen n ≡ Some (Some s) →
-    IsKnown shape P s.states.value.now placed → IsDead shape all P (record { placed = placed; states = n })
+    IsKnown shape P s.states.value.now placed → IsRefutedEntry shape all P (record { placed = placed; states = n })
 known-dead P shape all seen n s placed sound there k =
     record { path = k.path; good = k.good; refuted = k.refuted; placed = k.marked; states = sound n s there ∙ ap (λ l. Some l) k.left; noted = k.noted }
 
@@ -210,7 +210,7 @@ last-there (z ∷ xs) x = last-there xs x
 
 -- once an entry came, and its note
 pub true-entry : {N : Type 0} (shape : ShapeOf) (all : List (List ObjState)) (noted : N → List Decision → Type 0) (old new : List EntryOf) (notes more : List N) (transitions : List Transition) (e : EntryOf) (note : N) → IsKeptAs old new e true → more ≡ notes ++ note ∷ [] →
-    IsDead shape all (noted note) e → IsTrueMemo shape all noted old notes transitions → IsTrueMemo shape all noted new more transitions
+    IsRefutedEntry shape all (noted note) e → IsTrueMemo shape all noted old notes transitions → IsTrueMemo shape all noted new more transitions
 true-entry shape all noted old new notes more transitions e note kept grown dead sound = record {
   even = ap length grown ∙ length-append notes (note ∷ []) ∙ ap (λ n. n + 1) sound.even ∙ sym (ap length kept ∙ length-append old (e ∷ []));
   dead = λ k x there. elim (last-at old e x k (ap (λ (l : List EntryOf). slice_get l k) (sym kept) ∙ there)) [
@@ -219,7 +219,7 @@ true-entry shape all noted old new notes more transitions e note kept grown dead
       note,
       (
         (λ i. slice_get (grown i) ((last.0 ∙ sym sound.even) i)) ∙ last-there notes note,
-        subst (λ (y : EntryOf). IsDead shape all (noted note) y) (sym last.1) dead,
+        subst (λ (y : EntryOf). IsRefutedEntry shape all (noted note) y) (sym last.1) dead,
       ),
     )
   ];
@@ -243,7 +243,7 @@ true-transition shape all noted entries notes old new l with transition sound = 
 
 -- the note of an entry, where it is looked for
 pub note-of : {N : Type 0} (shape : ShapeOf) (all : List (List ObjState)) (noted : N → List Decision → Type 0) (entries : List EntryOf) (notes : List N) (transitions : List Transition) (k : ℕ) (e : EntryOf) (o : Option N) (Q : N → Type 0) → IsTrueMemo shape all noted entries notes transitions →
-    slice_get entries k ≡ Some e → o ≡ slice_get notes k → ((note : N) → IsDead shape all (noted note) e → Q note) → IfSome o Q
+    slice_get entries k ≡ Some e → o ≡ slice_get notes k → ((note : N) → IsRefutedEntry shape all (noted note) e → Q note) → IfSome o Q
 note-of shape all noted entries notes transitions k e o Q sound there is each =
     let (note, (at, dead)) = sound.dead k e there in subst (λ (x : Option _). IfSome x Q) (sym (is ∙ at)) (each note dead)
 
@@ -309,9 +309,9 @@ step-transitions memo n c at fine within good s commits = (
 
 -- the entry of a refuted prefix
 pub dead-here : (shape : ShapeOf) (all : List (List ObjState)) (P : List Decision → Type 0) (placed : List Bool) (n : ℕ) (at : CursorOf) → shape ≡ at.shape → IsGood (objects_of at.shape) (history_of at.shape) at.path → Refuted (objects_of at.shape) (history_of at.shape) at.path →
-    placed ≡ map (is_named at.path) (transactions (history_of at.shape)) → Names all (Some n) (states_reached at.shape at.path) → P at.path → IsDead shape all P (record { placed = placed; states = n })
+    placed ≡ map (is_named at.path) (transactions (history_of at.shape)) → Names all (Some n) (states_reached at.shape at.path) → P at.path → IsRefutedEntry shape all P (record { placed = placed; states = n })
 dead-here shape all P placed n at same good refuted is names noted =
-    subst (λ (x : ShapeOf). IsDead x all P (record { placed = placed; states = n })) (sym same)
+    subst (λ (x : ShapeOf). IsRefutedEntry x all P (record { placed = placed; states = n })) (sym same)
     (record { path = at.path; good = good; refuted = refuted; placed = is; states = names; noted = noted })
 
 -- as many marks as rows
@@ -320,9 +320,9 @@ rows-placed shape placed at same is = ap length is ∙ length-map (transactions 
 
 -- the prefix of an entry is the same to what comes after it
 pub dead-alike : (shape : ShapeOf) (all : List (List ObjState)) (P : List Decision → Type 0) (placed : List Bool) (n : ℕ) (at : CursorOf) → shape ≡ at.shape →
-    placed ≡ map (is_named at.path) (transactions (history_of at.shape)) → Names all (Some n) (states_reached at.shape at.path) → IsDead shape all P (record { placed = placed; states = n }) → IsNotedAlike at.shape P at.path
+    placed ≡ map (is_named at.path) (transactions (history_of at.shape)) → Names all (Some n) (states_reached at.shape at.path) → IsRefutedEntry shape all P (record { placed = placed; states = n }) → IsNotedAlike at.shape P at.path
 dead-alike shape all P placed n at same is names dead =
-    let d = subst (λ (x : ShapeOf). IsDead x all P (record { placed = placed; states = n })) same dead in record {
+    let d = subst (λ (x : ShapeOf). IsRefutedEntry x all P (record { placed = placed; states = n })) same dead in record {
       other = d.path;
       good = d.good;
       noted = d.noted;
@@ -332,10 +332,10 @@ dead-alike shape all P placed n at same is names dead =
 
 -- a prefix of which an entry is there is refuted
 pub dead-refuted : (shape : ShapeOf) (all : List (List ObjState)) (P : List Decision → Type 0) (placed : List Bool) (n : ℕ) (at : CursorOf) → shape ≡ at.shape → IsWellFormed (history_of at.shape) → IsWithinLimits (plan_of at.shape) (history_of at.shape) →
-    IsGood (objects_of at.shape) (history_of at.shape) at.path → placed ≡ map (is_named at.path) (transactions (history_of at.shape)) → Names all (Some n) (states_reached at.shape at.path) → IsDead shape all P (record { placed = placed; states = n }) →
+    IsGood (objects_of at.shape) (history_of at.shape) at.path → placed ≡ map (is_named at.path) (transactions (history_of at.shape)) → Names all (Some n) (states_reached at.shape at.path) → IsRefutedEntry shape all P (record { placed = placed; states = n }) →
     Refuted (objects_of at.shape) (history_of at.shape) at.path
 dead-refuted shape all P placed n at same fine within good is names dead rest shown =
-    let d = subst (λ (x : ShapeOf). IsDead x all P (record { placed = placed; states = n })) same dead in
+    let d = subst (λ (x : ShapeOf). IsRefutedEntry x all P (record { placed = placed; states = n })) same dead in
     d.refuted rest (shown-same (plan_of at.shape) (history_of at.shape) at.path d.path rest fine within good d.good (sym is ∙ d.placed)
     (one-at (states_reached at.shape at.path) (states_reached at.shape d.path) (slice_get all n) names d.states) shown)
 
@@ -378,7 +378,7 @@ next-names memo n after c at fine within longer next transitions =
 -- a choice that leads to a configuration that is known is refuted
 pub known-after : {V : Type 0} (memo : MemoOf V) (P : List Decision → Type 0) (n after : ℕ) (c : Choice) (at : CursorOf) (placed : List Bool) → IsWellFormed (history_of at.shape) → IsWithinLimits (plan_of at.shape) (history_of at.shape) → IsGood (objects_of at.shape) (history_of at.shape) at.path →
     IsNext memo (Some n) c at → placed ≡ map (is_named at.path) (transactions (history_of at.shape)) → IsAfter memo n c after →
-    IsDead memo.shape memo.states P (record { placed = set placed c.place true; states = after }) → Refuted (objects_of at.shape) (history_of at.shape) (at.path ++ c.decision ∷ [])
+    IsRefutedEntry memo.shape memo.states P (record { placed = set placed c.place true; states = after }) → Refuted (objects_of at.shape) (history_of at.shape) (at.path ++ c.decision ∷ [])
 known-after memo P n after c at placed fine within good next is transitions dead rest shown =
     let longer : IsGood (objects_of at.shape) (history_of at.shape) (at.path ++ c.decision ∷ []) =
     IsGood-push (objects_of at.shape) (history_of at.shape) at.path c.decision good (next-shown (objects_of at.shape) (history_of at.shape) at.path c.decision rest shown) in
@@ -389,7 +389,7 @@ known-after memo P n after c at placed fine within good next is transitions dead
 -- and where it is good it is the same to what comes after it
 pub alike-after : {V : Type 0} (memo : MemoOf V) (P : List Decision → Type 0) (n after : ℕ) (c : Choice) (at : CursorOf) (placed : List Bool) → IsWellFormed (history_of at.shape) → IsWithinLimits (plan_of at.shape) (history_of at.shape) → IsGood (objects_of at.shape) (history_of at.shape) at.path →
     IsNext memo (Some n) c at → placed ≡ map (is_named at.path) (transactions (history_of at.shape)) → IsAfter memo n c after →
-    IsDead memo.shape memo.states P (record { placed = set placed c.place true; states = after }) → IsGoodAt at c.decision → IsNotedAlike at.shape P (at.path ++ c.decision ∷ [])
+    IsRefutedEntry memo.shape memo.states P (record { placed = set placed c.place true; states = after }) → IsGoodAt at c.decision → IsNotedAlike at.shape P (at.path ++ c.decision ∷ [])
 alike-after memo P n after c at placed fine within good next is transitions dead next_good =
     let longer : IsGood (objects_of at.shape) (history_of at.shape) (at.path ++ c.decision ∷ []) = IsGood-push (objects_of at.shape) (history_of at.shape) at.path c.decision good next_good in
     dead-alike memo.shape memo.states P (set placed c.place true) after (further at c.decision) next.shape

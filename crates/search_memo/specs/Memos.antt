@@ -43,7 +43,7 @@ abbrev pub entries_of : History → List (List ℕ) → List EntryOf
 entries_of h visited = map (entry_of (length (transactions h))) visited
 
 -- an entry is of a good prefix that is refuted, and of which P holds
-pub record IsDead (shape : ShapeOf) (all : List (List ObjState)) (P : List Decision → Type 0) (e : EntryOf) : Type 0 where
+pub record IsRefutedEntry (shape : ShapeOf) (all : List (List ObjState)) (P : List Decision → Type 0) (e : EntryOf) : Type 0 where
   pub path : List Decision
   pub good : IsGood (objects_of shape) (history_of shape) path
   pub refuted : Refuted (objects_of shape) (history_of shape) path
@@ -62,7 +62,7 @@ pub record IsTransition (shape : ShapeOf) (all : List (List ObjState)) (l : Tran
 -- what is remembered is true, and each entry has the note of its prefix
 pub record IsTrueMemo {N : Type 0} (shape : ShapeOf) (all : List (List ObjState)) (noted : N → List Decision → Type 0) (entries : List EntryOf) (notes : List N) (transitions : List Transition) : Type 0 where
   pub even : length notes ≡ length entries
-  pub dead : (k : ℕ) (e : EntryOf) → slice_get entries k ≡ Some e → (note : N) × ((slice_get notes k ≡ Some note) × IsDead shape all (noted note) e)
+  pub dead : (k : ℕ) (e : EntryOf) → slice_get entries k ≡ Some e → (note : N) × ((slice_get notes k ≡ Some note) × IsRefutedEntry shape all (noted note) e)
   pub true_transitions : (l : Transition) → Contains transitions l → IsTransition shape all l
 
 -- what others may have under a number are the states of the number

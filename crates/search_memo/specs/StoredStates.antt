@@ -6,7 +6,7 @@ use Rattle.aud_history.specs.Histories.{History}
 use Rattle.aud_history.specs.Table.{row_of}
 use Rattle.search_memo.specs.declared.stored_states.StoredStates.{StoredStates}
 use Rattle.search_memo.specs.declared.stored_states.StoredStates.TheVariants.{Whole, After}
-use Rattle.search_memo.specs.declared.stored_states.Step.{Step}
+use Rattle.search_memo.specs.declared.stored_states.BlockStep.{BlockStep}
 
 -- the states that are kept, where those of the earlier numbers are known
 abbrev pub state_from : {A : Type 0} → History → List (List ObjState) → StoredStates A → List ObjState
@@ -36,7 +36,7 @@ abbrev pub IsWayTo : {A : Type 0} → List (StoredStates A) → ℕ → List ℕ
 IsWayTo kept number way found = MatchOption found (Unit {0}) (λ first. (h : History) → IsWay h (states_of h kept) first (reverse way) number)
 
 -- the block of the step leads to the states, where there is a step
-abbrev pub LeadsTo : History → List (List ObjState) → Option Step → List ObjState → Type 0
+abbrev pub LeadsTo : History → List (List ObjState) → Option BlockStep → List ObjState → Type 0
 LeadsTo h all None states = Unit {0}
 LeadsTo h all (Some step) states = (before : List ObjState) × ((slice_get all step.from ≡ Some before) × (replayed before (row_of h step.tx).block ≡ Some states))
 

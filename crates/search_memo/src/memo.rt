@@ -9,7 +9,7 @@ ghost use Rattle.aud_witness.specs.Orders.{Refuted};
 ghost use Rattle.aud_history.specs.Table.{transactions};
 ghost use Rattle.aud_order.specs.Shapes.{history_of};
 ghost use Rattle.search_memo.specs.StoredStates.{LeadsTo};
-ghost use Rattle.search_memo.specs.Memos.{states_reached, Names, IsTransition, IsGrown, IsReported, IsStep, IsNext, IsAfter, LeavesStates, IsDead, IsRefutedAt, IsRefutedAfter};
+ghost use Rattle.search_memo.specs.Memos.{states_reached, Names, IsTransition, IsGrown, IsReported, IsStep, IsNext, IsAfter, LeavesStates, IsRefutedEntry, IsRefutedAt, IsRefutedAfter};
 ghost use Rattle.search_memo.specs.Recorders.{IsReason, IsNotedAlike, HasNote, IsNotedAfter};
 ghost use Rattle.search_memo.specs.Visited.{AreWith, entry, with_place};
 
@@ -17,7 +17,7 @@ use crate::choice::{Choice, Visibility};
 use crate::index::{Index, Look, hash_of};
 use crate::recorder::{Recorder, RefutedBy};
 use crate::room::{gives, reserves, takes};
-use crate::stored_states::{Finder, Step, StoredStates, keep_states, size_of_shared};
+use crate::stored_states::{BlockStep, Finder, StoredStates, keep_states, size_of_shared};
 use crate::visited_set::{VisitedSet, forget_first};
 use aud_event::OutOfMemory;
 use aud_object::Store;
@@ -87,7 +87,7 @@ impl<'a, N: Copy, R: Recorder<N, A>, A: Allocator + Copy> Model for Memo<'a, N, 
         × AreSeen (states_of (history_of m.shape.now) m.kept.items) m.seen.items };
 }
 
-/// How many numbers states keep that others may have: the most.
+/// Of how many numbers the largest states are that others may have.
 pub const LARGEST_SEEN: usize = 32;
 
 /// How many bytes a transition takes.
@@ -269,7 +269,7 @@ impl<'a, N: Copy, R: Recorder<N, A>, A: Allocator + Copy> Memo<'a, N, R, A> {
     }
 
     /// The number of the states where the cursor stands, which may be a new one, if there is room and memory for it.
-    fn number(&mut self, step: Option<Step>, cursor: &Cursor<A>) -> Option<usize>
+    fn number(&mut self, step: Option<BlockStep>, cursor: &Cursor<A>) -> Option<usize>
         requires { LeadsTo (history_of self.old.shape) self.old.states step (states_reached cursor.now.shape cursor.now.path) }
         ensures grown { IsGrown self.old self.new }
         ensures named { Names self.new.states result (states_reached cursor.now.shape cursor.now.path) }
@@ -303,11 +303,11 @@ impl<'a, N: Copy, R: Recorder<N, A>, A: Allocator + Copy> Memo<'a, N, R, A> {
             return;
         }
         self.is_short = true;
-        self.forget_leads();
+        self.forget_transitions();
     }
 
     /// Forgets the transitions, and has their room again.
-    fn forget_leads(&mut self)
+    fn forget_transitions(&mut self)
         ensures { self.new ≡ self.old }
     {
         let size = self.transitions.capacity().saturating_mul(TRANSITION);
@@ -351,14 +351,14 @@ impl<'a, N: Copy, R: Recorder<N, A>, A: Allocator + Copy> Memo<'a, N, R, A> {
             return;
         }
         if !reserves(&mut self.states_room, &mut self.seen, 1, SEEN) {
-            self.forget_leads();
+            self.forget_transitions();
             return;
         }
         let seen = seen_of(self.alloc, &mut self.finder, &mut self.states_room, store);
         let is_short = seen.is_none() && store.size() <= LARGEST_SEEN;
         let _ = self.seen.push(seen);
         if is_short {
-            self.forget_leads();
+            self.forget_transitions();
         }
     }
 
@@ -367,7 +367,7 @@ impl<'a, N: Copy, R: Recorder<N, A>, A: Allocator + Copy> Memo<'a, N, R, A> {
     fn find_shared(&self, number: usize, placed: &Marks<A>, further: Option<usize>) -> Option<N>
         requires rows { length placed.now ≡ length (transactions (history_of self.now.shape)) }
         requires further { MatchOption further (Unit {0}) (λ k. k < length placed.now) }
-        ensures { IfSome result (λ note. IsDead self.now.shape self.now.states (R.noted self.now.recorder note)
+        ensures { IfSome result (λ note. IsRefutedEntry self.now.shape self.now.states (R.noted self.now.recorder note)
             (entry (with_place placed.now further) number)) }
     {
         let seen = seen_at(&self.seen, number)?;
@@ -377,10 +377,10 @@ impl<'a, N: Copy, R: Recorder<N, A>, A: Allocator + Copy> Memo<'a, N, R, A> {
 
     /// The note of a refuted prefix that is remembered here or that others know of, which leaves the states of the number and places
     /// the rows that are marked, with one further where there is one. It does not allocate.
-    fn find_dead(&self, number: usize, placed: &Marks<A>, further: Option<usize>) -> Option<N>
+    fn find_refuted(&self, number: usize, placed: &Marks<A>, further: Option<usize>) -> Option<N>
         requires rows { length placed.now ≡ length (transactions (history_of self.now.shape)) }
         requires further { MatchOption further (Unit {0}) (λ k. k < length placed.now) }
-        ensures { IfSome result (λ note. IsDead self.now.shape self.now.states (R.noted self.now.recorder note)
+        ensures { IfSome result (λ note. IsRefutedEntry self.now.shape self.now.states (R.noted self.now.recorder note)
             (entry (with_place placed.now further) number)) }
     {
         if let Some(note) = self.find_shared(number, placed, further) {
@@ -464,7 +464,7 @@ impl<'a, N: Copy, R: Recorder<N, A>, A: Allocator + Copy> Memo<'a, N, R, A> {
         }
         let tx = choice.decision.tx;
         let known = self.kept.len();
-        let to = self.number(Some(Step { from: before, tx }), cursor)?;
+        let to = self.number(Some(BlockStep { from: before, tx }), cursor)?;
         // To states that are met for the first time few ways lead.
         if to < known {
             self.remember_transition(Transition {
@@ -490,7 +490,7 @@ impl<'a, N: Copy, R: Recorder<N, A>, A: Allocator + Copy> Memo<'a, N, R, A> {
         let Some(number) = states else {
             return None;
         };
-        self.find_dead(number, cursor.placed(), None)
+        self.find_refuted(number, cursor.placed(), None)
     }
 
     /// The note of a refuted prefix that is the same as the cursor's with the choice after it, if one is known by where the
@@ -514,7 +514,7 @@ impl<'a, N: Copy, R: Recorder<N, A>, A: Allocator + Copy> Memo<'a, N, R, A> {
         let Some(after) = self.after(before, choice) else {
             return None;
         };
-        self.find_dead(after, cursor.placed(), Some(choice.place))
+        self.find_refuted(after, cursor.placed(), Some(choice.place))
     }
 
     /// Remembers the cursor's prefix, which is refuted, with its note, if memory is there for it.

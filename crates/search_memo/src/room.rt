@@ -4,9 +4,9 @@ ghost use Rattle.std.specs.Prelude.{◌≡◌, ◌+◌, ◌≤◌, IsTrue, vec_c
 
 use std::alloc::Allocator;
 
-/// How much memory a run may take for what its searches refuted, in bytes: the memos of all searches that go on at a time, and what
+/// How much memory a run may take for what its searches refuted and learned, in bytes: the memos of all searches that go on at a time, and what
 /// they share. It counts what is allocated, before it is, with the block that a list or a table grows out of. What else a
-/// search takes (its cursor, its turns, its look ahead) grows with the input alone, and is not counted.
+/// search takes (its cursor, its frames) grows with the input alone, and is not counted.
 pub const BOUND: usize = 1 << 30;
 
 /// The fewest elements that a list is given memory for.

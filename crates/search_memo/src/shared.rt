@@ -73,17 +73,19 @@ pub struct Part<J: Scene, A: Allocator> {
 /// How many rows one word of marks is enough for.
 pub const ROWS_MAX: usize = 63;
 
-/// How many slots a part has, and how many parts there are: powers of two.
+/// How many slots a part has: a power of two.
 const PART: usize = 1 << 12;
 
+/// How many parts there are: a power of two.
 const PARTS: usize = 1 << 12;
 
 /// Among how many of the first slots those lie that are anywhere: a power of two, so small that few parts are made for them.
 const ANYWHERE: usize = 1 << 20;
 
-/// How many slots are looked at for a prefix, and how many of these are near those of prefixes that place almost the same rows.
+/// How many slots are looked at for a prefix.
 const LOOKS: usize = 12;
 
+/// How many of these are near those of prefixes that place almost the same rows.
 const NEAR: usize = 4;
 
 /// How much memory slots and the states that stand in them may take, in bytes: the memos of those who share have the rest.

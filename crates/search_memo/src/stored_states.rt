@@ -20,12 +20,12 @@ pub(crate) enum StoredStates<A: Allocator = Global> {
     /// By a copy of all of them.
     Whole(Store<A>),
     /// By the step that leads to them, and what runs from whole ones on.
-    After(Step, Cost),
+    After(BlockStep, Cost),
 }
 
 /// From the states under a number by the block of a transaction.
 #[derive(Clone, Copy)]
-pub(crate) struct Step {
+pub(crate) struct BlockStep {
     pub from: usize,
     pub tx: u32,
 }
@@ -224,7 +224,7 @@ fn find_states<A: Allocator + Copy>(
 }
 
 /// How many operations are in the block of the step.
-fn operations_of<A: Allocator + Copy>(shape: &Shape<A>, step: Step) -> usize {
+fn operations_of<A: Allocator + Copy>(shape: &Shape<A>, step: BlockStep) -> usize {
     match block_of(shape, step.tx) {
         Some(block) => block.executions().len(),
         None => 0,
@@ -232,7 +232,11 @@ fn operations_of<A: Allocator + Copy>(shape: &Shape<A>, step: Step) -> usize {
 }
 
 /// What would run from whole states on, the block of the step last.
-fn cost_of<A: Allocator + Copy>(kept: &[StoredStates<A>], shape: &Shape<A>, step: Step) -> Cost {
+fn cost_of<A: Allocator + Copy>(
+    kept: &[StoredStates<A>],
+    shape: &Shape<A>,
+    step: BlockStep,
+) -> Cost {
     let (blocks, operations) = match kept.get(step.from) {
         Some(StoredStates::After(_, cost)) => (cost.blocks, cost.operations),
         _ => (0, 0),
@@ -261,7 +265,7 @@ pub(crate) fn size_of_shared<A: Allocator + Copy>(store: &Store<A>) -> usize {
 }
 
 /// The most that the block of a step takes while it runs on the states from which it is kept, in bytes.
-fn size_of_step<A: Allocator + Copy>(shape: &Shape<A>, step: Step) -> usize {
+fn size_of_step<A: Allocator + Copy>(shape: &Shape<A>, step: BlockStep) -> usize {
     operations_of(shape, step)
         .saturating_add(1)
         .saturating_mul(ENTRY)
@@ -290,7 +294,7 @@ fn kept_as<A: Allocator + Copy>(
     kept: &[StoredStates<A>],
     shape: &Shape<A>,
     room: &mut usize,
-    step: Option<Step>,
+    step: Option<BlockStep>,
     store: &Store<A>,
 ) -> Option<StoredStates<A>>
     requires { LeadsTo (history_of shape.now) (states_of (history_of shape.now) kept.now) step store.now.now }
@@ -323,7 +327,7 @@ pub(crate) fn keep_states<A: Allocator + Copy>(
     finder: &mut Finder<A>,
     shape: &Shape<A>,
     room: &mut usize,
-    step: Option<Step>,
+    step: Option<BlockStep>,
     store: &Store<A>,
 ) -> Option<usize>
     requires { LeadsTo (history_of shape.now) (states_of (history_of shape.now) kept.old.items) step store.now.now }

@@ -27,8 +27,8 @@ use Rattle.search_memo.specs.declared.choice.Choice.{Choice}
 use Rattle.search_prefix.specs.declared.outcome.Outcome.{Outcome}
 use Rattle.search_prefix.specs.declared.searching.Frame.{Frame}
 use Rattle.search_prefix.specs.declared.outcome.Outcome.TheVariants as outcome
-use Rattle.search_prefix.specs.declared.outcome.Ended.{Ended}
-use Rattle.search_prefix.specs.declared.outcome.Ended.TheVariants as ended
+use Rattle.search_prefix.specs.declared.outcome.SearchEnd.{SearchEnd}
+use Rattle.search_prefix.specs.declared.outcome.SearchEnd.TheVariants as ended
 use Rattle.search_memo.specs.Choices.{AreChoices}
 use Rattle.search_prefix.specs.Searches.{SpentBy, Reports}
 use Rattle.search_prefix.specs.Levels.{AreTried, IsSearching}
@@ -127,7 +127,7 @@ pub reports-spent : (X : Type 0) (objects : List Declared) (h : History) (p : Li
 reports-spent X objects h p None none spent = absurd (cc)
 reports-spent X objects h p (Some whole) none spent = let zero_left : 0 ≡ whole = cc in subst (λ n. SpentBy objects h p n) zero_left spent
 
-pub reports-from : (N X : Type 0) (noted : N → List Decision → Type 0) (objects : List Declared) (h : History) (p : List Decision) (budget left : Option ℕ) (o : Ended N X) → IsOneLess budget left → ReportsFrom objects h noted p left o →
+pub reports-from : (N X : Type 0) (noted : N → List Decision → Type 0) (objects : List Declared) (h : History) (p : List Decision) (budget left : Option ℕ) (o : SearchEnd N X) → IsOneLess budget left → ReportsFrom objects h noted p left o →
     Reports {X = X} objects h p budget (outcome_of o)
 reports-from N X noted objects h p budget left (ended.Refuted note) less reported = reported.0
 reports-from N X noted objects h p budget left (ended.Witness q) less reported = reported
@@ -197,7 +197,7 @@ loop-spent start cur new cs used next k gs s f unfull =
     search-spent (objects_of start.shape) (history_of start.shape) start.path cs used cur.path next gs k f.choice s f.past f.at f.good (λ full. unfull (full-here start cur new cs next k f full))
 
 -- the search ends with a prefix that shows the history
-pub reports-witness : (N X : Type 0) (noted : N → List Decision → Type 0) (objects : List Declared) (h : History) (p q : List Decision) (budget : Option ℕ) (e : Ended N X) → IsWitnessOf q e → BeginsWith p q × Shows objects h q →
+pub reports-witness : (N X : Type 0) (noted : N → List Decision → Type 0) (objects : List Declared) (h : History) (p q : List Decision) (budget : Option ℕ) (e : SearchEnd N X) → IsWitnessOf q e → BeginsWith p q × Shows objects h q →
     ReportsFrom {N = N} {X = X} objects h noted p budget e
 reports-witness N X noted objects h p q budget (ended.Refuted note) is reported = absurd is
 reports-witness N X noted objects h p q budget (ended.Witness w) is reported = subst (λ l. BeginsWith p l × Shows objects h l) (sym is) reported
@@ -362,7 +362,7 @@ whole-spent X shape cur p budget is good unfull none =
     reports-spent X (objects_of shape) (history_of shape) p budget none
     (subst (λ (v : CursorOf). SpentBy (objects_of v.shape) (history_of v.shape) v.path 0) is (search-unspent (objects_of cur.shape) (history_of cur.shape) cur.path good unfull))
 
-pub whole-reported : (N X : Type 0) (noted : N → List Decision → Type 0) (shape : ShapeOf) (cur : CursorOf) (p : List Decision) (budget left : Option ℕ) (o : Ended N X) (w : Outcome X) → cur ≡ cursor_at shape p → IsOneLess budget left →
+pub whole-reported : (N X : Type 0) (noted : N → List Decision → Type 0) (shape : ShapeOf) (cur : CursorOf) (p : List Decision) (budget left : Option ℕ) (o : SearchEnd N X) (w : Outcome X) → cur ≡ cursor_at shape p → IsOneLess budget left →
     ReportsFrom (objects_of cur.shape) (history_of cur.shape) noted cur.path left o → w ≡ outcome_of o → Reports {X = X} (objects_of shape) (history_of shape) p budget w
 whole-reported N X noted shape cur p budget left o w is less reported same =
     subst (λ (x : Outcome X). Reports {X = X} (objects_of shape) (history_of shape) p budget x) (sym same)

@@ -11,8 +11,8 @@ use Rattle.search_memo.specs.declared.choice.Visibility.TheVariants.{Silent}
 use Rattle.search_memo.specs.declared.choice.Choice.{Choice}
 use Rattle.search_prefix.specs.declared.outcome.Outcome.{Outcome}
 use Rattle.search_prefix.specs.declared.outcome.Outcome.TheVariants as outcome
-use Rattle.search_prefix.specs.declared.outcome.Ended.{Ended}
-use Rattle.search_prefix.specs.declared.outcome.Ended.TheVariants as ended
+use Rattle.search_prefix.specs.declared.outcome.SearchEnd.{SearchEnd}
+use Rattle.search_prefix.specs.declared.outcome.SearchEnd.TheVariants as ended
 use Rattle.search_prefix.specs.Searches.{SpentBy}
 
 -- one choice was tried: it is good, and the cursor went on, or it is not, and nothing changed
@@ -46,24 +46,24 @@ Spends None used (Some left) = ⊥
 Spends (Some whole) used None = ⊥
 
 -- what is reported of the prefixes that begin with one that was expanded, where so much of the budget is left
-abbrev pub ReportsFrom : {N X : Type 0} → List Declared → History → (N → List Decision → Type 0) → List Decision → Option ℕ → Ended N X → Type 0
+abbrev pub ReportsFrom : {N X : Type 0} → List Declared → History → (N → List Decision → Type 0) → List Decision → Option ℕ → SearchEnd N X → Type 0
 ReportsFrom objects h noted p left (ended.Refuted note) = Refuted objects h p × noted note p
 ReportsFrom objects h noted p left (ended.Witness q) = BeginsWith p q × Shows objects h q
 ReportsFrom objects h noted p (Some left) ended.Spent = SpentBy objects h p (left + 1)
 ReportsFrom objects h noted p None ended.Spent = ⊥
 
 -- the search ended with the prefix
-abbrev pub IsWitnessOf : {N X : Type 0} → List Decision → Ended N X → Type 0
+abbrev pub IsWitnessOf : {N X : Type 0} → List Decision → SearchEnd N X → Type 0
 IsWitnessOf p (ended.Refuted note) = ⊥
 IsWitnessOf p (ended.Witness q) = q ≡ p
 IsWitnessOf p ended.Spent = ⊥
 
 -- how the search ended, without the note
-abbrev pub outcome_of : {N X : Type 0} → Ended N X → Outcome X
+abbrev pub outcome_of : {N X : Type 0} → SearchEnd N X → Outcome X
 outcome_of (ended.Refuted note) = outcome.Refuted
 outcome_of (ended.Witness q) = outcome.Witness q
 outcome_of ended.Spent = outcome.Spent
 
 -- what is reported of the prefixes that begin with the cursor's, where so much of the budget is left
-abbrev pub ReportsAt : {N X : Type 0} → CursorOf → (N → List Decision → Type 0) → Option ℕ → Ended N X → Type 0
+abbrev pub ReportsAt : {N X : Type 0} → CursorOf → (N → List Decision → Type 0) → Option ℕ → SearchEnd N X → Type 0
 ReportsAt at noted left e = ReportsFrom (objects_of at.shape) (history_of at.shape) noted at.path left e

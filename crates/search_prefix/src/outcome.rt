@@ -28,7 +28,7 @@ pub enum Decided<A: Allocator = Global> {
 
 /// How a search over a recorder ended.
 #[derive(Drop)]
-pub enum Ended<N: Copy, A: Allocator = Global> {
+pub enum SearchEnd<N: Copy, A: Allocator = Global> {
     /// No prefix that begins with the one that it began at shows the history, and this is its note.
     Refuted(N),
     /// This one does.
@@ -37,15 +37,15 @@ pub enum Ended<N: Copy, A: Allocator = Global> {
     Spent,
 }
 
-impl<N: Copy, A: Allocator> Ended<N, A> {
+impl<N: Copy, A: Allocator> SearchEnd<N, A> {
     /// How the search ended, without the note.
     pub fn outcome(self) -> Outcome<A>
         ensures { result ≡ outcome_of self }
     {
         match self {
-            Ended::Refuted(_) => Outcome::Refuted,
-            Ended::Witness(witness) => Outcome::Witness(witness),
-            Ended::Spent => Outcome::Spent,
+            SearchEnd::Refuted(_) => Outcome::Refuted,
+            SearchEnd::Witness(witness) => Outcome::Witness(witness),
+            SearchEnd::Spent => Outcome::Spent,
         }
     }
 }

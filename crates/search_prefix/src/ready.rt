@@ -107,7 +107,7 @@ fn set_mark<A: Allocator + Copy>(marks: &mut Marks<A>, place: Option<usize>, mar
 }
 
 impl<'a, A: Allocator + Copy> Ready<'a, A> {
-    /// Where the cursor stands.
+    /// The marks at the cursor's prefix.
     pub(crate) fn at(
         alloc: A,
         shape: &'a Shape<A>,
@@ -179,7 +179,7 @@ impl<'a, A: Allocator + Copy> Ready<'a, A> {
     }
 
     /// The cursor went back by the decision.
-    pub(crate) fn go_back(&mut self, decision: Decision, cursor: &Cursor<A>)
+    pub(crate) fn backtrack(&mut self, decision: Decision, cursor: &Cursor<A>)
         requires { IsReadyBefore self.old cursor.now decision }
         ensures ready { IsReady self.new cursor.now }
         ensures choices { self.new.choices ≡ self.old.choices }

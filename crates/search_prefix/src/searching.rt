@@ -15,7 +15,7 @@ ghost use Rattle.search_memo.specs.Memos.{Names, states_reached, IsReported, IsF
 ghost use Rattle.search_memo.specs.Recorders.{HasNote, IsNotedFor, IsReason, AreKept, IsSilentAt, reason_by, IsNotedAfter, HasNoteAfter};
 ghost use Rattle.search_prefix.specs.Frames.{IsSought, IsArrived, IsClosed, unnumbered, HasRoomMade};
 
-use crate::outcome::{Ended, Outcome, Searched};
+use crate::outcome::{Outcome, SearchEnd, Searched};
 use crate::ready::Ready;
 use aud_event::OutOfMemory;
 use aud_order::{Cursor, Pushed, Shape};
@@ -59,8 +59,8 @@ fn try_from<A: Allocator + Copy>(
     Ok(None)
 }
 
-/// Notes the cursor's prefix with the decision after it, if that is good: the note is of a prefix that is the same to what comes
-/// after them. The cursor comes back.
+/// Notes the cursor's prefix with the decision after it, if that is good: the note is of a prefix of the same configuration.
+/// The cursor comes back.
 fn pass<N: Copy, R: Recorder<N, A>, A: Allocator + Copy>(
     memo: &mut Memo<N, R, A>,
     cursor: &mut Cursor<A>,
@@ -131,7 +131,7 @@ fn take_back<N: Copy, R: Recorder<N, A>, A: Allocator + Copy>(
 }
 
 /// Takes the last decision back, and its choices may be good again.
-fn go_back<N: Copy, R: Recorder<N, A>, A: Allocator + Copy>(
+fn backtrack<N: Copy, R: Recorder<N, A>, A: Allocator + Copy>(
     cursor: &mut Cursor<A>,
     ready: &mut Ready<A>,
     memo: &mut Memo<N, R, A>,
@@ -143,7 +143,7 @@ fn go_back<N: Copy, R: Recorder<N, A>, A: Allocator + Copy>(
     ensures memo { memo.new ≡ memo.old }
 {
     if let Some(last) = take_back(cursor, memo) {
-        ready.go_back(last, cursor);
+        ready.backtrack(last, cursor);
     }
 }
 
@@ -310,7 +310,7 @@ fn close<N: Copy, R: Recorder<N, A>, A: Allocator + Copy>(
         return Ok(Some(note));
     };
     memo.learn(here.states, note, cursor);
-    go_back(cursor, ready, memo);
+    backtrack(cursor, ready, memo);
     *here = frame;
     Ok(None)
 }
@@ -319,11 +319,11 @@ fn close<N: Copy, R: Recorder<N, A>, A: Allocator + Copy>(
 fn witness_at<N: Copy, A: Allocator + Copy>(
     alloc: A,
     cursor: &Cursor<A>,
-) -> Result<Ended<N, A>, OutOfMemory>
+) -> Result<SearchEnd<N, A>, OutOfMemory>
     ensures { IfOk result (IsWitnessOf cursor.now.path) }
 {
     let witness = Prefix::copy_of(alloc, cursor.prefix())?;
-    Ok(Ended::Witness(witness))
+    Ok(SearchEnd::Witness(witness))
 }
 
 /// Searches the prefixes that begin with the cursor's, which was just expanded. The frames are those of the prefixes before the cursor's.
@@ -335,7 +335,7 @@ fn search_on<N: Copy, R: Recorder<N, A>, A: Allocator + Copy>(
     memo: &mut Memo<N, R, A>,
     ready: &mut Ready<A>,
     frames: &mut Vec<Frame, A>,
-) -> Result<Ended<N, A>, OutOfMemory>
+) -> Result<SearchEnd<N, A>, OutOfMemory>
     requires memo { memo.old.shape ≡ cursor.old.shape }
     requires choices { AreChoices (history_of cursor.old.shape) choices.now }
     requires unfull { IsFull (history_of cursor.old.shape) cursor.old.path → ⊥ }
@@ -353,7 +353,7 @@ fn search_on<N: Copy, R: Recorder<N, A>, A: Allocator + Copy>(
     'search: loop {
         let Some(place) = seek(memo, cursor, choices, ready, here)? else {
             match close(memo, cursor, ready, frames, &mut here)? {
-                Some(note) => return Ok(Ended::Refuted(note)),
+                Some(note) => return Ok(SearchEnd::Refuted(note)),
                 None => continue,
             }
         };
@@ -366,7 +366,7 @@ fn search_on<N: Copy, R: Recorder<N, A>, A: Allocator + Copy>(
             continue;
         };
         let Some(rest) = spend(left) else {
-            return Ok(Ended::Spent);
+            return Ok(SearchEnd::Spent);
         };
         left = rest;
         ready.go_on(choices[place].decision, cursor);
@@ -384,7 +384,7 @@ fn search_from<'a, N: Copy, R: Recorder<N, A>, A: Allocator + Copy>(
     choices: &[Choice],
     budget: Option<u64>,
     memo: &mut Memo<'a, N, R, A>,
-) -> Result<Ended<N, A>, OutOfMemory>
+) -> Result<SearchEnd<N, A>, OutOfMemory>
     requires memo { memo.old.shape ≡ shape.now }
     requires shape { cursor.old.shape ≡ shape.now }
     requires choices { AreChoices (history_of cursor.old.shape) choices.now }
@@ -498,10 +498,10 @@ fn search_all<'a, N: Copy, R: Recorder<N, A>, A: Allocator + Copy>(
     let ended = search_from(alloc, shape, cursor, &choices, None, &mut memo)?;
     let recorder = memo.into_recorder();
     match ended {
-        Ended::Refuted(note) => Ok(Searched::NotOpaque(recorder, note)),
-        Ended::Witness(witness) => Ok(Searched::Opaque(witness)),
+        SearchEnd::Refuted(note) => Ok(Searched::NotOpaque(recorder, note)),
+        SearchEnd::Witness(witness) => Ok(Searched::Opaque(witness)),
         // Without a budget none is spent.
-        Ended::Spent => unreachable!(),
+        SearchEnd::Spent => unreachable!(),
     }
 }
 

@@ -34,11 +34,11 @@ pub returns-clause-closed : goal.returns-clause-closed
 returns-clause-closed g c =
     let path = c.args.cursor.now.path in
     let note = c.in_ok-note.note in
-    let stays = ap (λ (m : MemoOf _). m.recorder) c.go_back.ensures.memo ∙ c.learn.ensures.recorder in
+    let stays = ap (λ (m : MemoOf _). m.recorder) c.backtrack.ensures.memo ∙ c.learn.ensures.recorder in
     let noted = subst (λ r. g.R.Recorder.noted r note path) (sym stays) c.in_ok-note.ensures.noted in
-    (rw c.in-Some.is at c.pop.ensures.items, (note, noted), c.go_back.ensures.back)
+    (rw c.in-Some.is at c.pop.ensures.items, (note, noted), c.backtrack.ensures.back)
 
 pub returns-clause-further : goal.returns-clause-further
 returns-clause-further g c =
-    subst (λ (m : MemoOf _). IsFurther g.R.Recorder.grows c.args.memo.now m) (sym c.go_back.ensures.memo)
+    subst (λ (m : MemoOf _). IsFurther g.R.Recorder.grows c.args.memo.now m) (sym c.backtrack.ensures.memo)
     (reported-further g.R.Recorder.grows c.args.memo.now c.note.new.self c.learn.new.self c.in_ok-note.ensures.reported c.learn.ensures)

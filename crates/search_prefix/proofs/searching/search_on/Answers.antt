@@ -63,9 +63,8 @@ close-requires-clause-shape g c =
     let start = c.args.cursor.now in
     let cs = c.args.choices.now in
     let new = c.seek.new.cursor in
-    let memo = c.seek.new.memo in
     let (from, (passed, kept, found)) = rw c.in_default.is at c.in_ok-place.ensures.sought in
-    let r = round g.R.Recorder.noted g.R.Recorder.grows g.met.R.Recorder.noted_stays start at.cursor at.cursor at.memo memo cs at.invariant.used from at.here at.frames.items refl c.in_ok-place.ensures.reported at.invariant.same at.invariant.memo at.invariant.way at.invariant.searching at.invariant.heard at.invariant.opens passed kept in
+    let r = round g.R.Recorder.noted g.R.Recorder.grows g.met.R.Recorder.noted_stays start at.cursor at.cursor at.memo c.seek.new.memo cs at.invariant.used from at.here at.frames.items refl c.in_ok-place.ensures.reported at.invariant.same at.invariant.memo at.invariant.way at.invariant.searching at.invariant.heard at.invariant.opens passed kept in
     r.memo_same ∙ sym (ap (λ (v : CursorOf). v.shape) found.0 ∙ r.same)
 
 pub close-requires-clause-reason : goal.close-requires-clause-reason
@@ -74,9 +73,8 @@ close-requires-clause-reason g c =
     let start = c.args.cursor.now in
     let cs = c.args.choices.now in
     let new = c.seek.new.cursor in
-    let memo = c.seek.new.memo in
     let (from, (passed, kept, found)) = rw c.in_default.is at c.in_ok-place.ensures.sought in
-    let r = round g.R.Recorder.noted g.R.Recorder.grows g.met.R.Recorder.noted_stays start at.cursor at.cursor at.memo memo cs at.invariant.used from at.here at.frames.items refl c.in_ok-place.ensures.reported at.invariant.same at.invariant.memo at.invariant.way at.invariant.searching at.invariant.heard at.invariant.opens passed kept in
+    let r = round g.R.Recorder.noted g.R.Recorder.grows g.met.R.Recorder.noted_stays start at.cursor at.cursor at.memo c.seek.new.memo cs at.invariant.used from at.here at.frames.items refl c.in_ok-place.ensures.reported at.invariant.same at.invariant.memo at.invariant.way at.invariant.searching at.invariant.heard at.invariant.opens passed kept in
     round-reason r new _ c.requires.choices found refl
 
 pub close-requires-clause-named : goal.close-requires-clause-named
@@ -85,11 +83,10 @@ close-requires-clause-named g c =
     let start = c.args.cursor.now in
     let cs = c.args.choices.now in
     let new = c.seek.new.cursor in
-    let memo = c.seek.new.memo in
     let (from, (passed, kept, found)) = rw c.in_default.is at c.in_ok-place.ensures.sought in
-    let r = round g.R.Recorder.noted g.R.Recorder.grows g.met.R.Recorder.noted_stays start at.cursor at.cursor at.memo memo cs at.invariant.used from at.here at.frames.items refl c.in_ok-place.ensures.reported at.invariant.same at.invariant.memo at.invariant.way at.invariant.searching at.invariant.heard at.invariant.opens passed kept in
-    subst (λ (v : CursorOf). Names memo.states at.here.states (states_reached v.shape v.path)) (sym found.0)
-    (subst (λ (s : ShapeOf). Names memo.states at.here.states (states_reached s at.cursor.path)) (sym r.same) r.way.0)
+    let r = round g.R.Recorder.noted g.R.Recorder.grows g.met.R.Recorder.noted_stays start at.cursor at.cursor at.memo c.seek.new.memo cs at.invariant.used from at.here at.frames.items refl c.in_ok-place.ensures.reported at.invariant.same at.invariant.memo at.invariant.way at.invariant.searching at.invariant.heard at.invariant.opens passed kept in
+    subst (λ (v : CursorOf). Names c.seek.new.memo.states at.here.states (states_reached v.shape v.path)) (sym found.0)
+    (subst (λ (s : ShapeOf). Names c.seek.new.memo.states at.here.states (states_reached s at.cursor.path)) (sym r.same) r.way.0)
 
 pub close-requires-clause-refuted : goal.close-requires-clause-refuted
 close-requires-clause-refuted g c =
@@ -97,9 +94,8 @@ close-requires-clause-refuted g c =
     let start = c.args.cursor.now in
     let cs = c.args.choices.now in
     let new = c.seek.new.cursor in
-    let memo = c.seek.new.memo in
     let (from, (passed, kept, found)) = rw c.in_default.is at c.in_ok-place.ensures.sought in
-    let r = round g.R.Recorder.noted g.R.Recorder.grows g.met.R.Recorder.noted_stays start at.cursor at.cursor at.memo memo cs at.invariant.used from at.here at.frames.items refl c.in_ok-place.ensures.reported at.invariant.same at.invariant.memo at.invariant.way at.invariant.searching at.invariant.heard at.invariant.opens passed kept in
+    let r = round g.R.Recorder.noted g.R.Recorder.grows g.met.R.Recorder.noted_stays start at.cursor at.cursor at.memo c.seek.new.memo cs at.invariant.used from at.here at.frames.items refl c.in_ok-place.ensures.reported at.invariant.same at.invariant.memo at.invariant.way at.invariant.searching at.invariant.heard at.invariant.opens passed kept in
     let refuted = loop-refuted start at.cursor new cs at.invariant.used from (reverse (map next_of at.frames.items)) r.same c.requires.choices r.searching found in
     subst (λ (v : CursorOf). Refuted (objects_of v.shape) (history_of v.shape) v.path) (sym found.0)
     (subst (λ (s : ShapeOf). Refuted (objects_of s) (history_of s) at.cursor.path) (sym r.same) refuted)
@@ -110,9 +106,8 @@ close-requires-clause-ready g c =
     let start = c.args.cursor.now in
     let cs = c.args.choices.now in
     let new = c.seek.new.cursor in
-    let memo = c.seek.new.memo in
     let (from, (passed, kept, found)) = rw c.in_default.is at c.in_ok-place.ensures.sought in
-    let r = round g.R.Recorder.noted g.R.Recorder.grows g.met.R.Recorder.noted_stays start at.cursor at.cursor at.memo memo cs at.invariant.used from at.here at.frames.items refl c.in_ok-place.ensures.reported at.invariant.same at.invariant.memo at.invariant.way at.invariant.searching at.invariant.heard at.invariant.opens passed kept in
+    let r = round g.R.Recorder.noted g.R.Recorder.grows g.met.R.Recorder.noted_stays start at.cursor at.cursor at.memo c.seek.new.memo cs at.invariant.used from at.here at.frames.items refl c.in_ok-place.ensures.reported at.invariant.same at.invariant.memo at.invariant.way at.invariant.searching at.invariant.heard at.invariant.opens passed kept in
     subst (λ (v : CursorOf). IsReady at.ready v) (sym found.0) at.invariant.ready
 
 pub returns-in-Some-2-clause-reported : goal.returns-in-Some-2-clause-reported
@@ -121,9 +116,8 @@ returns-in-Some-2-clause-reported g c =
     let start = c.args.cursor.now in
     let cs = c.args.choices.now in
     let new = c.seek.new.cursor in
-    let memo = c.seek.new.memo in
     let (from, (passed, kept, found)) = rw c.in_default.is at c.in_ok-place.ensures.sought in
-    let r = round g.R.Recorder.noted g.R.Recorder.grows g.met.R.Recorder.noted_stays start at.cursor at.cursor at.memo memo cs at.invariant.used from at.here at.frames.items refl c.in_ok-place.ensures.reported at.invariant.same at.invariant.memo at.invariant.way at.invariant.searching at.invariant.heard at.invariant.opens passed kept in
+    let r = round g.R.Recorder.noted g.R.Recorder.grows g.met.R.Recorder.noted_stays start at.cursor at.cursor at.memo c.seek.new.memo cs at.invariant.used from at.here at.frames.items refl c.in_ok-place.ensures.reported at.invariant.same at.invariant.memo at.invariant.way at.invariant.searching at.invariant.heard at.invariant.opens passed kept in
     let (none, noted, stays) = rw c.in-Some-2.is at c.in_ok-note.ensures.closed in (
       loop-over start at.cursor new cs at.invariant.used from (map next_of at.frames.items) r.same c.requires.choices r.searching found (ap (map next_of) none),
       round-over r new c.close.new.memo.recorder c.in-Some-2.note found none noted,
@@ -135,9 +129,8 @@ search-smaller-in-None g c =
     let start = c.args.cursor.now in
     let cs = c.args.choices.now in
     let new = c.seek.new.cursor in
-    let memo = c.seek.new.memo in
     let (from, (passed, kept, found)) = rw c.in_default.is at c.in_ok-place.ensures.sought in
-    let r = round g.R.Recorder.noted g.R.Recorder.grows g.met.R.Recorder.noted_stays start at.cursor at.cursor at.memo memo cs at.invariant.used from at.here at.frames.items refl c.in_ok-place.ensures.reported at.invariant.same at.invariant.memo at.invariant.way at.invariant.searching at.invariant.heard at.invariant.opens passed kept in
+    let r = round g.R.Recorder.noted g.R.Recorder.grows g.met.R.Recorder.noted_stays start at.cursor at.cursor at.memo c.seek.new.memo cs at.invariant.used from at.here at.frames.items refl c.in_ok-place.ensures.reported at.invariant.same at.invariant.memo at.invariant.way at.invariant.searching at.invariant.heard at.invariant.opens passed kept in
     let (shorter, noted, back) = rw c.in-None.is at c.in_ok-note.ensures.closed in
     loop-back-lighter start.shape at.cursor new c.close.new.cursor cs at.here.next c.close.new.here.next (map next_of at.frames.items) (map next_of c.close.new.frames.items) found.0
     (more-frames next_of c.close.new.frames.items at.frames.items c.close.new.here shorter) back
@@ -148,9 +141,8 @@ search-preserved-in-None g c =
     let start = c.args.cursor.now in
     let cs = c.args.choices.now in
     let new = c.seek.new.cursor in
-    let memo = c.seek.new.memo in
     let (from, (passed, kept, found)) = rw c.in_default.is at c.in_ok-place.ensures.sought in
-    let r = round g.R.Recorder.noted g.R.Recorder.grows g.met.R.Recorder.noted_stays start at.cursor at.cursor at.memo memo cs at.invariant.used from at.here at.frames.items refl c.in_ok-place.ensures.reported at.invariant.same at.invariant.memo at.invariant.way at.invariant.searching at.invariant.heard at.invariant.opens passed kept in
+    let r = round g.R.Recorder.noted g.R.Recorder.grows g.met.R.Recorder.noted_stays start at.cursor at.cursor at.memo c.seek.new.memo cs at.invariant.used from at.here at.frames.items refl c.in_ok-place.ensures.reported at.invariant.same at.invariant.memo at.invariant.way at.invariant.searching at.invariant.heard at.invariant.opens passed kept in
     let (shorter, noted, back) = rw c.in-None.is at c.in_ok-note.ensures.closed in
     let frame = c.close.new.here in
     let less = c.close.new.frames.items in
@@ -158,7 +150,7 @@ search-preserved-in-None g c =
     let further = c.in_ok-note.ensures.further in
     let went = loop-back start at.cursor new c.close.new.cursor cs at.invariant.used from frame.next (map next_of at.frames.items) (map next_of less) r.same
     c.requires.choices r.searching found (more-frames next_of less at.frames.items frame shorter) back in
-    let heard = round-back r now.recorder (note-on g.R.Recorder.noted g.R.Recorder.grows g.met.R.Recorder.noted_stays g.met.R.Recorder.grows_onward memo.recorder now.recorder further.recorder)
+    let heard = round-back r now.recorder (note-on g.R.Recorder.noted g.R.Recorder.grows g.met.R.Recorder.noted_stays g.met.R.Recorder.grows_onward c.seek.new.memo.recorder now.recorder further.recorder)
     new c.close.new.cursor.path less frame noted.0 found shorter noted.1 went.2 in
     record {
       same = went.0;
@@ -167,7 +159,7 @@ search-preserved-in-None g c =
       memo = further.shape ∙ r.memo_same;
       way = subst (λ l. NameWay start.shape now.states (frame.states ∷ reverse (map states_of less)) l) (sym went.2)
           (way-back start.shape now.states at.here.states frame.states (map states_of at.frames.items) (map states_of less) at.cursor.path
-          (way-further g.R.Recorder.grows start.shape memo now (at.here.states ∷ reverse (map states_of at.frames.items)) at.cursor.path further r.way)
+          (way-further g.R.Recorder.grows start.shape c.seek.new.memo now (at.here.states ∷ reverse (map states_of at.frames.items)) at.cursor.path further r.way)
           (more-frames states_of less at.frames.items frame shorter));
       searching = went.1;
       heard = heard.0;
@@ -182,14 +174,12 @@ returns-then-full-clause-reported g c =
     let start = c.args.cursor.now in
     let cs = c.args.choices.now in
     let new = c.seek.new.cursor in
-    let memo = c.seek.new.memo in
     let (from, (passed, kept, found)) = rw c.in-Some.is at c.in_ok-place.ensures.sought in
-    let r = round g.R.Recorder.noted g.R.Recorder.grows g.met.R.Recorder.noted_stays start at.cursor at.cursor at.memo memo cs at.invariant.used from at.here at.frames.items refl c.in_ok-place.ensures.reported at.invariant.same at.invariant.memo at.invariant.way at.invariant.searching at.invariant.heard at.invariant.opens passed kept in
-    let k = c.in-Some.place in
-    let f = round-follows r new k found in
-    IfOk-weaker c.witness_at.result (IsWitnessOf new.path) (ReportsAt start (g.R.Recorder.noted memo.recorder) c.args.budget)
-    (λ e is. reports-witness g.row.N.Denot g.row.A.Denot (g.R.Recorder.noted memo.recorder) (objects_of start.shape) (history_of start.shape) start.path new.path c.args.budget e is
-    (loop-witness start at.cursor new cs at.invariant.used at.here.next k (reverse (map next_of at.frames.items)) new.path r.before f (c.full.ensures.0 c.if-full.true) refl)) c.witness_at.ensures
+    let r = round g.R.Recorder.noted g.R.Recorder.grows g.met.R.Recorder.noted_stays start at.cursor at.cursor at.memo c.seek.new.memo cs at.invariant.used from at.here at.frames.items refl c.in_ok-place.ensures.reported at.invariant.same at.invariant.memo at.invariant.way at.invariant.searching at.invariant.heard at.invariant.opens passed kept in
+    let f = round-follows r new c.in-Some.place found in
+    IfOk-weaker c.witness_at.result (IsWitnessOf new.path) (ReportsAt start (g.R.Recorder.noted c.seek.new.memo.recorder) c.args.budget)
+    (λ e is. reports-witness g.row.N.Denot g.row.A.Denot (g.R.Recorder.noted c.seek.new.memo.recorder) (objects_of start.shape) (history_of start.shape) start.path new.path c.args.budget e is
+    (loop-witness start at.cursor new cs at.invariant.used at.here.next c.in-Some.place (reverse (map next_of at.frames.items)) new.path r.before f (c.full.ensures.0 c.if-full.true) refl)) c.witness_at.ensures
 
 pub arrive-requires : goal.arrive-requires
 arrive-requires g c =
@@ -197,13 +187,11 @@ arrive-requires g c =
     let start = c.args.cursor.now in
     let cs = c.args.choices.now in
     let new = c.seek.new.cursor in
-    let memo = c.seek.new.memo in
     let (from, (passed, kept, found)) = rw c.in-Some.is at c.in_ok-place.ensures.sought in
-    let r = round g.R.Recorder.noted g.R.Recorder.grows g.met.R.Recorder.noted_stays start at.cursor at.cursor at.memo memo cs at.invariant.used from at.here at.frames.items refl c.in_ok-place.ensures.reported at.invariant.same at.invariant.memo at.invariant.way at.invariant.searching at.invariant.heard at.invariant.opens passed kept in
-    let k = c.in-Some.place in
-    let f = round-follows r new k found in
+    let r = round g.R.Recorder.noted g.R.Recorder.grows g.met.R.Recorder.noted_stays start at.cursor at.cursor at.memo c.seek.new.memo cs at.invariant.used from at.here at.frames.items refl c.in_ok-place.ensures.reported at.invariant.same at.invariant.memo at.invariant.way at.invariant.searching at.invariant.heard at.invariant.opens passed kept in
+    let f = round-follows r new c.in-Some.place found in
     let on : Grounds start.shape cs = record { fine = c.requires.fine; within = c.requires.within; choices = c.requires.choices } in
-    step-at start at.cursor new cs at.here.next k memo at.here.states (reverse (map states_of at.frames.items)) on f r.memo_same r.way
+    step-at start at.cursor new cs at.here.next c.in-Some.place c.seek.new.memo at.here.states (reverse (map states_of at.frames.items)) on f r.memo_same r.way
 
 pub search-smaller-in_default-2 : goal.search-smaller-in_default-2
 search-smaller-in_default-2 g c =
@@ -211,13 +199,11 @@ search-smaller-in_default-2 g c =
     let start = c.args.cursor.now in
     let cs = c.args.choices.now in
     let new = c.seek.new.cursor in
-    let memo = c.seek.new.memo in
     let (from, (passed, kept, found)) = rw c.in-Some.is at c.in_ok-place.ensures.sought in
-    let r = round g.R.Recorder.noted g.R.Recorder.grows g.met.R.Recorder.noted_stays start at.cursor at.cursor at.memo memo cs at.invariant.used from at.here at.frames.items refl c.in_ok-place.ensures.reported at.invariant.same at.invariant.memo at.invariant.way at.invariant.searching at.invariant.heard at.invariant.opens passed kept in
-    let k = c.in-Some.place in
-    let f = round-follows r new k found in
+    let r = round g.R.Recorder.noted g.R.Recorder.grows g.met.R.Recorder.noted_stays start at.cursor at.cursor at.memo c.seek.new.memo cs at.invariant.used from at.here at.frames.items refl c.in_ok-place.ensures.reported at.invariant.same at.invariant.memo at.invariant.way at.invariant.searching at.invariant.heard at.invariant.opens passed kept in
+    let f = round-follows r new c.in-Some.place found in
     let (noted, refuted, back) = rw c.in_default-2.is at c.in_ok-states.ensures.arrived in
-    loop-known-lighter start at.cursor new c.arrive.new.cursor cs at.here.next k c.next_place.result (map next_of at.frames.items) f c.next_place.ensures.past back
+    loop-known-lighter start at.cursor new c.arrive.new.cursor cs at.here.next c.in-Some.place c.next_place.result (map next_of at.frames.items) f c.next_place.ensures.past back
 
 pub search-preserved-in_default-2 : goal.search-preserved-in_default-2
 search-preserved-in_default-2 g c =
@@ -225,30 +211,28 @@ search-preserved-in_default-2 g c =
     let start = c.args.cursor.now in
     let cs = c.args.choices.now in
     let new = c.seek.new.cursor in
-    let memo = c.seek.new.memo in
     let (from, (passed, kept, found)) = rw c.in-Some.is at c.in_ok-place.ensures.sought in
-    let r = round g.R.Recorder.noted g.R.Recorder.grows g.met.R.Recorder.noted_stays start at.cursor at.cursor at.memo memo cs at.invariant.used from at.here at.frames.items refl c.in_ok-place.ensures.reported at.invariant.same at.invariant.memo at.invariant.way at.invariant.searching at.invariant.heard at.invariant.opens passed kept in
-    let k = c.in-Some.place in
-    let f = round-follows r new k found in
+    let r = round g.R.Recorder.noted g.R.Recorder.grows g.met.R.Recorder.noted_stays start at.cursor at.cursor at.memo c.seek.new.memo cs at.invariant.used from at.here at.frames.items refl c.in_ok-place.ensures.reported at.invariant.same at.invariant.memo at.invariant.way at.invariant.searching at.invariant.heard at.invariant.opens passed kept in
+    let f = round-follows r new c.in-Some.place found in
     let (noted, refuted, back) = rw c.in_default-2.is at c.in_ok-states.ensures.arrived in
     let on : Grounds start.shape cs = record { fine = c.requires.fine; within = c.requires.within; choices = c.requires.choices } in
-    let went = went-back start at.cursor new c.arrive.new.cursor cs at.here.next k f back in
+    let went = went-back start at.cursor new c.arrive.new.cursor cs at.here.next c.in-Some.place f back in
     let now = c.arrive.new.memo in
     let further = c.in_ok-states.ensures.further in
-    let heard = round-known r now.recorder (note-on g.R.Recorder.noted g.R.Recorder.grows g.met.R.Recorder.noted_stays g.met.R.Recorder.grows_onward memo.recorder now.recorder further.recorder)
-    new c.arrive.new.cursor.path k c.next_place.result c.silent_at-here.result noted.0 c.requires.choices found c.next_place.ensures c.silent_at-here.ensures noted.1 went.1 in
+    let heard = round-known r now.recorder (note-on g.R.Recorder.noted g.R.Recorder.grows g.met.R.Recorder.noted_stays g.met.R.Recorder.grows_onward c.seek.new.memo.recorder now.recorder further.recorder)
+    new c.arrive.new.cursor.path c.in-Some.place c.next_place.result c.silent_at-here.result noted.0 c.requires.choices found c.next_place.ensures c.silent_at-here.ensures noted.1 went.1 in
     record {
       same = went.0;
       used = at.invariant.used;
       spends = at.invariant.spends;
       memo = further.shape ∙ r.memo_same;
       way = subst (λ l. NameWay start.shape now.states (at.here.states ∷ reverse (map states_of at.frames.items)) l) (sym went.1)
-          (way-further g.R.Recorder.grows start.shape memo now (at.here.states ∷ reverse (map states_of at.frames.items)) at.cursor.path further r.way);
-      searching = loop-known start at.cursor new c.arrive.new.cursor cs at.invariant.used at.here.next k c.next_place.result (map next_of at.frames.items) on r.before f c.next_place.ensures refuted back;
+          (way-further g.R.Recorder.grows start.shape c.seek.new.memo now (at.here.states ∷ reverse (map states_of at.frames.items)) at.cursor.path further r.way);
+      searching = loop-known start at.cursor new c.arrive.new.cursor cs at.invariant.used at.here.next c.in-Some.place c.next_place.result (map next_of at.frames.items) on r.before f c.next_place.ensures refuted back;
       heard = heard.0;
       opens = heard.1;
       choices = at.invariant.choices;
-      ready = ready-still start at.cursor new c.arrive.new.cursor cs at.here.next k at.ready f r.same back at.invariant.ready;
+      ready = ready-still start at.cursor new c.arrive.new.cursor cs at.here.next c.in-Some.place at.ready f r.same back at.invariant.ready;
     }
 
 pub returns-in_default-spend-clause-reported : goal.returns-in_default-spend-clause-reported
@@ -257,14 +241,12 @@ returns-in_default-spend-clause-reported g c =
     let start = c.args.cursor.now in
     let cs = c.args.choices.now in
     let new = c.seek.new.cursor in
-    let memo = c.seek.new.memo in
     let (from, (passed, kept, found)) = rw c.in-Some.is at c.in_ok-place.ensures.sought in
-    let r = round g.R.Recorder.noted g.R.Recorder.grows g.met.R.Recorder.noted_stays start at.cursor at.cursor at.memo memo cs at.invariant.used from at.here at.frames.items refl c.in_ok-place.ensures.reported at.invariant.same at.invariant.memo at.invariant.way at.invariant.searching at.invariant.heard at.invariant.opens passed kept in
-    let k = c.in-Some.place in
-    let f = round-follows r new k found in
+    let r = round g.R.Recorder.noted g.R.Recorder.grows g.met.R.Recorder.noted_stays start at.cursor at.cursor at.memo c.seek.new.memo cs at.invariant.used from at.here at.frames.items refl c.in_ok-place.ensures.reported at.invariant.same at.invariant.memo at.invariant.way at.invariant.searching at.invariant.heard at.invariant.opens passed kept in
+    let f = round-follows r new c.in-Some.place found in
     let unfull : IsFull (history_of new.shape) new.path → ⊥ = λ full. false≢true (sym c.if-full.false ∙ c.full.ensures.1 full) in
     spent-from g.row.N.Denot g.row.A.Denot (g.R.Recorder.noted c.arrive.new.memo.recorder) (objects_of start.shape) (history_of start.shape) start.path c.args.budget at.left at.invariant.used at.invariant.spends (rw c.in_default-spend.is at c.spend.ensures)
-    (loop-spent start at.cursor new cs at.invariant.used at.here.next k (reverse (map next_of at.frames.items)) r.before f unfull)
+    (loop-spent start at.cursor new cs at.invariant.used at.here.next c.in-Some.place (reverse (map next_of at.frames.items)) r.before f unfull)
 
 pub go_on-requires : goal.go_on-requires
 go_on-requires g c =
@@ -272,13 +254,11 @@ go_on-requires g c =
     let start = c.args.cursor.now in
     let cs = c.args.choices.now in
     let new = c.seek.new.cursor in
-    let memo = c.seek.new.memo in
     let (from, (passed, kept, found)) = rw c.in-Some.is at c.in_ok-place.ensures.sought in
-    let r = round g.R.Recorder.noted g.R.Recorder.grows g.met.R.Recorder.noted_stays start at.cursor at.cursor at.memo memo cs at.invariant.used from at.here at.frames.items refl c.in_ok-place.ensures.reported at.invariant.same at.invariant.memo at.invariant.way at.invariant.searching at.invariant.heard at.invariant.opens passed kept in
-    let k = c.in-Some.place in
-    let f = round-follows r new k found in
+    let r = round g.R.Recorder.noted g.R.Recorder.grows g.met.R.Recorder.noted_stays start at.cursor at.cursor at.memo c.seek.new.memo cs at.invariant.used from at.here at.frames.items refl c.in_ok-place.ensures.reported at.invariant.same at.invariant.memo at.invariant.way at.invariant.searching at.invariant.heard at.invariant.opens passed kept in
+    let f = round-follows r new c.in-Some.place found in
     let (named, stays) = rw c.in-Fresh.is at c.in_ok-states.ensures.arrived in
-    subst (λ (v : CursorOf). IsReadyAfter at.ready v (slice_index_or cs k no_choice).decision) (sym stays) (ready-on start at.cursor new cs at.here.next k at.ready f r.same at.invariant.ready)
+    subst (λ (v : CursorOf). IsReadyAfter at.ready v (slice_index_or cs c.in-Some.place no_choice).decision) (sym stays) (ready-on start at.cursor new cs at.here.next c.in-Some.place at.ready f r.same at.invariant.ready)
 
 pub search-smaller : goal.search-smaller
 search-smaller g c =
@@ -286,11 +266,9 @@ search-smaller g c =
     let start = c.args.cursor.now in
     let cs = c.args.choices.now in
     let new = c.seek.new.cursor in
-    let memo = c.seek.new.memo in
     let (from, (passed, kept, found)) = rw c.in-Some.is at c.in_ok-place.ensures.sought in
-    let r = round g.R.Recorder.noted g.R.Recorder.grows g.met.R.Recorder.noted_stays start at.cursor at.cursor at.memo memo cs at.invariant.used from at.here at.frames.items refl c.in_ok-place.ensures.reported at.invariant.same at.invariant.memo at.invariant.way at.invariant.searching at.invariant.heard at.invariant.opens passed kept in
-    let k = c.in-Some.place in
-    let f = round-follows r new k found in
+    let r = round g.R.Recorder.noted g.R.Recorder.grows g.met.R.Recorder.noted_stays start at.cursor at.cursor at.memo c.seek.new.memo cs at.invariant.used from at.here at.frames.items refl c.in_ok-place.ensures.reported at.invariant.same at.invariant.memo at.invariant.way at.invariant.searching at.invariant.heard at.invariant.opens passed kept in
+    let f = round-follows r new c.in-Some.place found in
     let (named, stays) = rw c.in-Fresh.is at c.in_ok-states.ensures.arrived in
     let frame : Frame = record { next = c.next_place.result; states = at.here.states; silent = c.silent_at-here.result } in
     let here = c.new-here-in-search.result in
@@ -301,7 +279,7 @@ search-smaller g c =
     (subst (λ ns. weight start.shape cs c.arrive.new.cursor.path here.next ns < before) (sym (room-nexts _ _ _ _ _ _ made))
     (subst (λ (v : CursorOf). weight start.shape cs v.path here.next (map next_of frames) < before) (sym stays)
     (subst (λ (t : Frame). weight start.shape cs new.path t.next (map next_of frames) < before) (sym c.new-here-in-search.ensures)
-    (loop-deeper-lighter start at.cursor new cs at.here.next k c.next_place.result (map next_of at.frames.items) (map next_of frames) f c.next_place.ensures.past (more-frames next_of at.frames.items frames frame c.in_ok-push.ensures.items)))))
+    (loop-deeper-lighter start at.cursor new cs at.here.next c.in-Some.place c.next_place.result (map next_of at.frames.items) (map next_of frames) f c.next_place.ensures.past (more-frames next_of at.frames.items frames frame c.in_ok-push.ensures.items)))))
 
 pub search-preserved : goal.search-preserved
 search-preserved g c =
@@ -309,10 +287,8 @@ search-preserved g c =
     let start = c.args.cursor.now in
     let cs = c.args.choices.now in
     let new = c.arrive.new.cursor in
-    let memo = c.seek.new.memo in
     let (from, (passed, kept, found)) = rw c.in-Some.is at c.in_ok-place.ensures.sought in
-    let r = round g.R.Recorder.noted g.R.Recorder.grows g.met.R.Recorder.noted_stays start at.cursor at.cursor at.memo memo cs at.invariant.used from at.here at.frames.items refl c.in_ok-place.ensures.reported at.invariant.same at.invariant.memo at.invariant.way at.invariant.searching at.invariant.heard at.invariant.opens passed kept in
-    let k = c.in-Some.place in
+    let r = round g.R.Recorder.noted g.R.Recorder.grows g.met.R.Recorder.noted_stays start at.cursor at.cursor at.memo c.seek.new.memo cs at.invariant.used from at.here at.frames.items refl c.in_ok-place.ensures.reported at.invariant.same at.invariant.memo at.invariant.way at.invariant.searching at.invariant.heard at.invariant.opens passed kept in
     let (named, stays) = rw c.in-Fresh.is at c.in_ok-states.ensures.arrived in
     let was = c.seek.new.cursor in
     let unfull : IsFull (history_of was.shape) was.path → ⊥ = λ full. false≢true (sym c.if-full.false ∙ c.full.ensures.1 full) in
@@ -325,8 +301,8 @@ search-preserved g c =
     let made = c.make_room.ensures in
     let P = HasNote (g.R.Recorder.noted c.make_room.new.memo.recorder) in
     let further = c.in_ok-states.ensures.further in
-    let there = subst (λ (v : CursorOf). IsFound at.cursor v cs from (Some k)) (sym stays) found in
-    let f = round-follows r new k there in
+    let there = subst (λ (v : CursorOf). IsFound at.cursor v cs from (Some c.in-Some.place)) (sym stays) found in
+    let f = round-follows r new c.in-Some.place there in
     record {
       same = f.shape;
       used = at.invariant.used + 1;
@@ -334,20 +310,20 @@ search-preserved g c =
       memo = made.shape ∙ further.shape ∙ r.memo_same;
       way = room-way _ _ _ _ _ _ made start.shape new.path (subst (λ (t : Frame). NameWay start.shape now.states (t.states ∷ reverse (map states_of c.push.new.self.items)) new.path) (sym c.new-here-in-search.ensures)
           (way-deeper start.shape now.states at.here.states c.in-Fresh.states (map states_of at.frames.items) (map states_of c.push.new.self.items) at.cursor.path new.path f.choice.decision
-          (way-further g.R.Recorder.grows start.shape memo now (at.here.states ∷ reverse (map states_of at.frames.items)) at.cursor.path further r.way) f.path
+          (way-further g.R.Recorder.grows start.shape c.seek.new.memo now (at.here.states ∷ reverse (map states_of at.frames.items)) at.cursor.path further r.way) f.path
           (subst (λ (s : ShapeOf). Names now.states c.in-Fresh.states (states_reached s new.path)) f.shape
           (subst (λ (v : CursorOf). Names now.states c.in-Fresh.states (states_reached v.shape v.path)) (sym stays) named))
           (more-frames states_of at.frames.items c.push.new.self.items frame c.in_ok-push.ensures.items)));
       searching = subst (λ n. IsSearching (objects_of start.shape) (history_of start.shape) start.path cs (at.invariant.used + 1) new.path n (reverse (map next_of later))) (sym (room-next _ _ _ _ _ _ made))
           (subst (λ ns. IsSearching (objects_of start.shape) (history_of start.shape) start.path cs (at.invariant.used + 1) new.path here.next (reverse ns)) (sym (room-nexts _ _ _ _ _ _ made))
           (subst (λ (t : Frame). IsSearching (objects_of start.shape) (history_of start.shape) start.path cs (at.invariant.used + 1) new.path t.next (reverse (map next_of c.push.new.self.items))) (sym c.new-here-in-search.ensures)
-          (loop-deeper start at.cursor new cs at.invariant.used at.here.next k c.next_place.result (map next_of at.frames.items) (map next_of c.push.new.self.items) on r.before f
+          (loop-deeper start at.cursor new cs at.invariant.used at.here.next c.in-Some.place c.next_place.result (map next_of at.frames.items) (map next_of c.push.new.self.items) on r.before f
           (subst (λ (v : CursorOf). IsFull (history_of v.shape) v.path → ⊥) (sym stays) unfull) c.next_place.ensures
           (more-frames next_of at.frames.items c.push.new.self.items frame c.in_ok-push.ensures.items))));
       heard = subst (λ n. IsHeard P start.shape cs new.path n own.silent) (sym (room-next _ _ _ _ _ _ made)) (subst (λ s. IsHeard P start.shape cs new.path here.next s) (sym (room-silent _ _ _ _ _ _ made))
           (subst (λ (t : Frame). IsHeard P start.shape cs new.path t.next t.silent) (sym c.new-here-in-search.ensures) (kept-none P start.shape cs new.path 0)));
       opens = room-opens _ _ _ _ _ _ made P start.shape cs new.path (subst (λ v. AreOpen (HasNote (g.R.Recorder.noted v)) start.shape cs (reverse c.push.new.self.items) new.path) (sym made.recorder)
-          (round-deeper r now.recorder (note-on g.R.Recorder.noted g.R.Recorder.grows g.met.R.Recorder.noted_stays g.met.R.Recorder.grows_onward memo.recorder now.recorder further.recorder) new k c.next_place.result c.silent_at-here.result frame c.push.new.self.items c.requires.choices there
+          (round-deeper r now.recorder (note-on g.R.Recorder.noted g.R.Recorder.grows g.met.R.Recorder.noted_stays g.met.R.Recorder.grows_onward c.seek.new.memo.recorder now.recorder further.recorder) new c.in-Some.place c.next_place.result c.silent_at-here.result frame c.push.new.self.items c.requires.choices there
           c.next_place.ensures c.silent_at-here.ensures refl refl c.in_ok-push.ensures.items));
       choices = c.go_on.ensures.choices ∙ at.invariant.choices;
       ready = c.go_on.ensures.ready;

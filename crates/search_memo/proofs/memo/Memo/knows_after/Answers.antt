@@ -13,7 +13,7 @@ returns-clause-refuted g c =
     let at = c.args.cursor.now in
     let next = subst (λ (o : Option ℕ). IsNext c.args.self.now o c.args.choice.now at) c.in-Some.is c.requires in
     let same : c.self.inside.shape.now ≡ at.shape = ap (λ (m : MemoOf _). m.shape) c.self.view_is ∙ next.shape in
-    IfSome_then c.find_dead.result c.find_dead.ensures
+    IfSome_then c.find_refuted.result c.find_refuted.ensures
     (λ note dead. known-after c.args.self.now _ c.in-Some.before c.in-Some-after.after c.args.choice.now at c.placed.result.now (subst (λ (s : ShapeOf). IsWellFormed (history_of s)) same c.history-sound.ensures.sound)
     (subst (λ (s : ShapeOf). IsWithinLimits (plan_of s) (history_of s)) same c.plan-within.ensures.sound) c.prefix-good.ensures.good next c.placed.ensures c.in-Some-after.ensures dead)
 
@@ -22,6 +22,6 @@ returns-clause-alike g c =
     let at = c.args.cursor.now in
     let next = subst (λ (o : Option ℕ). IsNext c.args.self.now o c.args.choice.now at) c.in-Some.is c.requires in
     let same : c.self.inside.shape.now ≡ at.shape = ap (λ (m : MemoOf _). m.shape) c.self.view_is ∙ next.shape in
-    IfSome_then c.find_dead.result c.find_dead.ensures
+    IfSome_then c.find_refuted.result c.find_refuted.ensures
     (λ note dead. alike-after c.args.self.now _ c.in-Some.before c.in-Some-after.after c.args.choice.now at c.placed.result.now (subst (λ (s : ShapeOf). IsWellFormed (history_of s)) same c.history-sound.ensures.sound)
     (subst (λ (s : ShapeOf). IsWithinLimits (plan_of s) (history_of s)) same c.plan-within.ensures.sound) c.prefix-good.ensures.good next c.placed.ensures c.in-Some-after.ensures dead)

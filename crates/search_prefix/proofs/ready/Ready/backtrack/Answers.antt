@@ -4,8 +4,8 @@ use Rattle.aud_order.specs.Shapes.{history_of}
 use Rattle.search_memo.specs.Choices.{AreChoices}
 use Rattle.search_prefix.specs.Readiness.{ReadyOf, IsReady, IsRowMarked}
 use Rattle.search_prefix.proofs.Readiness.{ready-back, ready-back_none, ready-less, choices-of, found-in}
-use Rattle.search_prefix.proofs.ready.Ready.go_back.Goals.{in-Some, in_default}
-use Rattle.search_prefix.proofs.ready.Ready.go_back.Goals as goal
+use Rattle.search_prefix.proofs.ready.Ready.backtrack.Goals.{in-Some, in_default}
+use Rattle.search_prefix.proofs.ready.Ready.backtrack.Goals as goal
 
 pub loop-self-init : goal.loop-self-init
 loop-self-init g c =

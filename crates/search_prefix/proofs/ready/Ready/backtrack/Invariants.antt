@@ -1,6 +1,6 @@
 use Rattle.std.specs.Prelude.{◌≡◌}
 use Rattle.search_prefix.specs.Readiness.{IsReady}
-use Rattle.search_prefix.proofs.ready.Ready.go_back.Given as goal
+use Rattle.search_prefix.proofs.ready.Ready.backtrack.Given as goal
 
 abbrev pub invariant-loop-self : goal.invariant-loop-self
 invariant-loop-self g l = record {
