@@ -16,7 +16,7 @@ use std::alloc::Allocator;
 /// A stage of `decide`, which may leave open whether the history is opaque.
 #[derive(Clone, Copy)]
 enum Stage {
-    /// A search by last events that hardly goes back.
+    /// A search by last events that hardly backtracks.
     Straight,
     /// A search by last events of so many prefixes.
     Bounded(u64),
@@ -56,8 +56,8 @@ const PREFIXES: u64 = 1 << 20;
 /// How many prefixes are expanded, beside one for each transaction, before anything else is tried.
 const FIRST: u64 = 64;
 
-/// How many prefixes of the shape a search expands that hardly goes back.
-pub(crate) fn straight<A: Allocator + Copy>(shape: &Shape<A>) -> u64 {
+/// How many prefixes of the shape a search expands that hardly backtracks.
+pub(crate) fn straight_budget<A: Allocator + Copy>(shape: &Shape<A>) -> u64 {
     FIRST.saturating_add(shape.table().rows().len() as u64)
 }
 
@@ -117,7 +117,7 @@ fn decide_in<'a, A: Allocator + Copy>(
     ensures shape { OnOk result (memo.new.shape ≡ memo.old.shape) }
 {
     match stage {
-        Stage::Straight => decide_within(alloc, shape, straight(shape), memo),
+        Stage::Straight => decide_within(alloc, shape, straight_budget(shape), memo),
         Stage::Bounded(prefixes) => decide_within(alloc, shape, prefixes, memo),
         Stage::Learning(effort) => decide_by_clauses(alloc, shape, effort),
     }

@@ -14,7 +14,7 @@ use aud_witness::{Decision, Prefix};
 use judge_clauses::{Judgement, Refutation, judge};
 use judge_laws::ObjectLaw;
 pub use search_engine::Effort;
-use search_engine::{Answer, solve};
+use search_engine::{Solved, solve};
 use search_prefix::Decided;
 use std::alloc::{Allocator, Global};
 
@@ -97,9 +97,9 @@ pub fn learn<A: Allocator + Copy>(
     ensures { IfOk result (IsLearned (objects_of shape.now) (history_of shape.now)) }
 {
     match solve(alloc, shape, effort)? {
-        Answer::Order(decisions) => learn_order(alloc, shape, &decisions),
-        Answer::Refuted(refutation) => learn_refutation(alloc, shape, refutation),
-        Answer::Unknown => Ok(Learned::Unknown),
+        Solved::Order(decisions) => learn_order(alloc, shape, &decisions),
+        Solved::Refuted(refutation) => learn_refutation(alloc, shape, refutation),
+        Solved::Unknown => Ok(Learned::Unknown),
     }
 }
 

@@ -5,7 +5,7 @@ ghost use Rattle.aud_witness.specs.Orders.{Refuted};
 ghost use Rattle.aud_order.specs.Shapes.{objects_of, history_of};
 ghost use Rattle.search_prefix.specs.Searches.{Reports};
 
-use crate::deciding::straight;
+use crate::deciding::straight_budget;
 use crate::learning::{decide_by_clauses, effort_of};
 use aud_event::OutOfMemory;
 use aud_order::Shape;
@@ -15,7 +15,7 @@ use search_prefix::{Decided, Outcome, search};
 use std::alloc::{Allocator, Global};
 use std::marker::Model;
 
-/// Where no prefix shows the history, none that begins with the prefix does.
+/// Where no order shows the history, no order that begins with the prefix does.
 fn is_refuted_below<A: Allocator + Copy>(
     shape: &Shape<A>,
     prefix: &Prefix<A>,
@@ -42,8 +42,8 @@ fn shared_of<'a, J: Scene, A: Allocator + Copy>(
 }
 
 /// Where the last transaction of the prefix did its last event.
-fn last_of<A: Allocator + Copy>(shape: &Shape<A>, list: &[Decision]) -> u32 {
-    let Some(decision) = list.last() else {
+fn last_of<A: Allocator + Copy>(shape: &Shape<A>, prefix: &[Decision]) -> u32 {
+    let Some(decision) = prefix.last() else {
         return 0;
     };
     let table = shape.table();
@@ -68,7 +68,7 @@ fn room_of<J: Scene, A: Allocator + Copy>(
 /// Where the prefix is empty, clause learning may take as long as a search of at least so many prefixes.
 const LEAST: u64 = 1 << 16;
 
-/// And where it is not: mostly clauses were learned of all orders before.
+/// The same where the prefix is not empty: mostly clauses were learned of all orders before.
 const LEAST_BELOW: u64 = 1 << 18;
 
 /// How many prefixes clause learning may at least take as long as.
@@ -104,7 +104,7 @@ pub struct Session<'a, J: Scene, A: Allocator + Copy = Global> {
     shared: Option<&'a Shared<J, A>>,
     room: usize,
     memo: Memo<'a, Unnoted, Sharing<'a, J, A>, A>,
-    learnt: u64,
+    learned_budget: u64,
     is_refuted: bool,
 }
 
@@ -122,7 +122,7 @@ impl<'a, J: Scene, A: Allocator + Copy> Model for Session<'a, J, A> {
 }
 
 impl<'a, J: Scene, A: Allocator + Copy> Session<'a, J, A> {
-    /// Of nothing. It does not allocate.
+    /// A session that remembers nothing yet. It does not allocate.
     pub fn new(alloc: A, shape: &'a Shape<A>, shared: Option<&'a Shared<J, A>>) -> Session<'a, J, A>
         requires { shape.now ≡ J.shape }
         ensures { result ≡ shape.entry.now }
@@ -135,15 +135,15 @@ impl<'a, J: Scene, A: Allocator + Copy> Session<'a, J, A> {
             shared: own,
             room,
             memo: Memo::new(alloc, shape, Sharing { shared: own }, room),
-            learnt: 0,
+            learned_budget: 0,
             is_refuted: false,
         }
     }
 
     /// By last events. Where others search too, those come after the others that ended before the last of the prefix did.
-    fn by_last(&self, list: &[Decision]) -> Order {
+    fn by_last(&self, prefix: &[Decision]) -> Order {
         Order::Last(match self.shared {
-            Some(_) => last_of(self.shape, list),
+            Some(_) => last_of(self.shape, prefix),
             None => 0,
         })
     }
@@ -181,7 +181,7 @@ impl<'a, J: Scene, A: Allocator + Copy> Session<'a, J, A> {
         ensures reported { IfOk result (λ o. MatchOption o (Unit {0}) (Reports (objects_of self.old) (history_of self.old) prefix.now (Some budget))) }
         ensures shape { self.new ≡ self.old }
     {
-        let prefixes = straight(self.shape);
+        let prefixes = straight_budget(self.shape);
         if prefixes >= budget {
             return Ok(None);
         }
@@ -202,11 +202,11 @@ impl<'a, J: Scene, A: Allocator + Copy> Session<'a, J, A> {
         ensures reported { IfOk result (λ o. MatchOption o (Unit {0}) (Reports (objects_of self.old) (history_of self.old) prefix.now (Some budget))) }
         ensures shape { self.new ≡ self.old }
     {
-        if budget <= self.learnt || budget < least_of(prefix) {
+        if budget <= self.learned_budget || budget < least_of(prefix) {
             return Ok(None);
         }
         let learned = decide_by_clauses(self.alloc, self.shape, effort_of(budget, self.room))?;
-        self.learnt = budget;
+        self.learned_budget = budget;
         match learned {
             Some(Decided::Opaque(order)) if prefix.decisions().is_empty() => {
                 Ok(Some(Outcome::Witness(order)))
