@@ -51,7 +51,7 @@ finding_or_none (p ∷ ps) witness = inl (p, inl (here p ps))
 finding_or_none [] (Some p) = inl (p, inr refl)
 finding_or_none [] None = inr (λ h. elim h.1 [ inl there ↦ no_item h.0 there | inr e ↦ none≢some h.0 e ])
 
--- a list is there, or not
+-- a prefix is there, or not
 there_or_not : (ps : List (List Decision)) (p : List Decision) → Contains ps p ⊎ ¬ (Contains ps p)
 there_or_not ps p = cases (has (slice_cmp decision_cmp) ps p) (has_is (lists_total decisions_total) prefix_exact ps p)
   where
@@ -153,7 +153,7 @@ witness_stays held other apart p = (λ e. (e, λ f. apart (e ∙ sym f)), λ h. 
 pub witness_goes : (held other : Option (List Decision)) → held ≡ other → IsNewWitness held other None
 witness_goes held other same p = (λ e. absurd (none≢some p e), λ h. absurd (h.1 (sym same ∙ h.0)))
 
--- where there is no witness, a refuted list alone is a finding
+-- where there is no witness, a refuted prefix alone is a finding
 pub list_found : (cover : List (List Decision)) (witness : Option (List Decision)) (bare : Bool) → witness ≡ None → (bare ≡ true) ↔ (cover ≡ []) → (not bare ≡ true) ↔ HasFinding cover witness
 list_found (p ∷ ps) witness bare none is = ((λ _. (p, inl (here p ps))), λ _. ap not (is_false bare (λ e. some_item p ps (is.0 e))))
   where

@@ -19,7 +19,7 @@ absorbs true b f = refl
 absorbs false true f = sym (f refl)
 absorbs false false f = refl
 
--- a list of which a beginning is there changes nothing
+-- a prefix of which a beginning is there changes nothing
 pub covered_stays : (ps : List (List Decision)) (q : List Decision) → IsCover decision_cmp ps → HasBeginning decision_cmp ps q → with_list decision_cmp q ps ≡ ps
 covered_stays ps q s (p, member, e) =
     same_cover decisions_total decision_exact (with_list decision_cmp q ps) ps (cover_with_list decisions_total q ps s) s

@@ -29,7 +29,7 @@ abbrev pub WholeStays : {F : Type 0} → (F → F → Ordering) → (List F → 
 WholeStays {F} cmp Quiet Whole =
     (xs ys : List F) → IsStrictlySortedBy cmp xs → IsStrictlySortedBy cmp ys → IsWithin cmp xs ys → Whole xs → Quiet ys → ys ≡ xs
 
--- quiet facts, beside a refuted list or a witness, are whole, and it is true of them
+-- quiet facts, beside a refuted prefix or a witness, are whole, and it is true of them
 pub record IsTrueFor {F D : Type 0} (Quiet Whole : List F → Type 0) (Refutes Shows : List F → List D → Type 0) (n : Norm F D) : Type 0 where
   pub refuted : Quiet n.facts → (p : List D) → Contains n.cover p → Whole n.facts × Refutes n.facts p
   pub shown : Quiet n.facts → (p : List D) → n.witness ≡ Some p → Whole n.facts × Shows n.facts p

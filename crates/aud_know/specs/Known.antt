@@ -39,7 +39,7 @@ knowing_facts f = record { plan = f.plan; held = record { facts = f.facts; cover
 abbrev pub Takes : Held → Held → List KnownAtom → Type 0
 Takes old new atoms = (xs : List KnownAtom) → old ≡ norm_of xs → new ≡ norm_of (xs ++ atoms)
 
--- the list after a link, if there is one
+-- what a link leads to, if there is one
 abbrev pub linked : {T Z : Type 0} → Option (Arc T Z) → Option T
 linked None = None
 linked (Some a) = Some (arc_value a)

@@ -33,14 +33,14 @@ impl<A: Allocator + Copy> Model for Finding<A> {
 
 impl<A: Allocator + Copy> Finding<A> {
     /// The finding that no order of the shape's history that begins with the prefix shows it. It does not allocate.
-    pub fn refuted(shape: Arc<Shape<A>, A>, list: Prefix<A>) -> Finding<A>
-        requires { Refuted (objects_of shape.value) (history_of shape.value) list }
-        ensures { result ≡ record { facts = shape.value.sealed.facts; claim = refuted list } }
+    pub fn refuted(shape: Arc<Shape<A>, A>, prefix: Prefix<A>) -> Finding<A>
+        requires { Refuted (objects_of shape.value) (history_of shape.value) prefix }
+        ensures { result ≡ record { facts = shape.value.sealed.facts; claim = refuted prefix } }
     {
         let _facts = shape.sealed().facts();
         Finding {
             shape,
-            claim: Claim::Refuted(list),
+            claim: Claim::Refuted(prefix),
         }
     }
 

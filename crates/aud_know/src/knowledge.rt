@@ -111,10 +111,10 @@ impl<A: Allocator + Copy> Knowledge<A> {
     }
 
     /// Whether a beginning of the prefix is refuted; the prefix itself counts. It does not allocate.
-    pub fn knows(&self, list: &Prefix<A>) -> bool
-        ensures { IsTrue result ↔ IsCovered self.now.held.cover list.now }
+    pub fn knows(&self, prefix: &Prefix<A>) -> bool
+        ensures { IsTrue result ↔ IsCovered self.now.held.cover prefix.now }
     {
-        match self.cover.mark(list.decisions()) {
+        match self.cover.mark(prefix.decisions()) {
             Mark::Covered => true,
             Mark::Inner | Mark::Outside => false,
         }
@@ -148,7 +148,7 @@ impl<A: Allocator + Copy> Knowledge<A> {
             return Err(KnowFault::PlanMismatch);
         }
         match finding.claim() {
-            Claim::Refuted(list) => self.take_refuted(facts, list)?,
+            Claim::Refuted(prefix) => self.take_refuted(facts, prefix)?,
             Claim::Witness(order) => self.take_witness(facts, order)?,
         }
         Ok(())
@@ -225,15 +225,15 @@ impl<A: Allocator + Copy> Knowledge<A> {
     }
 
     // The facts, and a prefix that is refuted in their history. The facts are joined last of all that may be refused.
-    fn take_refuted(&mut self, facts: &Facts<A>, list: &Prefix<A>) -> Result<(), OutOfMemory>
-        requires finding { IsTrueFinding (record { facts = facts.now; claim = refuted list.now }) }
+    fn take_refuted(&mut self, facts: &Facts<A>, prefix: &Prefix<A>) -> Result<(), OutOfMemory>
+        requires finding { IsTrueFinding (record { facts = facts.now; claim = refuted prefix.now }) }
         requires plan { facts.now.plan ≡ self.old.plan }
-        ensures taken { OnOk result (Takes self.old.held self.new.held (found (record { facts = facts.now; claim = refuted list.now }))) }
+        ensures taken { OnOk result (Takes self.old.held self.new.held (found (record { facts = facts.now; claim = refuted prefix.now }))) }
         ensures plan { self.new.plan ≡ self.old.plan }
         ensures err { OnErr result (self.new ≡ self.old) }
     {
         sealed_is_all();
-        let cover = cover_with(self.alloc, &self.cover, list)?;
+        let cover = cover_with(self.alloc, &self.cover, prefix)?;
         self.facts.join(facts)?;
         self.cover = cover;
         Ok(())

@@ -26,14 +26,14 @@ pub type SharedWitness<A> = Option<Arc<Prefix<A>, A>>;
 pub fn cover_with<A: Allocator + Copy>(
     alloc: A,
     cover: &SharedCover<A>,
-    list: &Prefix<A>,
+    prefix: &Prefix<A>,
 ) -> Result<SharedCover<A>, OutOfMemory>
     requires { IsCover decision_cmp cover.now.value }
-    ensures { IfOk result (λ wider. wider.value ≡ with_list decision_cmp list.now cover.now.value) }
+    ensures { IfOk result (λ wider. wider.value ≡ with_list decision_cmp prefix.now cover.now.value) }
 {
-    match cover.mark(list.decisions()) {
+    match cover.mark(prefix.decisions()) {
         Mark::Covered => Ok(Arc::try_clone(cover)?),
-        Mark::Inner | Mark::Outside => wider_cover(alloc, cover, list),
+        Mark::Inner | Mark::Outside => wider_cover(alloc, cover, prefix),
     }
 }
 
@@ -41,12 +41,12 @@ pub fn cover_with<A: Allocator + Copy>(
 fn wider_cover<A: Allocator + Copy>(
     alloc: A,
     cover: &Cover<Decision, A>,
-    list: &Prefix<A>,
+    prefix: &Prefix<A>,
 ) -> Result<SharedCover<A>, OutOfMemory>
-    ensures { IfOk result (λ wider. wider.value ≡ with_list decision_cmp list.now cover.now) }
+    ensures { IfOk result (λ wider. wider.value ≡ with_list decision_cmp prefix.now cover.now) }
 {
     let mut wider = cover.dup()?;
-    wider.insert(list.decisions())?;
+    wider.insert(prefix.decisions())?;
     Ok(Arc::new(alloc, wider)?)
 }
 

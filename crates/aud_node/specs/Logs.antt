@@ -33,7 +33,7 @@ state_of plan log = knowing plan (atoms_in log)
 
 -- the state of the offers has a refuted prefix that begins the prefix
 abbrev pub IsKnownIn : PlanOf → List Entry → List Decision → Type 0
-IsKnownIn plan log list = IsCovered (state_of plan log).held.cover list
+IsKnownIn plan log prefix = IsCovered (state_of plan log).held.cover prefix
 
 -- where the verdict is opaque, the facts of the state are sealed, their history is well-formed, and the order that it carries shows it
 abbrev pub SaysOpaque : {X : Type 0} → KnowledgeOf → Verdict X → Type 0

@@ -8,7 +8,7 @@ ghost use Rattle.aud_node.specs.Counts.{AreCounts, AreSeated, IsCounted};
 
 use crate::book::{Fleet, Front, Head};
 use crate::pass::Pass;
-use crate::published::{Gives, Held, Named, Published};
+use crate::published::{Held, Named, Published, Reads};
 use aud_event::OutOfMemory;
 use aud_know::{Item, KnowFault, Knowledge};
 use core::mem::replace_with;
@@ -108,7 +108,7 @@ fn shown<R: Wait, J: Fleet>(
         Ok(()) => {}
         Err(_) => return (writer, Err(AllocError)),
     }
-    let (writer, done) = writer.publish_as::<Gives<J>, R>(rt);
+    let (writer, done) = writer.publish_as::<Reads<J>, R>(rt);
     match done {
         Ok(()) => (writer, Ok(())),
         Err(_) => {

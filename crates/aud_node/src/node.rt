@@ -116,9 +116,9 @@ impl<J: Fleet, D: Drop> Node<J, D> {
 
     /// Whether a beginning of the prefix is refuted in the pass's new view; the prefix itself counts. It does not allocate, and
     /// errs by `WrongNode` alone.
-    pub fn knows(&self, pass: &mut Pass<J>, list: &Prefix) -> Result<bool, ReadFault>
+    pub fn knows(&self, pass: &mut Pass<J>, prefix: &Prefix) -> Result<bool, ReadFault>
         ensures view { GoesOn pass.old pass.new }
-        ensures knows { IfOk result (λ b. IsTrue b ↔ IsKnownIn self.now.plan pass.new.view list.now) }
+        ensures knows { IfOk result (λ b. IsTrue b ↔ IsKnownIn self.now.plan pass.new.view prefix.now) }
         ensures read { OnOk result (IsAt self.now pass.old) }
         ensures fault { IfErr result (λ e. (e ≡ ReadFault.WrongNode) × IsReadFault self.now pass.old e) }
         ensures wrong { OnErr result (pass.new ≡ pass.old) }
@@ -126,7 +126,7 @@ impl<J: Fleet, D: Drop> Node<J, D> {
         if pass.number() != self.home.head.number {
             return Err(ReadFault::WrongNode);
         }
-        Ok(pass.knows(list))
+        Ok(pass.knows(prefix))
     }
 
     /// The knowledge of the pass's new view.

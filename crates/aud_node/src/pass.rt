@@ -8,7 +8,7 @@ ghost use Rattle.aud_node.specs.Meanings.{first_pass, GoesOn};
 
 use crate::book::Fleet;
 use crate::fault::StartFault;
-use crate::published::{Gives, Held, Named, Published};
+use crate::published::{Held, Named, Published, Reads};
 use aud_event::OutOfMemory;
 use aud_know::{Knowledge, Verdict};
 use aud_witness::Prefix;
@@ -50,7 +50,7 @@ impl<J: Fleet> Model for Pass<J> {
 fn peeked<J: Fleet>(
     reader: Reader<Published, (), Named<J>>,
 ) -> (Reader<Published, (), Named<J>>, Option<Held<J>>) {
-    match reader.enter_as::<Gives<J>>() {
+    match reader.enter_as::<Reads<J>>() {
         Ok(reading) => {
             let found = reading.get().copy();
             let reader = reading.leave();
@@ -165,12 +165,12 @@ impl<J: Fleet> Pass<J> {
     }
 
     /// Whether a beginning of the prefix is refuted in the new view.
-    pub(crate) fn knows(&mut self, list: &Prefix) -> bool
+    pub(crate) fn knows(&mut self, prefix: &Prefix) -> bool
         ensures view { GoesOn self.old self.new }
-        ensures knows { IsTrue result ↔ IsKnownIn (J.plan self.new.number) self.new.view list.now }
+        ensures knows { IsTrue result ↔ IsKnownIn (J.plan self.new.number) self.new.view prefix.now }
     {
         self.look();
-        self.held.latest.known.knows(list)
+        self.held.latest.known.knows(prefix)
     }
 
     /// The knowledge of the new view.

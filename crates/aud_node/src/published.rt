@@ -71,11 +71,11 @@ impl<J: Fleet> Protocol<Published, ()> for Named<J> {
 }
 
 /// What a reading or a publish gives.
-pub struct Gives<J> {
+pub struct Reads<J> {
     fleet: PhantomData<J>,
 }
 
-impl<J: Fleet> Outcome<Published, ()> for Gives<J> {
+impl<J: Fleet> Outcome<Published, ()> for Reads<J> {
     ghost then = { λ _ _ p _. (p.front.book ≡ J.book p.front.number) × (p.known.value.plan ≡ J.plan p.front.number) };
 }
 

@@ -10,6 +10,6 @@ mod running;
 mod work;
 mod worker;
 
-pub use running::{PoolEnd, Refusal, run};
+pub use running::{Refusal, RunEnd, run};
 pub use work::{Gate, Work};
 pub use worker::WorkerEnd;

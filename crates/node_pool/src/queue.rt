@@ -6,12 +6,12 @@ ghost use Rattle.crossbeam_deque.specs.Handles.{worker_view, worker_flavor, work
 ghost use Rattle.node_pool.specs.Rule.{tally, all_parts};
 ghost use Rattle.node_pool.specs.Workers.{HasParts};
 
-use crate::rule::{Drains, Puts, Queue};
+use crate::rule::{Drains, Puts, TaskQueue};
 use std::alloc::Allocator;
 use std::sync::Wait;
 
 /// Puts each task into a fresh queue.
-pub(crate) fn fill<T: Drop, A: Allocator + Copy>(queue: &mut Queue<T, A>, tasks: Vec<T, A>)
+pub(crate) fn fill<T: Drop, A: Allocator + Copy>(queue: &mut TaskQueue<T, A>, tasks: Vec<T, A>)
     requires fresh { worker_view queue.old ≡ tally all_parts true [] [] false }
     requires room { worker_index queue.old + vec_len tasks ≤ worker_capacity queue.old }
     ensures same { SameWorker queue.old queue.new }
@@ -26,7 +26,7 @@ pub(crate) fn fill<T: Drop, A: Allocator + Copy>(queue: &mut Queue<T, A>, tasks:
 }
 
 /// Puts so many marks after the tasks.
-pub(crate) fn add_marks<T: Drop, A: Allocator + Copy>(queue: &mut Queue<T, A>, count: usize)
+pub(crate) fn add_marks<T: Drop, A: Allocator + Copy>(queue: &mut TaskQueue<T, A>, count: usize)
     requires full { (worker_view queue.old).parts ≡ all_parts }
     requires room { worker_index queue.old + count ≤ worker_capacity queue.old }
     ensures same { SameWorker queue.old queue.new }
@@ -42,7 +42,7 @@ pub(crate) fn add_marks<T: Drop, A: Allocator + Copy>(queue: &mut Queue<T, A>, c
 /// Takes out of the queue the tasks that are left in it.
 pub(crate) fn drain<T: Drop, A: Allocator + Copy, R: Wait>(
     rt: &R,
-    queue: &mut Queue<T, A>,
+    queue: &mut TaskQueue<T, A>,
     left: &mut Vec<T, A>,
 )
     requires first_in_first_out { worker_flavor queue.old ≡ 0 }

@@ -51,9 +51,9 @@ impl<T> Outcome<Option<T>, Tally<T>> for Puts {
     ghost then = { λ v xs w. w ≡ after_put v xs };
 }
 
-pub struct Takes;
+pub struct Draws;
 
-impl<T> Outcome<Option<T>, Tally<T>> for Takes {
+impl<T> Outcome<Option<T>, Tally<T>> for Draws {
     ghost then = { λ v xs w. w ≡ after_take v xs };
 }
 
@@ -68,7 +68,7 @@ impl<T> Outcome<Option<T>, Tally<T>> for Drains {
 }
 
 /// A queue of tasks, first in, first out. `None` is a mark: the worker that takes it ends.
-pub type Queue<T, A = Global> = Worker<Option<T>, A, Tally<T>, Fair>;
+pub type TaskQueue<T, A = Global> = Worker<Option<T>, A, Tally<T>, Fair>;
 
 /// The end of the queue at which workers take.
 pub type Taker<T, A = Global> = Stealer<Option<T>, A, Tally<T>, Fair>;

@@ -7,7 +7,7 @@ ghost use Rattle.node_pool.specs.Rule.{tally, all_parts};
 ghost use Rattle.node_pool.specs.Workers.{AreWorked, HasParts, HaveGrown, IsCrew, IsHolding, IsReady, IsRefusal, all_drawn, end_of, gathered};
 
 use crate::queue::{add_marks, drain, fill};
-use crate::rule::{OnePart, Queue, Taker};
+use crate::rule::{OnePart, Taker, TaskQueue};
 use crate::work::{Gate, Work};
 use crate::worker::{Member, WorkerEnd, work_crew};
 use base_values::OutOfMemory;
@@ -29,14 +29,14 @@ pub enum Refusal {
 
 /// What a pool leaves: what each worker does, in the order of the seats, and the tasks that nobody drew.
 #[derive(Drop)]
-pub struct PoolEnd<T, S, A: Allocator = Global> {
+pub struct RunEnd<T, S, A: Allocator = Global> {
     pub workers: Vec<WorkerEnd<T, S, A>, A>,
     pub left: Vec<T, A>,
 }
 
 // All memory that a pool takes outside its workers.
 struct Room<T, S, A: Allocator> {
-    queue: Queue<T, A>,
+    queue: TaskQueue<T, A>,
     taker: Taker<T, A>,
     members: Vec<Member<T, S, A>, A>,
     workers: Vec<WorkerEnd<T, S, A>, A>,
@@ -62,7 +62,7 @@ fn make_room<T: Drop, S: Drop, A: Allocator + Copy>(
     let members = Vec::with_capacity(alloc, count)?;
     let workers = Vec::with_capacity(alloc, count)?;
     let left = Vec::with_capacity(alloc, tasks)?;
-    let queue = Queue::fifo_as(alloc, size)?;
+    let queue = TaskQueue::fifo_as(alloc, size)?;
     let taker = queue.stealer()?;
     Ok(Room {
         queue,
@@ -75,7 +75,7 @@ fn make_room<T: Drop, S: Drop, A: Allocator + Copy>(
 
 // A worker for each seat.
 fn seat_all<T: Drop, S: Drop, A: Allocator + Copy>(
-    queue: &mut Queue<T, A>,
+    queue: &mut TaskQueue<T, A>,
     seats: Vec<S, A>,
     members: &mut Vec<Member<T, S, A>, A>,
     alloc: A,
@@ -106,7 +106,7 @@ fn seat_all<T: Drop, S: Drop, A: Allocator + Copy>(
 
 // Takes all tokens back.
 fn gather<T: Drop, S: Drop, A: Allocator + Copy>(
-    queue: &mut Queue<T, A>,
+    queue: &mut TaskQueue<T, A>,
     members: Vec<Member<T, S, A>, A>,
     workers: &mut Vec<WorkerEnd<T, S, A>, A>,
 )
@@ -157,7 +157,7 @@ pub fn run<
     tasks: Vec<T, A>,
     work: &W,
     gate: &G,
-) -> Result<PoolEnd<T, S, A>, (Vec<S, A>, Refusal)>
+) -> Result<RunEnd<T, S, A>, (Vec<S, A>, Refusal)>
     requires may_work { All (W.may_work work.now) seats.items }
     ensures all { IfOk result (λ e. IsPermutation tasks.items (all_drawn e.workers.items ++ e.left.items)) }
     ensures left { IfOk result (λ e. (e.left.items ≡ []) ⊎ All (λ w. w.failed ≡ true) e.workers.items) }
@@ -190,5 +190,5 @@ pub fn run<
     work_crew(rt, &taker, work, gate, &mut members);
     gather(&mut queue, members, &mut workers);
     drain(rt, &mut queue, &mut left);
-    Ok(PoolEnd { workers, left })
+    Ok(RunEnd { workers, left })
 }

@@ -5,7 +5,7 @@ ghost use Rattle.crossbeam_deque.specs.Handles.{view, IsPassOf, stealer_deque};
 ghost use Rattle.node_pool.specs.Rule.{after_take, all_parts};
 ghost use Rattle.node_pool.specs.Workers.{IsReady, IsDone, IsStarting, SeatsHaveGrown};
 
-use crate::rule::{Taker, Takes, Token};
+use crate::rule::{Draws, Taker, Token};
 use crate::work::{Gate, Work};
 use crossbeam_deque::Steal;
 use std::alloc::{Allocator, Global};
@@ -43,7 +43,7 @@ fn draw<T, A: Allocator + Copy, R: Wait>(
     ensures took { view token.new ≡ after_take (view token.old) (result ∷ []) }
 {
     for _ in rt.forever() {
-        match taker.steal_as::<Takes>(token) {
+        match taker.steal_as::<Draws>(token) {
             Steal::Success(slot) => return slot,
             Steal::Empty => thread::yield_now(),
             Steal::Retry => {}

@@ -9,4 +9,4 @@ pub returns-clause-knows : goal.returns-clause-knows
 returns-clause-knows g c =
     let held = c.self.inside.held in
     let is = c.deref.ensures ∙ (held.latest.is ∙ ap (λ (plan : PlanOf). state_of plan held.latest.front.log) held.planned) in
-    rw (← c.self.view_is) (subst (λ (k : KnowledgeOf). IsTrue c.knows.result ↔ IsCovered k.held.cover c.args.list.now) is c.knows.ensures)
+    rw (← c.self.view_is) (subst (λ (k : KnowledgeOf). IsTrue c.knows.result ↔ IsCovered k.held.cover c.args.prefix.now) is c.knows.ensures)
