@@ -19,7 +19,7 @@ use Rattle.aud_split.specs.Pools.{AreSettled}
 use Rattle.aud_split.specs.Searched.{IsEndedBy}
 use Rattle.aud_split.specs.declared.fault.PoolFault.{PoolFault}
 use Rattle.cli_findings.specs.Searches.{IsSearchOf, KnowsEnd, WasSearched, task_budget}
-use Rattle.cli_findings.specs.declared.searching.Search.{Search}
+use Rattle.cli_findings.specs.declared.searching.TaskSearch.{TaskSearch}
 use Rattle.cli_findings.proofs.Ending.{ended_in, knows_norm}
 use Rattle.cli_audit.specs.Seats.{AreLater, CrewOf}
 use Rattle.cli_audit.specs.Searches.{HasEnded, HaveEnded, HaveEndedShare, IsShare}
@@ -93,7 +93,7 @@ none_ended s budget t crews is (d, (there, ended)) = let (k, lt, at) = subst (λ
 -- # What was searched
 
 -- where the end of each task of a search is known, it was searched
-pub was_searched : (facts : FactsOf) (budget : Option ℕ) (known : KnowledgeOf) (found : Option Search) (crews : List CrewOf) →
+pub was_searched : (facts : FactsOf) (budget : Option ℕ) (known : KnowledgeOf) (found : Option TaskSearch) (crews : List CrewOf) →
     IfSome found (λ s. (s.budget ≡ task_budget budget) × IsSearchOf facts s.shape.value s.tasks.items) →
     IfSome found (λ s. (t : List Decision) → Contains s.tasks.items t → HaveEnded s.shape.value s.budget crews t) →
     ((s : ShapeOf) (b : ℕ) (t : List Decision) → HaveEnded s b crews t → KnowsEnd s b known t) → WasSearched facts budget known found

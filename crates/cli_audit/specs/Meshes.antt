@@ -4,7 +4,7 @@ use Rattle.aud_event.specs.Meanings.{PlanOf}
 use Rattle.aud_node.specs.Meanings.{NodeOf}
 use Rattle.cli_audit.specs.Seats.{AreCrews, AreCollectors, AreOf, CrewOf, CollectorOf, Each}
 use Rattle.aud_order.specs.Shapes.{plan_of}
-use Rattle.cli_findings.specs.declared.searching.Search.{Search}
+use Rattle.cli_findings.specs.declared.searching.TaskSearch.{TaskSearch}
 
 -- nodes of the plan whose numbers are their places, with their collectors and their crews
 pub record IsMesh (plan : PlanOf) (nodes : List NodeOf) (collectors : List CollectorOf) (crews : List CrewOf) : Type 0 where
@@ -14,5 +14,5 @@ pub record IsMesh (plan : PlanOf) (nodes : List NodeOf) (collectors : List Colle
   pub crews_at : AreCrews nodes crews
 
 -- the same of the plan that a search is of
-abbrev pub IsMeshFor : Search → List NodeOf → List CollectorOf → List CrewOf → Type 0
+abbrev pub IsMeshFor : TaskSearch → List NodeOf → List CollectorOf → List CrewOf → Type 0
 IsMeshFor s nodes collectors crews = IsMesh (plan_of s.shape.value) nodes collectors crews

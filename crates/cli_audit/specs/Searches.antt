@@ -9,7 +9,7 @@ use Rattle.aud_split.specs.Searched.{IsEndedBy}
 use Rattle.cli_audit.specs.Seats.{CrewOf}
 use Rattle.aud_know.specs.Known.{KnowledgeOf}
 use Rattle.cli_findings.specs.Searches.{KnowsEnd}
-use Rattle.cli_findings.specs.declared.searching.Search.{Search}
+use Rattle.cli_findings.specs.declared.searching.TaskSearch.{TaskSearch}
 
 -- # The tasks
 
@@ -42,15 +42,15 @@ abbrev pub HaveEnded : ShapeOf → ℕ → List CrewOf → List Decision → Typ
 HaveEnded s budget crews t = (c : CrewOf) × (Contains crews c × HasEnded s budget c.passes t)
 
 -- each task of the node's share of the search ended by what one of the passes has seen
-abbrev pub ShareHasEnded : Search → ℕ → ℕ → List PassOf → Type 0
+abbrev pub ShareHasEnded : TaskSearch → ℕ → ℕ → List PassOf → Type 0
 ShareHasEnded s nodes number passes = HaveEndedShare s.shape.value s.budget s.tasks.items nodes number passes
 
 -- of each crew that did not fail each task of its node's share of the search ended
-abbrev pub CrewsHaveEnded : Search → List NodeOf → List CrewOf → Type 0
+abbrev pub CrewsHaveEnded : TaskSearch → List NodeOf → List CrewOf → Type 0
 CrewsHaveEnded s nodes crews = SharesHaveEnded s.shape.value s.budget s.tasks.items nodes crews
 
 -- each task of the search ended by what a pass of one of the crews has seen
-abbrev pub SearchHasEnded : Search → List CrewOf → Type 0
+abbrev pub SearchHasEnded : TaskSearch → List CrewOf → Type 0
 SearchHasEnded s crews = (t : List Decision) → Contains s.tasks.items t → HaveEnded s.shape.value s.budget crews t
 
 -- # What is known of them

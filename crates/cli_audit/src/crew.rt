@@ -18,7 +18,7 @@ use aud_search::{Scene, Shared};
 use aud_split::laws::pool_ends_all;
 use aud_split::{PoolFault, run_pool_with};
 use aud_witness::Prefix;
-use cli_findings::Search;
+use cli_findings::TaskSearch;
 use crossbeam_channel::Sender;
 use node_pool::Gate;
 use std::alloc::Global;
@@ -74,7 +74,7 @@ fn search_share<
     alloc: Global,
     node: &Running<J, S>,
     passes: Vec<Pass<J>>,
-    search: &Search,
+    search: &TaskSearch,
     shared: Option<&Shared<H>>,
     gate: &G,
     nodes: usize,
@@ -178,7 +178,7 @@ impl<J: Fleet + Send + Sync> Crew<J> {
         rt: &R,
         alloc: Global,
         node: &Running<J, S>,
-        search: &Search,
+        search: &TaskSearch,
         shared: Option<&Shared<H>>,
         gate: &G,
         nodes: usize,

@@ -16,7 +16,7 @@ use aud_facts::Facts;
 use aud_node::{Fleet, Packet, Running};
 use aud_search::{Scene, Shared};
 use aud_witness::Prefix;
-use cli_findings::Search;
+use cli_findings::TaskSearch;
 use crossbeam_channel::{Receiver, Sender};
 use node_pool::Gate;
 use std::alloc::Global;
@@ -160,7 +160,7 @@ fn search_each<
     alloc: Global,
     nodes: &[Running<J, S>],
     crews: &mut [Crew<J>],
-    search: &Search,
+    search: &TaskSearch,
     shared: Option<&Shared<H>>,
     gate: &G,
 )
@@ -263,7 +263,7 @@ impl<J: Fleet + Send + Sync, S: Wait + Drop + Send> Mesh<J, S> {
         &mut self,
         rt: &R,
         alloc: Global,
-        search: &Search,
+        search: &TaskSearch,
         shared: Option<&Shared<H>>,
         gate: &G,
     )
@@ -332,7 +332,7 @@ impl<J: Fleet + Send + Sync, S: Wait + Drop + Send> Mesh<J, S> {
         &mut self,
         rt: &R,
         alloc: Global,
-        search: &Search,
+        search: &TaskSearch,
         shared: Option<&Shared<H>>,
         gate: &G,
     ) -> Result<(), OutOfMemory>

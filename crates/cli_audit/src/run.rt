@@ -17,10 +17,10 @@ use crate::room::with_room;
 use aud_event::OutOfMemory;
 use aud_facts::Facts;
 use aud_node::{Fleet, Opened};
-use aud_report::{ReadFault, Said, Sink, Source, read_all, write_all, write_line};
+use aud_report::{ReadAllFault, Said, Sink, Source, read_all, write_all, write_line};
 use aud_search::{Scene, Shared};
 use aud_witness::Prefix;
-use cli_findings::{Findings, Search, conclude, search_of};
+use cli_findings::{Findings, TaskSearch, conclude, search_of};
 use cli_input::{Input, take_input};
 use cli_lines::{AuditJob, Cause, Ended, end_of, refuse_input};
 use node_pool::Gate;
@@ -32,9 +32,10 @@ use std::thread::Threads;
 /// The budget of few tasks where the words give none, when they are searched first.
 const SOON: u64 = 256;
 
-/// The budgets of the tasks that are left open then, when they are searched again and for the last time.
+/// The budget of the tasks that are left open then, when they are searched again.
 const AGAIN: u64 = 1 << 20;
 
+/// Their budget when they are searched for the last time.
 const LAST: u64 = 1 << 24;
 
 /// The search of the facts' history, where the first node has all facts, they are sealed and it is well-formed.
@@ -43,7 +44,7 @@ fn search_for(
     has_all: bool,
     facts: &Facts,
     budget: Option<u64>,
-) -> Result<Option<Search>, OutOfMemory>
+) -> Result<Option<TaskSearch>, OutOfMemory>
     ensures { IfOk result (λ found. IfSome found (IsSearchWith facts.now budget)) }
 {
     if has_all {
@@ -62,7 +63,7 @@ fn workers_of(job: &AuditJob) -> usize {
 const FEW: usize = 64;
 
 /// Whether there are many tasks for so many workers.
-fn has_many(search: &Search, workers: usize) -> bool {
+fn has_many(search: &TaskSearch, workers: usize) -> bool {
     search.tasks.len() > workers.saturating_mul(FEW)
 }
 
@@ -79,7 +80,7 @@ fn search_whole<
     alloc: Global,
     mesh: &mut Mesh<J, S>,
     facts: &Facts,
-    search: &Search,
+    search: &TaskSearch,
     shared: Option<&Shared<H>>,
     gate: &G,
 ) -> Result<bool, OutOfMemory>
@@ -109,7 +110,7 @@ fn search_first<
     alloc: Global,
     mesh: &mut Mesh<J, S>,
     facts: &Facts,
-    search: &Search,
+    search: &TaskSearch,
     shared: Option<&Shared<H>>,
     job: &AuditJob,
     gate: &G,
@@ -141,7 +142,7 @@ fn search_again<
     alloc: Global,
     mesh: &mut Mesh<J, S>,
     facts: &Facts,
-    search: &mut Search,
+    search: &mut TaskSearch,
     budget: u64,
     shared: Option<&Shared<H>>,
     gate: &G,
@@ -175,7 +176,7 @@ fn search_few<
     alloc: Global,
     mesh: &mut Mesh<J, S>,
     facts: &Facts,
-    search: &mut Search,
+    search: &mut TaskSearch,
     shared: Option<&Shared<H>>,
     job: &AuditJob,
     gate: &G,
@@ -209,7 +210,7 @@ fn search_by_rounds<
     alloc: Global,
     mesh: &mut Mesh<J, S>,
     facts: &Facts,
-    search: &mut Search,
+    search: &mut TaskSearch,
     shared: Option<&Shared<H>>,
     job: &AuditJob,
     gate: &G,
@@ -250,10 +251,10 @@ fn search_all<
     alloc: Global,
     mesh: &mut Mesh<J, S>,
     facts: &Facts,
-    search: Search,
+    search: TaskSearch,
     job: &AuditJob,
     gate: &G,
-) -> Result<Option<Search>, OutOfMemory>
+) -> Result<Option<TaskSearch>, OutOfMemory>
     requires named { search.shape.value ≡ H.shape }
     requires mesh { IsMesh facts.now.plan mesh.old.nodes.items mesh.old.collectors.items mesh.old.crews.items }
     requires few { length mesh.old.nodes.items ≤ 8 }
@@ -291,10 +292,10 @@ fn search_tasks<
     alloc: Global,
     mesh: &mut Mesh<J, S>,
     facts: &Facts,
-    search: Option<Search>,
+    search: Option<TaskSearch>,
     job: &AuditJob,
     gate: &G,
-) -> Result<Option<Search>, OutOfMemory>
+) -> Result<Option<TaskSearch>, OutOfMemory>
     requires mesh { IsMesh facts.now.plan mesh.old.nodes.items mesh.old.collectors.items mesh.old.crews.items }
     requires few { length mesh.old.nodes.items ≤ 8 }
     requires some { 0 < length mesh.old.nodes.items }
@@ -432,8 +433,8 @@ pub fn run_audit<G: Gate<Prefix> + Sync, R: Threads + Wait + Sync, I: Source, O:
 {
     let text = match read_all(alloc, source) {
         Ok(text) => text,
-        Err(ReadFault::Failed) => return Ended::Failed(Cause::Input),
-        Err(ReadFault::OutOfMemory) => return Ended::Failed(Cause::Memory),
+        Err(ReadAllFault::Failed) => return Ended::Failed(Cause::Input),
+        Err(ReadAllFault::OutOfMemory) => return Ended::Failed(Cause::Memory),
     };
     let (line, end) = match answer_audit(rt, alloc, job, gate, text) {
         Ok(answer) => answer,

@@ -23,7 +23,7 @@ use Rattle.aud_report.specs.declared.said.Said.TheVariants as said
 use Rattle.cli_lines.specs.Line.{DecideSays, SetSays}
 use Rattle.cli_findings.specs.Says.{AreLeftOpen, AuditSays}
 use Rattle.cli_findings.specs.Searches.{HasAll, WasSearched, WasSearchedWith}
-use Rattle.cli_findings.specs.declared.searching.Search.{Search}
+use Rattle.cli_findings.specs.declared.searching.TaskSearch.{TaskSearch}
 use Rattle.cli_findings.proofs.Ending.{norm_knows}
 
 -- # What decide says
@@ -65,7 +65,7 @@ module _ (kept : KnownIsKept) (norm : KnowledgeIsNorm) (law : SearchIsSaid Globa
   same = λ i. record { plan = sym all.0 i; facts = sym all.1 i }
 
   -- the tasks that are open
-  open_tasks : (b : ℕ) (s : Search) → IsVerdict {X = Global} k verdict.Unfinished → WasSearched facts (Some b) k (Some s) → AreLeftOpen b k.plan (hist k.held.facts)
+  open_tasks : (b : ℕ) (s : TaskSearch) → IsVerdict {X = Global} k verdict.Unfinished → WasSearched facts (Some b) k (Some s) → AreLeftOpen b k.plan (hist k.held.facts)
   open_tasks b s is (of_budget, (of_facts, ends)) =
       let sealed : SealedOf = s.shape.value.sealed in
       let here : sealed.facts ≡ known = of_facts.facts_are ∙ same in
@@ -87,13 +87,13 @@ module _ (kept : KnownIsKept) (norm : KnowledgeIsNorm) (law : SearchIsSaid Globa
       (subst (λ (g : FactsOf). AreLeftOpen b g.plan sealed.history) here
       (subst (λ (n : ℕ). AreLeftOpen n sealed.facts.plan sealed.history) of_budget (s.tasks.items, (of_facts.split, left))))
 
-  unfinished : (o : Option ℕ) (found : Option Search) → IsVerdict {X = Global} k verdict.Unfinished → WasSearchedWith o found → WasSearched facts o k found → AuditSays o k.plan (hist k.held.facts) (said.Verdict verdict.Unfinished)
+  unfinished : (o : Option ℕ) (found : Option TaskSearch) → IsVerdict {X = Global} k verdict.Unfinished → WasSearchedWith o found → WasSearched facts o k found → AuditSays o k.plan (hist k.held.facts) (said.Verdict verdict.Unfinished)
   unfinished o None is searched was = absurd searched
   unfinished None (Some s) is searched was = absurd searched
   unfinished (Some b) (Some s) is searched was = open_tasks b s is was
 
   -- the verdict on what is known is what an audit may say
-  pub said_of : (found : Option Search) (v : Verdict Global) → IsVerdict k v → WasSearched facts budget k found → (v ≡ verdict.Unfinished → WasSearchedWith budget found) →
+  pub said_of : (found : Option TaskSearch) (v : Verdict Global) → IsVerdict k v → WasSearched facts budget k found → (v ≡ verdict.Unfinished → WasSearchedWith budget found) →
       ((p : List Decision) → v ≡ verdict.Opaque p → AreShownBy k.plan k.held.facts p) → (v ≡ verdict.NotOpaque → AreRefutedAt k.plan k.held.facts []) →
       SetSays (AuditSays budget) facts.plan facts.facts (said.Verdict v)
   said_of found v is was searched shows refutes = subst (λ (f : FactsOf). SetSays (AuditSays budget) f.plan f.facts (said.Verdict v)) (sym same) (by_status (IsClosed k.plan.objects (hist k.held.facts) k.held.cover []) (status_reported (fact_status k.plan.logs k.held.facts)) is)

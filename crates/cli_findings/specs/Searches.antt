@@ -13,7 +13,7 @@ use Rattle.aud_know.specs.Verdicts.{FactsReportAtOnce}
 use Rattle.aud_know.specs.declared.verdict.Verdict.{Verdict}
 use Rattle.aud_split.specs.Searched.{HasWitness}
 use Rattle.aud_split.specs.Tasks.{AreTasks}
-use Rattle.cli_findings.specs.declared.searching.Search.{Search}
+use Rattle.cli_findings.specs.declared.searching.TaskSearch.{TaskSearch}
 
 -- # The tasks
 
@@ -38,18 +38,18 @@ abbrev pub IsReportedAtOnce : FactsOf → Type 0
 IsReportedAtOnce facts = (reported : Verdict Global) × FactsReportAtOnce facts.plan.logs facts.facts reported
 
 -- the search is of these facts, with this budget for each task
-abbrev pub IsSearchWith : FactsOf → Option ℕ → Search → Type 0
+abbrev pub IsSearchWith : FactsOf → Option ℕ → TaskSearch → Type 0
 IsSearchWith facts budget s = (s.budget ≡ task_budget budget) × IsSearchOf facts s.shape.value s.tasks.items
 
 -- the search of the first tasks of another one, so many, and it has more
-pub record IsFirstOf (whole : Search) (count : ℕ) (s : Search) : Type 0 where
+pub record IsFirstOf (whole : TaskSearch) (count : ℕ) (s : TaskSearch) : Type 0 where
   pub shape : s.shape.value ≡ whole.shape.value
   pub budget : s.budget ≡ whole.budget
   pub tasks : s.tasks.items ≡ take count whole.tasks.items
   pub more : count < length whole.tasks.items
 
 -- the search of all orders of the same history as one task
-pub record IsWholeOf (split : Search) (s : Search) : Type 0 where
+pub record IsWholeOf (split : TaskSearch) (s : TaskSearch) : Type 0 where
   pub shape : s.shape.value ≡ split.shape.value
   pub budget : s.budget ≡ split.budget
   pub tasks : s.tasks.items ≡ [] ∷ []
@@ -67,13 +67,13 @@ KeepsEnds before k = (s : ShapeOf) (budget : ℕ) (t : List Decision) → KnowsE
 -- # What was searched
 
 -- if there was a search, it was of these facts, with this budget for each task, and the end of each task is known
-abbrev pub WasSearched : FactsOf → Option ℕ → KnowledgeOf → Option Search → Type 0
+abbrev pub WasSearched : FactsOf → Option ℕ → KnowledgeOf → Option TaskSearch → Type 0
 WasSearched facts budget known None = ⊤
 WasSearched facts budget known (Some s) =
     (s.budget ≡ task_budget budget) × (IsSearchOf facts s.shape.value s.tasks.items × ((t : List Decision) → Contains s.tasks.items t → KnowsEnd s.shape.value s.budget known t))
 
 -- there is a budget, and there was a search
-abbrev pub WasSearchedWith : Option ℕ → Option Search → Type 0
+abbrev pub WasSearchedWith : Option ℕ → Option TaskSearch → Type 0
 WasSearchedWith budget None = ⊥
 WasSearchedWith None (Some s) = ⊥
 WasSearchedWith (Some b) (Some s) = ⊤

@@ -5,7 +5,7 @@ ghost use Rattle.cli_lines.specs.Line.{SetSays};
 ghost use Rattle.cli_findings.specs.Says.{AuditSays};
 ghost use Rattle.cli_findings.specs.Searches.{HasAll, WasSearched, WasSearchedWith};
 
-use crate::searching::Search;
+use crate::searching::TaskSearch;
 use aud_event::OutOfMemory;
 use aud_facts::Facts;
 use aud_know::laws::knowledge_is_norm;
@@ -13,14 +13,14 @@ use aud_know::{Knowledge, Verdict};
 use aud_lattice::Lattice;
 use aud_report::Said;
 use aud_split::laws::{known_is_kept, search_is_said};
-use cli_lines::{Question, judge_facts};
+use cli_lines::{Request, judge_facts};
 use std::alloc::Global;
 
 /// What all nodes know together, and what was searched to its end, if anything was.
 #[derive(Drop)]
 pub struct Findings {
     pub known: Knowledge,
-    pub search: Option<Search>,
+    pub search: Option<TaskSearch>,
 }
 
 /// Whether these facts, and no others, are known.
@@ -34,12 +34,12 @@ pub fn has_all(known: &Knowledge, facts: &Facts) -> bool
 fn decided(alloc: Global, budget: Option<u64>, facts: &Facts) -> Result<Said, OutOfMemory>
     ensures { IfOk result (SetSays (AuditSays budget) facts.now.plan facts.now.facts) }
 {
-    judge_facts(alloc, Question::Any(None, false), facts)
+    judge_facts(alloc, Request::Decide(None, false), facts)
 }
 
 /// Whether the facts read are to be decided anew: a verdict of unfinished says what an audit may only where there is a budget,
 /// and the tasks were searched.
-fn is_open(verdict: &Verdict, budget: Option<u64>, search: &Option<Search>) -> bool
+fn is_open(verdict: &Verdict, budget: Option<u64>, search: &Option<TaskSearch>) -> bool
     ensures { IsFalse result → verdict.now ≡ Verdict.Unfinished → WasSearchedWith budget search.now }
 {
     match verdict {

@@ -7,4 +7,4 @@ mod searching;
 
 pub use joining::joined;
 pub use judging::{Findings, conclude, has_all};
-pub use searching::{Search, search_of};
+pub use searching::{TaskSearch, search_of};

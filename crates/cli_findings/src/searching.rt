@@ -20,7 +20,7 @@ const BUDGET: u64 = 65_536;
 
 /// The tasks of a history, in the order of their decisions, and how many expansions the search of each may take.
 #[derive(Drop)]
-pub struct Search {
+pub struct TaskSearch {
     pub shape: Arc<Shape>,
     pub tasks: Vec<Prefix>,
     pub budget: u64,
@@ -39,7 +39,7 @@ pub fn search_of(
     alloc: Global,
     facts: &Facts,
     budget: Option<u64>,
-) -> Result<Option<Search>, OutOfMemory>
+) -> Result<Option<TaskSearch>, OutOfMemory>
     ensures some { IfOk result (λ found. IfSome found (IsSearchWith facts.now budget)) }
     ensures none { IfOk result (λ found. found ≡ None → IsReportedAtOnce facts.now) }
 {
@@ -50,21 +50,21 @@ pub fn search_of(
     let _sealed = sealed.facts();
     let shape = Arc::new(alloc, Shape::of(alloc, sealed)?)?;
     let tasks = split(alloc, &shape, &Prefix::empty(alloc), DEPTH)?;
-    Ok(Some(Search {
+    Ok(Some(TaskSearch {
         shape,
         tasks,
         budget: budget_of(budget),
     }))
 }
 
-impl Search {
+impl TaskSearch {
     /// The search of all orders as one task. It shares the history.
-    pub fn whole(&self, alloc: Global) -> Result<Search, OutOfMemory>
+    pub fn whole(&self, alloc: Global) -> Result<TaskSearch, OutOfMemory>
         ensures { IfOk result (IsWholeOf self.now) }
     {
         let mut tasks = Vec::with_capacity(alloc, 1)?;
         tasks.push(Prefix::empty(alloc))?;
-        Ok(Search {
+        Ok(TaskSearch {
             shape: Arc::try_clone(&self.shape)?,
             tasks,
             budget: self.budget,
@@ -72,7 +72,7 @@ impl Search {
     }
 
     /// The search of the first tasks alone, so many, where there are more. It shares the history.
-    pub fn first(&self, alloc: Global, count: usize) -> Result<Option<Search>, OutOfMemory>
+    pub fn first(&self, alloc: Global, count: usize) -> Result<Option<TaskSearch>, OutOfMemory>
         ensures some { IfOk result (λ found. IfSome found (IsFirstOf self.now count)) }
         ensures none { IfOk result (λ found. found ≡ None → length self.now.tasks.items ≤ count) }
     {
@@ -83,7 +83,7 @@ impl Search {
         for place in 0..count {
             tasks.push(self.tasks[place].dup()?)?;
         }
-        Ok(Some(Search {
+        Ok(Some(TaskSearch {
             shape: Arc::try_clone(&self.shape)?,
             tasks,
             budget: self.budget,

@@ -27,8 +27,8 @@ use Rattle.cli_lines.specs.Evidences.{place_of, text_before, text_from}
 use Rattle.cli_lines.specs.declared.evidence.Evidence.TheVariants.{Certificate, Refutation}
 use Rattle.cli_input.specs.declared.input.InputFault.{InputFault}
 use Rattle.cli_input.specs.declared.input.InputFault.TheVariants as fault
-use Rattle.cli_lines.specs.declared.question.Question.{Question}
-use Rattle.cli_lines.specs.declared.question.Question.TheVariants as question
+use Rattle.cli_lines.specs.declared.request.Request.{Request}
+use Rattle.cli_lines.specs.declared.request.Request.TheVariants as request
 use Rattle.cli_lines.specs.declared.job.Job.{Job}
 use Rattle.cli_lines.specs.declared.job.Job.TheVariants.{Check, Decide, Verify, Refute, Confirm}
 
@@ -80,12 +80,12 @@ ConfirmSays plan h (said.RefutationLineRefused line) = Unit {0}
 ConfirmSays plan h _ = ⊥
 
 -- what may be said where this is asked
-abbrev pub QuestionSays : Question → Answers
-QuestionSays (question.Shows order) = CheckSays order
-QuestionSays (question.Any budget certifying) = DecideSays budget certifying
-QuestionSays (question.Accepts cert) = VerifySays (map elsewhere cert.now.lines.items)
-QuestionSays question.Why = RefuteSays
-QuestionSays (question.Confirms text lines) = ConfirmSays
+abbrev pub RequestSays : Request → Answers
+RequestSays (request.Check order) = CheckSays order
+RequestSays (request.Decide budget certifying) = DecideSays budget certifying
+RequestSays (request.Verify cert) = VerifySays (map elsewhere cert.now.lines.items)
+RequestSays request.Refute = RefuteSays
+RequestSays (request.Confirm text lines) = ConfirmSays
 
 -- of a set of facts: the status, if they are not sealed, ill-formedness, if their history is not well-formed, else the
 -- answer

@@ -11,12 +11,12 @@
 mod ended;
 mod evidence;
 mod job;
-mod question;
 mod reading;
+mod request;
 mod run;
 
 pub use ended::{Cause, Ended, end_of};
 pub use job::{AuditJob, Command, Job};
-pub use question::Question;
 pub use reading::read_whole;
+pub use request::Request;
 pub use run::{answer_text, judge_facts, refuse_input, run_lines};

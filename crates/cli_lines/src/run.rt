@@ -2,19 +2,19 @@
 
 ghost use Rattle.std.specs.Prelude.{◌≡◌, ◌⊎◌, ◌+◌, ◌<◌, ◌^◌, Ok, IfOk, length};
 ghost use Rattle.aud_cert.specs.CertText.{cert_read};
-ghost use Rattle.cli_lines.specs.Line.{CertifiedSays, FactsSay, InputSays, Line, QuestionSays, RefusesInput, RefusesLine, SetSays};
+ghost use Rattle.cli_lines.specs.Line.{CertifiedSays, FactsSay, InputSays, Line, RequestSays, RefusesInput, RefusesLine, SetSays};
 ghost use Rattle.cli_input.specs.Inputs.{input_read};
 ghost use Rattle.cli_lines.specs.Outcomes.{IsLine, RunOutcome};
 
 use crate::ended::{Cause, Ended, end_of};
 use crate::evidence::{Evidence, split_input};
 use crate::job::Job;
-use crate::question::Question;
+use crate::request::Request;
 use aud_cert::{CertTextFault, read_cert_into};
 use aud_event::OutOfMemory;
 use aud_facts::Facts;
 use aud_know::well_formed_history;
-use aud_report::{ReadFault, Said, Sink, Source, read_all, write_all, write_line};
+use aud_report::{ReadAllFault, Said, Sink, Source, read_all, write_all, write_line};
 use aud_text::{TextFault, count_lines, read_order};
 use bumpalo::Bump;
 use cli_input::{Input, InputFault, read_input, take_input};
@@ -25,24 +25,24 @@ use std::sync::Arc;
 /// if it is not well-formed.
 pub fn judge_facts(
     alloc: Global,
-    question: Question<'_, '_>,
+    request: Request<'_, '_>,
     facts: &Facts,
 ) -> Result<Said, OutOfMemory>
-    ensures { IfOk result (SetSays (QuestionSays question.entry) facts.now.plan facts.now.facts) }
+    ensures { IfOk result (SetSays (RequestSays request.entry) facts.now.plan facts.now.facts) }
 {
     match well_formed_history(facts)? {
-        Ok(sealed) => question.answer(alloc, sealed),
+        Ok(sealed) => request.answer(alloc, sealed),
         Err(reported) => Ok(Said::Verdict(reported)),
     }
 }
 
-fn judge_input(alloc: Global, question: Question<'_, '_>, input: Input) -> Result<Said, OutOfMemory>
-    ensures { IfOk result (FactsSay (QuestionSays question.entry) input) }
+fn judge_input(alloc: Global, request: Request<'_, '_>, input: Input) -> Result<Said, OutOfMemory>
+    ensures { IfOk result (FactsSay (RequestSays request.entry) input) }
 {
     let (plan, list) = input.into_parts();
     let plan = Arc::new(alloc, plan)?;
     let facts = Facts::from_vec(alloc, plan, list)?;
-    judge_facts(alloc, question, &facts)
+    judge_facts(alloc, request, &facts)
 }
 
 /// What is said of an input that is refused.
@@ -56,11 +56,11 @@ pub fn refuse_input(fault: InputFault) -> Result<Said, OutOfMemory>
     }
 }
 
-fn judge(alloc: Global, question: Question<'_, '_>, text: Vec<u8>) -> Result<Said, OutOfMemory>
-    ensures { IfOk result (InputSays (QuestionSays question.entry) (input_read text.items)) }
+fn judge(alloc: Global, request: Request<'_, '_>, text: Vec<u8>) -> Result<Said, OutOfMemory>
+    ensures { IfOk result (InputSays (RequestSays request.entry) (input_read text.items)) }
 {
     match take_input(alloc, text) {
-        Ok(input) => judge_input(alloc, question, input),
+        Ok(input) => judge_input(alloc, request, input),
         Err(fault) => refuse_input(fault),
     }
 }
@@ -77,7 +77,7 @@ fn refuse_line(lines: usize, refused: CertTextFault) -> Result<Said, OutOfMemory
 }
 
 /// What is said of the facts of an input, by its certificate, which begins after so many lines. The certificate is read into an
-/// arena: it has as many lists as lines, or twice as many.
+/// arena: it holds as many prefixes as there are lines, or twice as many.
 fn verify_by(
     alloc: Global,
     input: Input,
@@ -87,9 +87,9 @@ fn verify_by(
     requires { lines + length certificate.now + 1 < 2 ^ 64 }
     ensures { IfOk result (CertifiedSays lines (Ok input) (cert_read certificate.now)) }
 {
-    let lists = Bump::new(alloc);
-    match read_cert_into(alloc, &lists, certificate) {
-        Ok(cert) => judge_input(alloc, Question::Accepts(&cert), input),
+    let arena = Bump::new(alloc);
+    match read_cert_into(alloc, &arena, certificate) {
+        Ok(cert) => judge_input(alloc, Request::Verify(&cert), input),
         Err(refused) => refuse_line(lines, refused),
     }
 }
@@ -128,8 +128,8 @@ fn confirm(alloc: Global, text: &[u8]) -> Result<Said, OutOfMemory>
     };
     match parts {
         Some(parts) => {
-            let question = Question::Confirms(parts.evidence, parts.lines);
-            judge_input(alloc, question, input)
+            let request = Request::Confirm(parts.evidence, parts.lines);
+            judge_input(alloc, request, input)
         }
         None => Ok(Said::RefutationLineRefused(count_lines(text) + 1)),
     }
@@ -141,15 +141,15 @@ fn said_of(alloc: Global, job: &Job, text: Vec<u8>) -> Result<Said, OutOfMemory>
 {
     match job {
         Job::Check(order) => match read_order(alloc, order.as_bytes()) {
-            Ok(order) => judge(alloc, Question::Shows(order), text),
+            Ok(order) => judge(alloc, Request::Check(order), text),
             Err(TextFault::OutOfMemory) => Err(OutOfMemory),
             Err(fault) => Ok(Said::OrderTextRefused(fault)),
         },
         Job::Decide(budget, certifying) => {
-            judge(alloc, Question::Any(*budget, *certifying), text)
+            judge(alloc, Request::Decide(*budget, *certifying), text)
         }
         Job::Verify => verify(alloc, text.as_slice()),
-        Job::Refute => judge(alloc, Question::Why, text),
+        Job::Refute => judge(alloc, Request::Refute, text),
         Job::Confirm => confirm(alloc, text.as_slice()),
     }
 }
@@ -184,8 +184,8 @@ pub fn run_lines<R: Source, W: Sink>(
 {
     let text = match read_all(alloc, source) {
         Ok(text) => text,
-        Err(ReadFault::Failed) => return Ended::Failed(Cause::Input),
-        Err(ReadFault::OutOfMemory) => return Ended::Failed(Cause::Memory),
+        Err(ReadAllFault::Failed) => return Ended::Failed(Cause::Input),
+        Err(ReadAllFault::OutOfMemory) => return Ended::Failed(Cause::Memory),
     };
     let Ok((line, end)) = answer_text(alloc, job, text) else {
         return Ended::Failed(Cause::Memory);

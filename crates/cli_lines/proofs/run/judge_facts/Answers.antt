@@ -6,7 +6,7 @@ use Rattle.aud_facts.specs.Status.{hist}
 use Rattle.aud_know.specs.Verdicts.{FactsReportAtOnce}
 use Rattle.aud_know.proofs.Judging.{reported_at_once}
 use Rattle.aud_report.specs.declared.said.Said.TheVariants as said
-use Rattle.cli_lines.specs.Line.{QuestionSays, SetSays}
+use Rattle.cli_lines.specs.Line.{RequestSays, SetSays}
 use Rattle.cli_lines.proofs.HistoryLemmas.{says_of_facts, if_ok}
 use Rattle.cli_lines.proofs.run.judge_facts.Goals as goal
 
@@ -17,7 +17,7 @@ returns-in-Ok c =
     let read : (sealed.facts ≡ facts) × IsSealedWith facts sealed.history × IsWellFormed sealed.history =
     subst (λ r. MatchResult r (λ s. (s.value.facts ≡ facts) × IsSealedWith facts s.value.history × IsWellFormed s.value.history) (λ t. FactsReportAtOnce facts.plan.logs facts.facts t))
     c.in-Ok.is c.in_ok-sealed.ensures in
-    let asked = QuestionSays c.args.question in
+    let asked = RequestSays c.args.request in
     if_ok (asked sealed.facts.plan sealed.history) (SetSays asked facts.plan facts.facts) c.answer.result
     (λ s says. says_of_facts asked facts sealed read.0 read.1 read.2 s says) c.answer.ensures
 
@@ -27,4 +27,4 @@ returns-in-Err c =
     let reported : FactsReportAtOnce facts.plan.logs facts.facts c.in-Err.reported =
     subst (λ r. MatchResult r (λ s. (s.value.facts ≡ facts) × IsSealedWith facts s.value.history × IsWellFormed s.value.history) (λ t. FactsReportAtOnce facts.plan.logs facts.facts t))
     c.in-Err.is c.in_ok-sealed.ensures in
-    reported_at_once said.Verdict facts.plan.logs facts.facts (QuestionSays c.args.question facts.plan (hist facts.facts)) c.in-Err.reported reported
+    reported_at_once said.Verdict facts.plan.logs facts.facts (RequestSays c.args.request facts.plan (hist facts.facts)) c.in-Err.reported reported

@@ -2,7 +2,7 @@ use Rattle.std.specs.declared.alloc.Global.{Global}
 use Rattle.aud_order.specs.Shapes.{objects_of, history_of}
 use Rattle.cert_accept.proofs.Elsewhere.{accepted-elsewhere}
 use Rattle.cli_lines.proofs.HistoryLemmas.{none-from_refuted}
-use Rattle.cli_lines.proofs.question.answer_verify.Goals as goal
+use Rattle.cli_lines.proofs.request.answer_verify.Goals as goal
 
 pub returns-then-branch : goal.returns-then-branch
 returns-then-branch g c =

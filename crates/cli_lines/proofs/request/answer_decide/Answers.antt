@@ -1,7 +1,7 @@
 use Rattle.std.proofs.Common.{None}
 use Rattle.cli_lines.specs.Line.{NoneSays, DecideSays}
 use Rattle.cli_lines.proofs.HistoryLemmas.{none-decides, if_ok}
-use Rattle.cli_lines.proofs.question.answer_decide.Goals as goal
+use Rattle.cli_lines.proofs.request.answer_decide.Goals as goal
 
 pub returns-in-NotOpaque : goal.returns-in-NotOpaque
 returns-in-NotOpaque c =

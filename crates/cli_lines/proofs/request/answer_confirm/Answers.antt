@@ -1,6 +1,6 @@
 use Rattle.std.proofs.Common.{sym, subst}
 use Rattle.aud_history.specs.WellFormed.{IsWellFormed}
-use Rattle.cli_lines.proofs.question.answer_confirm.Goals as goal
+use Rattle.cli_lines.proofs.request.answer_confirm.Goals as goal
 
 pub judge-requires : goal.judge-requires
 judge-requires c = subst (λ h. IsWellFormed h.events) (sym c.history-history.ensures.history) c.history-history.ensures.sound

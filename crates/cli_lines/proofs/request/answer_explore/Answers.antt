@@ -2,7 +2,7 @@ use Rattle.std.proofs.Common.{[], Some, subst}
 use Rattle.search_prefix.specs.Searches.{Reports}
 use Rattle.cli_lines.specs.Line.{NoneSays, DecideSays}
 use Rattle.cli_lines.proofs.HistoryLemmas.{none-from_refuted, none-decides, if_ok}
-use Rattle.cli_lines.proofs.question.answer_explore.Goals as goal
+use Rattle.cli_lines.proofs.request.answer_explore.Goals as goal
 
 pub said_of_none-requires : goal.said_of_none-requires
 said_of_none-requires c =

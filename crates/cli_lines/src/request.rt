@@ -3,7 +3,7 @@
 ghost use Rattle.std.specs.Prelude.{IfOk, None, Some, map, true};
 ghost use Rattle.aud_history.specs.WellFormed.{IsWellFormed};
 ghost use Rattle.cert_accept.specs.Acceptance.{elsewhere};
-ghost use Rattle.cli_lines.specs.Line.{CheckSays, ConfirmSays, DecideSays, NoneSays, RefuteSays, VerifySays, QuestionSays};
+ghost use Rattle.cli_lines.specs.Line.{CheckSays, ConfirmSays, DecideSays, NoneSays, RefuteSays, VerifySays, RequestSays};
 ghost use Rattle.aud_witness.specs.Orders.{Opaque};
 
 use aud_cert::{Cert, check_cert, make_cert};
@@ -23,17 +23,17 @@ use std::sync::Arc;
 
 /// What is asked of a history.
 #[derive(Drop)]
-pub enum Question<'q, 'l> {
+pub enum Request<'q, 'l> {
     /// Whether this order shows it.
-    Shows(Prefix),
+    Check(Prefix),
     /// Whether any order does, perhaps with a budget, and with a certificate where none does or without.
-    Any(Option<u64>, bool),
+    Decide(Option<u64>, bool),
     /// Whether the certificate that none does is accepted.
-    Accepts(&'q Cert<&'l Bump>),
+    Verify(&'q Cert<&'l Bump>),
     /// Why none does, as far as clause learning tells.
-    Why,
+    Refute,
     /// Whether the refutation of this text, which begins after so many lines, is accepted.
-    Confirms(&'q [u8], usize),
+    Confirm(&'q [u8], usize),
 }
 
 fn answer_check(alloc: Global, order: Prefix, history: &History) -> Result<Said, OutOfMemory>
@@ -147,31 +147,31 @@ fn answer_confirm(
     }
 }
 
-impl<'q, 'l> Question<'q, 'l> {
+impl<'q, 'l> Request<'q, 'l> {
     /// The answer for a sealed set whose history is well-formed.
     pub fn answer(self, alloc: Global, sealed: Arc<Sealed>) -> Result<Said, OutOfMemory>
         requires { IsWellFormed sealed.value.history }
-        ensures { IfOk result (QuestionSays self.entry sealed.value.facts.plan sealed.value.history) }
+        ensures { IfOk result (RequestSays self.entry sealed.value.facts.plan sealed.value.history) }
     {
         match self {
-            Question::Shows(order) => answer_check(alloc, order, sealed.history()),
-            Question::Any(None, certifying) => {
+            Request::Check(order) => answer_check(alloc, order, sealed.history()),
+            Request::Decide(None, certifying) => {
                 let shape = Shape::of(alloc, sealed)?;
                 answer_decide(alloc, certifying, &shape)
             }
-            Question::Any(Some(budget), certifying) => {
+            Request::Decide(Some(budget), certifying) => {
                 let shape = Shape::of(alloc, sealed)?;
                 answer_explore(alloc, budget, certifying, &shape)
             }
-            Question::Accepts(cert) => {
+            Request::Verify(cert) => {
                 let shape = Shape::of(alloc, sealed)?;
                 answer_verify(alloc, cert, &shape)
             }
-            Question::Why => {
+            Request::Refute => {
                 let shape = Shape::of(alloc, sealed)?;
                 answer_refute(alloc, &shape)
             }
-            Question::Confirms(text, lines) => {
+            Request::Confirm(text, lines) => {
                 let shape = Shape::of(alloc, sealed)?;
                 answer_confirm(alloc, text, lines, &shape)
             }

@@ -1,6 +1,6 @@
 use Rattle.std.proofs.Common.{sym, subst}
 use Rattle.aud_history.specs.WellFormed.{IsWellFormed}
-use Rattle.cli_lines.proofs.question.Question.answer.Goals as goal
+use Rattle.cli_lines.proofs.request.Request.answer.Goals as goal
 
 pub answer_check-requires : goal.answer_check-requires
 answer_check-requires c =
