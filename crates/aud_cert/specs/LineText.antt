@@ -11,8 +11,8 @@ use Rattle.aud_text.specs.Orders.{order_read}
 use Rattle.cert_accept.specs.declared.cert.CertLine.{CertLine}
 use Rattle.cert_accept.specs.declared.cert.CertLine.TheVariants.{Kids, Silent, Same}
 use Rattle.aud_cert.specs.declared.line.OrderTexts.{OrderTexts}
-use Rattle.aud_cert.specs.declared.reason.Reason.{Reason}
-use Rattle.aud_cert.specs.declared.reason.Reason.TheVariants as by
+use Rattle.aud_cert.specs.declared.reason.ByWord.{ByWord}
+use Rattle.aud_cert.specs.declared.reason.ByWord.TheVariants as by
 use Rattle.aud_cert.specs.Limits.{longest_cert_line}
 
 -- a line that is read, its lists in memory of the program's own allocator
@@ -21,12 +21,12 @@ Line = CertLine Global
 
 -- ---- the reason
 
-abbrev pub word_of_reason : Reason → List ℕ
+abbrev pub word_of_reason : ByWord → List ℕ
 word_of_reason by.Kids = codes "kids"
 word_of_reason by.Silent = codes "silent"
 word_of_reason by.Same = codes "same"
 
-abbrev pub reason_of_word : List ℕ → Option Reason
+abbrev pub reason_of_word : List ℕ → Option ByWord
 reason_of_word w =
     if bytes_eq w (codes "kids") then Some by.Kids
     else (if bytes_eq w (codes "silent") then Some by.Silent
@@ -34,18 +34,18 @@ reason_of_word w =
     else None))
 
 -- the reason, where `by` has the word of one
-abbrev pub reason_at : Data → Option Reason
+abbrev pub reason_at : Data → Option ByWord
 reason_at d = option_and_then reason_of_word (word_at (codes "by") d)
 
 -- the keys that must stand
-abbrev pub required : Option Reason → List Key
+abbrev pub required : Option ByWord → List Key
 required None = codes "by" ∷ codes "p" ∷ []
 required (Some by.Kids) = codes "by" ∷ codes "p" ∷ []
 required (Some by.Silent) = codes "by" ∷ codes "d" ∷ codes "p" ∷ []
 required (Some by.Same) = codes "as" ∷ codes "by" ∷ codes "p" ∷ []
 
 -- the keys that may stand: no others than those that must, where the reason is known
-abbrev pub allowed : Option Reason → List Key
+abbrev pub allowed : Option ByWord → List Key
 allowed None = codes "as" ∷ codes "by" ∷ codes "d" ∷ codes "p" ∷ []
 allowed (Some reason) = required (Some reason)
 
@@ -87,14 +87,14 @@ abbrev pub all_texts : Data → Bool
 all_texts d = text_fits (codes "as") d && (text_fits (codes "by") d && (text_fits (codes "d") d && text_fits (codes "p") d))
 
 -- the line of a reason, where the order texts that it needs are read
-abbrev pub line_of : Option Reason → OrderText → OrderText → OrderText → Option Line
+abbrev pub line_of : Option ByWord → OrderText → OrderText → OrderText → Option Line
 line_of None p d q = None
 line_of (Some by.Kids) p d q = option_map (λ l. Kids l) (list_of p)
 line_of (Some by.Silent) p d q = option_and_then (λ l. option_map (λ e. Silent l e) (option_and_then only_of (list_of d))) (list_of p)
 line_of (Some by.Same) p d q = option_and_then (λ l. option_map (λ m. Same l m) (list_of q)) (list_of p)
 
 -- the least fault of a line that is an object: of its keys, by the reason, of the types, and of the order texts `p`, `d` and `as`
-abbrev pub fault_of : Data → Members → Option Reason → OrderText → OrderText → OrderText → Option TextFault
+abbrev pub fault_of : Data → Members → Option ByWord → OrderText → OrderText → OrderText → Option TextFault
 fault_of e ms reason p d q =
     if is_long p || (is_long d || is_long q) then Some fault.TooLong
     else (if not (has_all (required reason) e) then Some fault.KeyMissing
@@ -103,7 +103,7 @@ fault_of e ms reason p d q =
     else None)))
 
 -- the same of the order texts together
-abbrev pub fault_with : Data → Members → Option Reason → OrderTexts → Option TextFault
+abbrev pub fault_with : Data → Members → Option ByWord → OrderTexts → Option TextFault
 fault_with e ms reason texts = fault_of e ms reason texts.prefix texts.decision texts.other
 
 -- where there is no such fault, only a word is unknown if there is no line
@@ -112,7 +112,7 @@ line_unless (Some e) line = Err e
 line_unless None (Some line) = Ok line
 line_unless None None = Err fault.UnknownWord
 
-abbrev pub line_by : Data → Members → Option Reason → OrderText → OrderText → OrderText →
+abbrev pub line_by : Data → Members → Option ByWord → OrderText → OrderText → OrderText →
     Result Line TextFault
 line_by e ms reason p d q = line_unless (fault_of e ms reason p d q) (line_of reason p d q)
 

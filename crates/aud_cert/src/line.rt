@@ -5,7 +5,7 @@ ghost use Rattle.serde_json.specs.View.{view, members_view};
 ghost use Rattle.cert_accept.specs.Acceptance.{elsewhere};
 ghost use Rattle.aud_cert.specs.LineText.{order_at_key, is_long, is_out_of_range, is_one, all_texts, only_of, list_of, fault_with, line_of, line_judged, line_read};
 
-use crate::reason::{Reason, allowed_keys, reason_in, required_keys};
+use crate::reason::{ByWord, allowed_keys, reason_in, required_keys};
 use crate::spelled::line_spelled;
 use aud_event::OutOfMemory;
 use aud_text::{
@@ -75,7 +75,7 @@ fn has_great_id(text: &OrderText) -> bool
     }
 }
 
-/// The one decision of a list of one.
+/// The one decision of a prefix of one.
 pub(crate) fn only(decisions: &[Decision]) -> Option<Decision>
     ensures { result ≡ only_of decisions.now }
 {
@@ -85,7 +85,7 @@ pub(crate) fn only(decisions: &[Decision]) -> Option<Decision>
     }
 }
 
-/// Whether the list, where one is read, has one decision.
+/// Whether the prefix, where one is read, has one decision.
 fn has_one(text: &OrderText) -> bool
     ensures { result ≡ is_one text.now }
 {
@@ -108,7 +108,7 @@ fn are_texts(value: &Value) -> bool
 fn fault_in(
     value: &Value,
     members: &Map<String, Value>,
-    reason: Option<Reason>,
+    reason: Option<ByWord>,
     texts: &OrderTexts,
 ) -> Option<TextFault>
     ensures { result ≡ fault_with (view value.now) (members_view members.now.entries) reason texts.now }
@@ -148,19 +148,19 @@ fn list_in(text: OrderText) -> Option<Prefix>
 }
 
 /// The line of the reason, where the order texts that it needs are read.
-fn line_in(reason: Option<Reason>, texts: OrderTexts) -> Option<CertLine>
+fn line_in(reason: Option<ByWord>, texts: OrderTexts) -> Option<CertLine>
     ensures { result ≡ line_of reason texts.prefix texts.decision texts.other }
 {
     let reason = reason?;
     let prefix = list_in(texts.prefix)?;
     match reason {
-        Reason::Kids => Some(CertLine::Kids(prefix)),
-        Reason::Silent => {
+        ByWord::Kids => Some(CertLine::Kids(prefix)),
+        ByWord::Silent => {
             let list = list_in(texts.decision)?;
             let decision = only(list.decisions())?;
             Some(CertLine::Silent(prefix, decision))
         }
-        Reason::Same => {
+        ByWord::Same => {
             let other = list_in(texts.other)?;
             Some(CertLine::Same(prefix, other))
         }
@@ -187,7 +187,7 @@ fn judge_line(alloc: Global, value: &Value) -> Result<CertLine, TextFault>
     }
 }
 
-/// The line with its lists in other memory.
+/// The line with its prefixes in other memory.
 fn moved<A: Allocator + Copy>(alloc: A, line: &CertLine) -> Result<CertLine<A>, OutOfMemory>
     ensures { IfOk result (λ moved. elsewhere moved ≡ line.now) }
 {
@@ -208,7 +208,7 @@ fn moved<A: Allocator + Copy>(alloc: A, line: &CertLine) -> Result<CertLine<A>, 
     }
 }
 
-/// The line that a text says, or the least fault that it deserves. Its lists are in the memory of `lists`; the list is room that each call
+/// The line that a text says, or the least fault that it deserves. Its prefixes are in the memory of `lists`; the list is room that each call
 /// writes over.
 pub(crate) fn read_line<A: Allocator + Copy>(
     alloc: Global,

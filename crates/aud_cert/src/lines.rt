@@ -13,7 +13,7 @@ use search_memo::{Recorder, RefutedBy};
 use std::alloc::{Allocator, Global};
 use std::marker::Model;
 
-/// Lines of which each is accepted after those before it. A list that was refuted is named by the number of its line.
+/// Lines of which each is accepted after those before it. A prefix that was refuted is named by the number of its line.
 #[derive(Drop)]
 pub(crate) struct Lines<'a, A: Allocator + Copy = Global> {
     alloc: A,

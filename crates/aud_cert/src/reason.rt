@@ -9,24 +9,24 @@ use serde_json::Value;
 
 /// The words of `by`.
 #[derive(Clone, Copy, PartialEq, Eq)]
-pub(crate) enum Reason {
+pub(crate) enum ByWord {
     Kids,
     Silent,
     Same,
 }
 
-fn reason_of(word: &str) -> Option<Reason>
+fn reason_of(word: &str) -> Option<ByWord>
     ensures { result ≡ reason_of_word word.now }
 {
     match word {
-        "kids" => Some(Reason::Kids),
-        "silent" => Some(Reason::Silent),
-        "same" => Some(Reason::Same),
+        "kids" => Some(ByWord::Kids),
+        "silent" => Some(ByWord::Silent),
+        "same" => Some(ByWord::Same),
         _ => None,
     }
 }
 
-pub(crate) fn reason_in(value: &Value) -> Option<Reason>
+pub(crate) fn reason_in(value: &Value) -> Option<ByWord>
     ensures { result ≡ reason_at (view value.now) }
 {
     match word_of(value, "by") {
@@ -43,18 +43,18 @@ static SAME_KEYS: [&str; 3] = ["as", "by", "p"];
 
 static ALL_KEYS: [&str; 4] = ["as", "by", "d", "p"];
 
-pub(crate) fn required_keys(reason: Option<Reason>) -> &'static [&'static str]
+pub(crate) fn required_keys(reason: Option<ByWord>) -> &'static [&'static str]
     ensures { map (λ k. k.now) result.now ≡ required reason }
 {
     match reason {
-        Some(Reason::Kids) => KIDS_KEYS.as_slice(),
-        Some(Reason::Silent) => SILENT_KEYS.as_slice(),
-        Some(Reason::Same) => SAME_KEYS.as_slice(),
+        Some(ByWord::Kids) => KIDS_KEYS.as_slice(),
+        Some(ByWord::Silent) => SILENT_KEYS.as_slice(),
+        Some(ByWord::Same) => SAME_KEYS.as_slice(),
         None => KIDS_KEYS.as_slice(),
     }
 }
 
-pub(crate) fn allowed_keys(reason: Option<Reason>) -> &'static [&'static str]
+pub(crate) fn allowed_keys(reason: Option<ByWord>) -> &'static [&'static str]
     ensures { map (λ k. k.now) result.now ≡ allowed reason }
 {
     match reason {

@@ -53,21 +53,21 @@ pub trait Sink {
 
 /// Why not all was read.
 #[derive(Clone, Copy, Debug, PartialEq, Eq)]
-pub enum ReadFault {
+pub enum ReadAllFault {
     /// The source failed.
     Failed,
     /// There was no memory for what it gave.
     OutOfMemory,
 }
 
-impl From<AllocError> for ReadFault {
+impl From<AllocError> for ReadAllFault {
     ghost use Rattle.std.specs.Prelude.{◌≡◌};
-    ghost use Rattle.aud_report.specs.declared.device.ReadFault.TheVariants as fault;
+    ghost use Rattle.aud_report.specs.declared.device.ReadAllFault.TheVariants as fault;
 
     ghost from_gives = { λ _ made. made ≡ fault.OutOfMemory };
 
-    fn from(_error: AllocError) -> ReadFault {
-        ReadFault::OutOfMemory
+    fn from(_error: AllocError) -> ReadAllFault {
+        ReadAllFault::OutOfMemory
     }
 }
 
@@ -78,24 +78,24 @@ const CHUNK: usize = 16_384;
 pub fn read_all<A: Allocator + Drop, R: Source>(
     alloc: A,
     source: &mut R,
-) -> Result<Vec<u8, A>, ReadFault>
+) -> Result<Vec<u8, A>, ReadAllFault>
     requires { R.ready source.old }
     ensures ok { IfOk result (λ bytes. bytes.items ≡ R.left source.old) }
     ensures kept { OnOk result (R.failures source.new ≡ R.failures source.old) }
-    ensures failed { result ≡ Err ReadFault.Failed → R.failures source.new ≡ R.failures source.old + 1 }
-    ensures memory { result ≡ Err ReadFault.OutOfMemory → R.failures source.new ≡ R.failures source.old }
+    ensures failed { result ≡ Err ReadAllFault.Failed → R.failures source.new ≡ R.failures source.old + 1 }
+    ensures memory { result ≡ Err ReadAllFault.OutOfMemory → R.failures source.new ≡ R.failures source.old }
 {
     let mut bytes = Vec::new(alloc);
     let mut chunk = [0u8; CHUNK];
     loop {
         let Ok(count) = source.read(&mut chunk) else {
-            return Err(ReadFault::Failed);
+            return Err(ReadAllFault::Failed);
         };
         if count == 0 {
             return Ok(bytes);
         }
         if bytes.extend_from_slice(&chunk[..count]).is_err() {
-            return Err(ReadFault::OutOfMemory);
+            return Err(ReadAllFault::OutOfMemory);
         }
     }
 }

@@ -14,7 +14,7 @@ mod memory;
 mod report;
 mod said;
 
-pub use device::{ReadFault, Sink, SinkFault, Source, SourceFault, read_all, write_all};
+pub use device::{ReadAllFault, Sink, SinkFault, Source, SourceFault, read_all, write_all};
 pub use memory::{MemorySink, MemorySource};
 pub use report::{ReportFault, write_report};
 pub use said::{Said, write_line};
