@@ -11,10 +11,17 @@ import subprocess
 
 from timing import tell, timed
 from harness import asked, compact as line
+from oracle import Objects
 from search import scheduled
 
 KINDS = {"register": "x", "counter": "c", "set": "s", "queue": "q", "map": "m"}
 NAMES = [f"{letter}{number}" for number in range(52) for letter in KINDS.values()][:256]
+
+
+MIX = {
+    "x": ("write", "read", "read", "read"), "c": ("plus", "get", "get", "get"), "s": ("add", "remove", "contains", "contains"), "q": ("deq", "enq"),
+    "m": ("put", "del", "look", "look", "look"),
+}
 
 
 class Memory:
@@ -22,48 +29,19 @@ class Memory:
 
     def __init__(self, draw):
         self.draw = draw
-        self.values = {name: {"x": 0, "c": 0, "s": set(), "q": [], "m": {}}[name[0]] for name in NAMES}
-
-    def of_register(self, name, value):
-        if self.draw.randrange(4):
-            return {"op": "read"}, self.values[name]
-        self.values[name] = value
-        return {"op": "write", "arg": value}, "done"
-
-    def of_counter(self, name, value):
-        if self.draw.randrange(4):
-            return {"op": "get"}, self.values[name]
-        self.values[name] += value
-        return {"op": "plus", "arg": value}, "done"
-
-    def of_set(self, name, value):
-        was, op = value in self.values[name], self.draw.choice(["add", "remove", "contains", "contains"])
-        if op != "contains":
-            (self.values[name].add if op == "add" else self.values[name].discard)(value)
-        return {"op": op, "arg": value}, was != (op == "add")
-
-    def of_queue(self, name, value):
-        if self.draw.randrange(2):
-            self.values[name].append(value)
-            return {"op": "enq", "arg": value}, "done"
-        return {"op": "deq"}, self.values[name].pop(0) if self.values[name] else "empty"
-
-    def of_map(self, name, value):
-        under, key = self.values[name], value % 8
-        op = self.draw.choice(["put", "del", "look", "look", "look"])
-        if op == "put":
-            under[key] = value
-            return {"op": op, "arg": key, "val": value}, "done"
-        if op == "del":
-            return {"op": op, "arg": key}, under.pop(key, None) is not None
-        return {"op": op, "arg": key}, under.get(key, "empty")
+        letters = {letter: kind for kind, letter in KINDS.items()}
+        self.objects = Objects({name: letters[name[0]] for name in NAMES})
 
     def call(self):
         """The object, what is asked, and the answer."""
         name, value = self.draw.choice(NAMES), self.draw.randrange(50)
-        calls = {"x": self.of_register, "c": self.of_counter, "s": self.of_set, "q": self.of_queue, "m": self.of_map}
-        asked, answer = calls[name[0]](name, value)
-        return name, asked, answer
+        op = self.draw.choice(MIX[name[0]])
+        asked = {"op": op}
+        if op not in ("read", "get", "deq"):
+            asked["arg"] = value % 8 if name[0] == "m" else value
+        if op == "put":
+            asked["val"] = value
+        return name, asked, self.objects.call(name, **asked)
 
 
 def made(count, at_a_time, spoiled):

@@ -15,50 +15,28 @@ import random
 
 from timing import tell, timed
 from harness import TOP, asked, compact as line, read
-from runs import at_once, declared
+from oracle import Objects
+from runs import KINDS, WITH_ARGUMENT, at_once, declared
 
 OPERATIONS = 126
-KINDS = ["register", "counter", "set", "queue"]
+MIX = {"x": ("write", "read", "read", "read"), "c": ("inc", "get", "get", "get"), "s": ("add", "remove", "contains", "contains"), "q": ("deq", "enq")}
 
 
 class Memory:
-    """256 objects, 64 of each kind."""
+    """256 objects, 64 of each kind, and of each register what it held before the last write."""
 
     def __init__(self):
-        self.values = [0] * 64
-        self.before = [0] * 64
-        self.counts = [0] * 64
-        self.sets = [set() for _ in range(64)]
-        self.queues = [[] for _ in range(64)]
+        self.objects = Objects({f"{letter}{number}": kind for letter, kind in KINDS.items() for number in range(64)})
+        self.before = {}
 
     def call(self, draw):
         """An operation's object, name, argument and answer."""
-        kind, number, value = draw.randrange(4), draw.randrange(64), draw.randrange(50)
-        if kind == 0:
-            if draw.randrange(4):
-                return f"x{number}", "read", None, self.values[number]
-            self.before[number], self.values[number] = self.values[number], value
-            return f"x{number}", "write", value, "done"
-        if kind == 1:
-            if draw.randrange(4):
-                return f"c{number}", "get", None, self.counts[number]
-            self.counts[number] += 1
-            return f"c{number}", "inc", None, "done"
-        if kind == 2:
-            members = self.sets[number]
-            was = value in members
-            name = draw.choice(["add", "remove", "contains", "contains"])
-            if name == "add":
-                members.add(value)
-                return f"s{number}", name, value, not was
-            if name == "remove":
-                members.discard(value)
-            return f"s{number}", name, value, was
-        queue = self.queues[number]
-        if draw.randrange(2):
-            queue.append(value)
-            return f"q{number}", "enq", value, "done"
-        return f"q{number}", "deq", None, queue.pop(0) if queue else "empty"
+        letter, number, value = "xcsq"[draw.randrange(4)], draw.randrange(64), draw.randrange(50)
+        name, op = f"{letter}{number}", draw.choice(MIX[letter])
+        if op == "write":
+            self.before[name] = self.objects.held[name]
+        argument = value if op in WITH_ARGUMENT else None
+        return name, op, argument, self.objects.call(name, op, argument)
 
 
 def scheduled(draw, at_a_time, count, operations=OPERATIONS):
@@ -91,7 +69,7 @@ def full_size(at_a_time, effects, spoiled):
         events[tx] = []
         for _ in range(OPERATIONS):
             ob, op, argument, answer = memory.call(draw)
-            old = memory.before[int(ob[1:])] if op == "read" else None
+            old = memory.before.get(ob, 0) if op == "read" else None
             if spoiled and place >= 1000 and op == "read" and old != answer:
                 answer, spoiled = old, False
             asked = {"ev": "inv", "ob": ob, "op": op}
@@ -100,9 +78,8 @@ def full_size(at_a_time, effects, spoiled):
             events[tx].append([asked, {"ans": answer, "ev": "ret", "ob": ob, "op": op}])
         events[tx].append([{"ev": "tryc"}, {"ev": "commit"}])
     text = ['{"format":1,"logs":64,"objects":256}']
-    for kind in KINDS:
+    for letter, kind in KINDS.items():
         opening = {"open": 0} if kind in ("register", "counter") else {}
-        letter = {"register": "x", "counter": "c", "set": "s", "queue": "q"}[kind]
         text += [line(kind=kind, name=f"{letter}{number}", **opening) for number in range(64)]
     places, stamp, lines = [0] * 64, 0, []
     done = {tx: iter(events[tx]) for tx in events}

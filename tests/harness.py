@@ -90,7 +90,7 @@ class Harness:
         self.lock = threading.Lock()
 
     def judge(self, name, is_right, what=""):
-        """Counts one. What failed is told in a line, with what was there."""
+        """Counts one. What failed is named in a line, with what was there."""
         with self.lock:
             self.passed += bool(is_right)
             self.failed += not is_right
@@ -223,6 +223,6 @@ def script(run, about, makes=Harness, more=0):
     if first == 1 and not os.access(words[0], os.X_OK):
         print(f"{sys.argv[0]}: there is no program {words[0]}", file=sys.stderr)
         return USAGE
-    told = makes(*words[:first])
-    run(told, *words[first:])
-    return told.end()
+    tally = makes(*words[:first])
+    run(tally, *words[first:])
+    return tally.end()

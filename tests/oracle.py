@@ -481,6 +481,19 @@ STEPS = {
 }
 
 
+class Objects:
+    """Objects of these kinds by their names, which open at 0 or empty, and change by what is asked of them."""
+
+    def __init__(self, kinds):
+        self.kinds = kinds
+        self.held = {name: OPENING[kind](0) for name, kind in kinds.items()}
+
+    def call(self, name, op, arg=None, val=None):
+        """The answer; the object is as it is after it."""
+        self.held[name], answer = STEPS[self.kinds[name]][op](self.held[name], arg, val)
+        return answer
+
+
 class History:
     def __init__(self, plan, events):
         self.kinds = {name: kind for name, kind, _ in plan.objects}

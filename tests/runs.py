@@ -7,6 +7,7 @@ import random
 import sys
 
 from harness import USAGE, compact
+from oracle import Objects
 
 
 def declared(kind, name):
@@ -38,6 +39,12 @@ def increments(count):
 PER_TRANSACTION = 256
 
 
+# The objects of each log, and what may be asked of them.
+KINDS = {"x": "register", "c": "counter", "s": "set", "q": "queue"}
+OPERATIONS = {"x": ("read", "write"), "c": ("get", "inc"), "s": ("add", "remove", "contains"), "q": ("deq", "enq")}
+WITH_ARGUMENT = ("write", "add", "remove", "contains", "enq")
+
+
 class Thread:
     """One log, with four objects that only it uses."""
 
@@ -45,39 +52,15 @@ class Thread:
         self.log = log
         self.left = count
         self.lines = []
-        self.register = 0
-        self.counter = 0
-        self.members = set()
-        self.queue = []
+        self.objects = Objects(KINDS)
         self.waiting = []
 
     def call(self, draw):
         """An operation's object, name, argument and answer."""
-        kind = draw.randrange(4)
-        value = draw.randrange(50)
-        if kind == 0:
-            if draw.randrange(2):
-                self.register = value
-                return "x", "write", value, "done"
-            return "x", "read", None, self.register
-        if kind == 1:
-            if draw.randrange(2):
-                self.counter += 1
-                return "c", "inc", None, "done"
-            return "c", "get", None, self.counter
-        if kind == 2:
-            was = value in self.members
-            name = draw.choice(["add", "remove", "contains"])
-            if name == "add":
-                self.members.add(value)
-                return "s", name, value, not was
-            if name == "remove":
-                self.members.discard(value)
-            return "s", name, value, was
-        if draw.randrange(2):
-            self.queue.append(value)
-            return "q", "enq", value, "done"
-        return "q", "deq", None, self.queue.pop(0) if self.queue else "empty"
+        name, value = "xcsq"[draw.randrange(4)], draw.randrange(50)
+        op = draw.choice(OPERATIONS[name])
+        argument = value if op in WITH_ARGUMENT else None
+        return name, op, argument, self.objects.call(name, op, argument)
 
     def refill(self, draw):
         """One more transaction."""

@@ -10,6 +10,7 @@ import random
 import sys
 
 from harness import compact
+from oracle import OPENING, STEPS
 
 PLANS = [
     [("register", 1)], [("register", 4)], [("register", 16)], [("register", 64)],
@@ -44,32 +45,6 @@ def operation(draw, kind, number):
     return draw.choice([("enq", number), ("deq", None)])
 
 
-def run(state, kind, word, argument):
-    """The answer, and the state after it."""
-    if word == "read" or word == "get":
-        return state, state
-    if word == "write":
-        return "done", argument
-    if word == "inc":
-        return "done", state + 1
-    if word == "dec":
-        return "done", state - 1
-    if word == "enq":
-        return "done", state + (argument,)
-    if word == "deq":
-        return (state[0], state[1:]) if state else ("empty", state)
-    if word == "put":
-        return "done", {**state, argument[0]: argument[1]}
-    if word == "look":
-        return state.get(argument, "empty"), state
-    if word == "del":
-        return argument in state, {key: value for key, value in state.items() if key != argument}
-    has = argument in state
-    if word == "contains":
-        return has, state
-    return (not has, state | {argument}) if word == "add" else (has, state - {argument})
-
-
 def transactions_of(draw, threads, style, count, objects):
     """Transactions with the times of their events, in the order in which they take effect."""
     made = []
@@ -89,12 +64,12 @@ def transactions_of(draw, threads, style, count, objects):
 
 
 def answered(made, objects):
-    opening = {"register": 0, "counter": 0, "set": frozenset(), "queue": (), "map": {}}
-    states = [opening[o["kind"]] for o in objects]
+    states = [OPENING[o["kind"]](0) for o in objects]
     for transaction in made:
         own, answers = list(states), []
         for ob, word, argument in transaction["ops"]:
-            answer, own[ob] = run(own[ob], objects[ob]["kind"], word, argument)
+            asked = argument if isinstance(argument, tuple) else (argument, None)
+            own[ob], answer = STEPS[objects[ob]["kind"]][word](own[ob], *asked)
             answers.append(answer)
         transaction["answers"] = answers
         transaction["commits"] = transaction["ending"] == "commit" or (transaction["ending"] == "pending" and transaction["number"] % 2 == 0)

@@ -3,7 +3,7 @@
 use aud_event::{Answer, Event, ObjDecl, ObjKind, Op, OpName, OutOfMemory, Plan};
 use aud_history::History;
 use judge_clauses::{Atom, Judgement, Law, Literal, Reason, Refutation, Step, Take, judge};
-use judge_queues::{Front, QueueLaw};
+use judge_queues::{FrontItem, QueueLaw};
 use judge_sums::SumLaw;
 use std::alloc::Global;
 use std::sync::Arc;
@@ -183,7 +183,7 @@ fn passed_over(alloc: Global, adder: u32) -> Result<bool, OutOfMemory> {
         object: 0,
         number: 0,
     };
-    let front = Front { adder, value: 5 };
+    let front = FrontItem { adder, value: 5 };
     let steps = by_two(
         alloc,
         QueueLaw::Items(take),
@@ -249,7 +249,7 @@ mod tests {
         let item = Atom::Item(TAKE, 1, 0);
         let steps = at_once(alloc, QueueLaw::Empty(2, 0, 0))?;
         assert!(rt; after_two(alloc, Answer::Empty, steps, item) == Ok(true));
-        let front = Front { adder: 1, value: 5 };
+        let front = FrontItem { adder: 1, value: 5 };
         let steps = at_once(alloc, QueueLaw::Left(2, 0, 0, front))?;
         assert!(rt; after_two(alloc, Answer::Empty, steps, item) == Ok(true));
         let steps = at_once(alloc, QueueLaw::Empty(2, 0, 0))?;

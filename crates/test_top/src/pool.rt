@@ -4,7 +4,7 @@ ghost use Rattle.std.specs.Prelude.{◌≡◌};
 
 use crate::watch::{Watch, note};
 use aud_event::OutOfMemory;
-use node_pool::{PoolEnd, Refusal, Work, WorkerEnd, run};
+use node_pool::{Refusal, RunEnd, Work, WorkerEnd, run};
 use std::alloc::{AllocError, Global};
 use std::sync::Wait;
 use std::thread::Threads;
@@ -60,7 +60,7 @@ fn seats(alloc: Global, count: u32) -> Result<Vec<Vec<u64>>, AllocError> {
 }
 
 /// All tasks that were worked, and those that were left, in their order.
-fn all_of(alloc: Global, end: &PoolEnd<u64, Vec<u64>>) -> Result<Vec<u64>, AllocError> {
+fn all_of(alloc: Global, end: &RunEnd<u64, Vec<u64>>) -> Result<Vec<u64>, AllocError> {
     let mut all = Vec::new(alloc);
     for worker in &end.workers {
         all.extend_from_slice(&worker.seat)?;
