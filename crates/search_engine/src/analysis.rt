@@ -1,9 +1,9 @@
 //! What is learned from what cannot be.
 
-use crate::grounds::{Help, View, add_conflict, add_grounds};
+use crate::explanation::{Contribution, View, explain, explain_conflict};
 use crate::heap::{Heap, bump};
 use crate::items::{at, fill, neg, set, var};
-use crate::known::{Assigned, Conflict, Ground, UNKNOWN};
+use crate::known::{Antecedent, Assigned, Conflict, UNKNOWN};
 use aud_event::OutOfMemory;
 use std::alloc::{Allocator, Global};
 
@@ -14,13 +14,13 @@ pub(crate) struct Analysis<A: Allocator + Copy = Global> {
     pub todo: Vec<u32, A>,
     /// The clause. Its first literal is to hold where the others fail.
     pub clause: Vec<u32, A>,
-    /// The literals whose grounds had a part, and those that hold in any case and had.
+    /// The literals whose antecedents had a part, and those that hold in any case and had.
     pub used: Vec<u32, A>,
     pub sure: Vec<u32, A>,
     /// The variables that were met, and whether each one was.
     met: Vec<usize, A>,
     is_met: Vec<bool, A>,
-    pub helps: Vec<Help, A>,
+    pub contributions: Vec<Contribution, A>,
     /// For each level when a literal of it was last counted.
     stamps: Vec<u64, A>,
     stamp: u64,
@@ -36,7 +36,7 @@ impl<A: Allocator + Copy> Analysis<A> {
             sure: Vec::new(alloc),
             met: Vec::new(alloc),
             is_met: Vec::new(alloc),
-            helps: Vec::new(alloc),
+            contributions: Vec::new(alloc),
             stamps: Vec::new(alloc),
             stamp: 0,
         }
@@ -140,14 +140,19 @@ fn are_met(todo: &[u32], is_met: &[bool], states: &[Assigned]) -> bool {
     true
 }
 
-/// Takes the grounds of the literal in its place.
+/// Takes the antecedent of the literal in its place.
 fn go_on<A: Allocator + Copy>(
     analysis: &mut Analysis<A>,
     view: &View<'_, A>,
     literal: u32,
 ) -> Result<(), OutOfMemory> {
     analysis.todo.clear();
-    add_grounds(view, literal, &mut analysis.helps, &mut analysis.todo)?;
+    explain(
+        view,
+        literal,
+        &mut analysis.contributions,
+        &mut analysis.todo,
+    )?;
     analysis.used.push(literal)?;
     Ok(())
 }
@@ -183,11 +188,16 @@ fn follows<A: Allocator + Copy>(
     view: &View<'_, A>,
     literal: u32,
 ) -> Result<bool, OutOfMemory> {
-    if let Ground::Choice = at(view.states, var(literal), UNKNOWN).ground {
+    if let Antecedent::Choice = at(view.states, var(literal), UNKNOWN).antecedent {
         return Ok(false);
     }
     analysis.todo.clear();
-    add_grounds(view, neg(literal), &mut analysis.helps, &mut analysis.todo)?;
+    explain(
+        view,
+        neg(literal),
+        &mut analysis.contributions,
+        &mut analysis.todo,
+    )?;
     if !are_met(&analysis.todo, &analysis.is_met, view.states) {
         return Ok(false);
     }
@@ -274,7 +284,12 @@ pub(crate) fn read_conflict<A: Allocator + Copy>(
     conflict: Conflict,
 ) -> Result<u32, OutOfMemory> {
     analysis.todo.clear();
-    add_conflict(view, conflict, &mut analysis.helps, &mut analysis.todo)?;
+    explain_conflict(
+        view,
+        conflict,
+        &mut analysis.contributions,
+        &mut analysis.todo,
+    )?;
     Ok(highest(view.states, &analysis.todo))
 }
 

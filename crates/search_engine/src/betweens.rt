@@ -4,7 +4,7 @@ use crate::cells::{
     CellOf, CellUse, Cells, NO_CELL, NO_PART, NO_READER, NO_SOURCE, NO_WRITER, ReadsFrom, Writer,
 };
 use crate::items::{FALSE, NONE, TRUE, at, neg, short};
-use crate::known::{Conflict, Ground, Known, assign, value};
+use crate::known::{Antecedent, Conflict, Known, assign, value};
 use crate::spans::{Span, before, span_of};
 use search_model::{Need, meets};
 use std::alloc::Allocator;
@@ -71,7 +71,7 @@ fn look<A: Allocator + Copy>(
         return Some(Conflict::Between(source, writer));
     }
     if forced != TRUE {
-        assign(known, forced, Ground::Between(source, writer));
+        assign(known, forced, Antecedent::Between(source, writer));
     }
     None
 }

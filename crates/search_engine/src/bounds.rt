@@ -1,7 +1,7 @@
 //! What the bounds of sums force.
 
 use crate::items::{FALSE, at, neg, set, short, var};
-use crate::known::{Conflict, Ground, Known, assign, value};
+use crate::known::{Antecedent, Conflict, Known, assign, value};
 use crate::sums::{NO_SUM, NO_TERM, Sum, Sums, Term};
 use std::alloc::Allocator;
 
@@ -118,8 +118,8 @@ fn force<A: Allocator + Copy>(known: &mut Known<A>, term: &Term, sum: &Sum, numb
         let most = sum.low.wrapping_sub(gain);
         (sum.high.wrapping_add(gain) < sum.wanted, most > sum.wanted)
     };
-    let low = Ground::Low(number);
-    let high = Ground::High(number);
+    let low = Antecedent::Low(number);
+    let high = Antecedent::High(number);
     if is_out {
         let open = only_open(&known.values, term.literals);
         if open != FALSE {
@@ -148,12 +148,12 @@ fn judge_sum<A: Allocator + Copy>(
     let is_low = sum.low > sum.wanted;
     if is_low || sum.high < sum.wanted {
         if guard == 0 {
-            let ground = if is_low {
-                Ground::Low(number)
+            let antecedent = if is_low {
+                Antecedent::Low(number)
             } else {
-                Ground::High(number)
+                Antecedent::High(number)
             };
-            assign(known, neg(sum.guard), ground);
+            assign(known, neg(sum.guard), antecedent);
             return None;
         }
         return Some(Conflict::Sum(number, is_low));
@@ -187,7 +187,7 @@ pub(crate) fn judge_waiting<A: Allocator + Copy>(
 }
 
 /// No sum waits any longer.
-pub(crate) fn let_wait<A: Allocator + Copy>(sums: &mut Sums<A>) {
+pub(crate) fn clear_waiting<A: Allocator + Copy>(sums: &mut Sums<A>) {
     for number in sums.waiting.iter() {
         if let Some(sum) = sums.sums.get_mut(*number as usize) {
             sum.waits = false;

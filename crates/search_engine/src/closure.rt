@@ -1,7 +1,7 @@
 //! Who stands before whom: with each pair all that follow from it.
 
 use crate::items::{at, set, short};
-use crate::known::{Conflict, Ground, Known, assign, value};
+use crate::known::{Antecedent, Conflict, Known, assign, value};
 use crate::spans::{Span, before};
 use aud_event::OutOfMemory;
 use std::alloc::{Allocator, Global};
@@ -118,7 +118,7 @@ fn join<A: Allocator + Copy>(
             fresh &= fresh.wrapping_sub(1);
             let literal = before(spans, row, other);
             match value(&known.values, literal) {
-                0 => assign(known, literal, Ground::Circle(short(from), short(to))),
+                0 => assign(known, literal, Antecedent::Circle(short(from), short(to))),
                 1 => {}
                 _ => return Some(Conflict::Circle(row, from, to, other)),
             }

@@ -34,7 +34,7 @@ pub struct Effort {
     pub bytes: usize,
 }
 
-/// An order by an instant, near which orders are remainder_or_sum: which part of twenty of its time each transaction took effect after, how many
+/// An order by an instant, near which orders are sought: which part of twenty of its time each transaction took effect after, how many
 /// places one may stand away, and whether there may be such orders.
 #[derive(Clone, Copy)]
 struct Near {

@@ -6,7 +6,7 @@ use std::alloc::{Allocator, Global};
 
 /// Why a literal holds.
 #[derive(Clone, Copy)]
-pub(crate) enum Ground {
+pub(crate) enum Antecedent {
     /// It was decided.
     Choice,
     Clause(u32),
@@ -25,13 +25,13 @@ pub(crate) struct Assigned {
     pub level: u32,
     /// Its place in the trail, from 1.
     pub place: u32,
-    pub ground: Ground,
+    pub antecedent: Antecedent,
 }
 
 pub(crate) const UNKNOWN: Assigned = Assigned {
     level: 0,
     place: 0,
-    ground: Ground::Choice,
+    antecedent: Antecedent::Choice,
 };
 
 /// What cannot be: the clause, the circle of rows, the source and the other writer, or the sum and whether it is the least of it.
@@ -95,13 +95,17 @@ pub(crate) fn value(values: &[i8], literal: u32) -> i8 {
 }
 
 /// The literal holds from now on.
-pub(crate) fn assign<A: Allocator + Copy>(known: &mut Known<A>, literal: u32, ground: Ground) {
+pub(crate) fn assign<A: Allocator + Copy>(
+    known: &mut Known<A>,
+    literal: u32,
+    antecedent: Antecedent,
+) {
     set(&mut known.values, literal as usize, 1);
     set(&mut known.values, neg(literal) as usize, -1);
     let state = Assigned {
         level: short(known.levels.len()),
         place: short(known.count).wrapping_add(1),
-        ground,
+        antecedent,
     };
     set(&mut known.states, var(literal), state);
     set(&mut known.trail, known.count, literal);

@@ -9,7 +9,7 @@ mod cells;
 mod closure;
 mod draft;
 mod engine;
-mod grounds;
+mod explanation;
 mod heap;
 mod items;
 mod known;

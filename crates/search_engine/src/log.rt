@@ -2,9 +2,9 @@
 
 use crate::analysis::Analysis;
 use crate::draft::{CAUSE, Origin, STEP};
-use crate::grounds::{Help, View, add_grounds, literals_of, pair_of};
+use crate::explanation::{Contribution, View, explain, literals_of, pair_of};
 use crate::items::{NONE, at, between, fill, neg, set, short, var};
-use crate::known::{Conflict, Ground, UNKNOWN};
+use crate::known::{Antecedent, Conflict, UNKNOWN};
 use crate::sums::NO_SUM;
 use aud_event::OutOfMemory;
 use std::alloc::{Allocator, Global};
@@ -146,15 +146,19 @@ fn step_of_clause<A: Allocator + Copy>(
 }
 
 /// Why the literals force this one, where no clause does.
-fn cause_of<A: Allocator + Copy>(view: &View<'_, A>, literal: u32, ground: Ground) -> Origin {
-    match ground {
-        Ground::Circle(row, other) => match pair_of(view.roles, literal) {
+fn cause_of<A: Allocator + Copy>(
+    view: &View<'_, A>,
+    literal: u32,
+    antecedent: Antecedent,
+) -> Origin {
+    match antecedent {
+        Antecedent::Circle(row, other) => match pair_of(view.roles, literal) {
             Some((first, last)) => Origin::Circle(short(first), row, other, short(last)),
             None => Origin::Tried,
         },
-        Ground::Between(source, writer) => Origin::Between(source, writer),
-        Ground::Low(sum) | Ground::High(sum) => at(view.sums, sum as usize, NO_SUM).origin,
-        Ground::Choice | Ground::Clause(_) => Origin::Tried,
+        Antecedent::Between(source, writer) => Origin::Between(source, writer),
+        Antecedent::Low(sum) | Antecedent::High(sum) => at(view.sums, sum as usize, NO_SUM).origin,
+        Antecedent::Choice | Antecedent::Clause(_) => Origin::Tried,
     }
 }
 
@@ -177,11 +181,11 @@ fn turn_all(literals: &mut [u32]) {
 fn make_clause<A: Allocator + Copy>(
     clause: &mut Vec<u32, A>,
     view: &View<'_, A>,
-    helps: &mut Vec<Help, A>,
+    contributions: &mut Vec<Contribution, A>,
     literal: u32,
 ) -> Result<(), OutOfMemory> {
     clause.clear();
-    add_grounds(view, literal, helps, clause)?;
+    explain(view, literal, contributions, clause)?;
     turn_all(clause);
     clause.push(literal)?;
     Ok(())
@@ -191,19 +195,19 @@ fn make_clause<A: Allocator + Copy>(
 fn step_of<A: Allocator + Copy>(
     log: &mut Log<A>,
     view: &View<'_, A>,
-    helps: &mut Vec<Help, A>,
+    contributions: &mut Vec<Contribution, A>,
     literal: u32,
 ) -> Result<u32, OutOfMemory> {
-    let ground = at(view.states, var(literal), UNKNOWN).ground;
-    if let Ground::Clause(clause) = ground {
+    let antecedent = at(view.states, var(literal), UNKNOWN).antecedent;
+    if let Antecedent::Clause(clause) = antecedent {
         return step_of_clause(&mut log.steps, &mut log.origins, view, clause);
     }
-    make_clause(&mut log.clause, view, helps, literal)?;
+    make_clause(&mut log.clause, view, contributions, literal)?;
     let known = at(&log.forced, var(literal), NONE);
     if is_step(&log.steps, known, &log.clause) {
         return Ok(known);
     }
-    let why = Why::Origin(cause_of(view, literal, ground));
+    let why = Why::Origin(cause_of(view, literal, antecedent));
     let number = add_step(&mut log.steps, &log.clause, why)?;
     set(&mut log.forced, var(literal), number);
     Ok(number)
@@ -263,7 +267,7 @@ fn forget_needed(needed: &[Placed], is_needed: &mut [bool]) {
 fn find_needed<A: Allocator + Copy>(
     log: &mut Log<A>,
     view: &View<'_, A>,
-    helps: &mut Vec<Help, A>,
+    contributions: &mut Vec<Contribution, A>,
     literals: &[u32],
 ) -> Result<(), OutOfMemory> {
     log.needed.clear();
@@ -276,7 +280,7 @@ fn find_needed<A: Allocator + Copy>(
         let place = at(view.states, var(number), UNKNOWN).place;
         log.needed.push(Placed { place, number })?;
         if at(&log.units, var(number), NONE) == NONE {
-            add_grounds(view, number, helps, &mut log.todo)?;
+            explain(view, number, contributions, &mut log.todo)?;
         }
     }
     log.needed.sort_unstable();
@@ -288,13 +292,13 @@ fn find_needed<A: Allocator + Copy>(
 fn log_unit<A: Allocator + Copy>(
     log: &mut Log<A>,
     view: &View<'_, A>,
-    helps: &mut Vec<Help, A>,
+    contributions: &mut Vec<Contribution, A>,
     literal: u32,
 ) -> Result<(), OutOfMemory> {
-    let step = step_of(log, view, helps, literal)?;
+    let step = step_of(log, view, contributions, literal)?;
     let from = log.steps.hints.len();
     log.clause.clear();
-    add_grounds(view, literal, helps, &mut log.clause)?;
+    explain(view, literal, contributions, &mut log.clause)?;
     for other in log.clause.iter() {
         log.steps.hints.push(at(&log.units, var(*other), NONE))?;
     }
@@ -312,14 +316,14 @@ fn log_unit<A: Allocator + Copy>(
 fn log_units<A: Allocator + Copy>(
     log: &mut Log<A>,
     view: &View<'_, A>,
-    helps: &mut Vec<Help, A>,
+    contributions: &mut Vec<Contribution, A>,
     literals: &[u32],
 ) -> Result<(), OutOfMemory> {
-    find_needed(log, view, helps, literals)?;
+    find_needed(log, view, contributions, literals)?;
     for place in 0..log.needed.len() {
         let literal = at(&log.needed, place, NOT_PLACED).number;
         if at(&log.units, var(literal), NONE) == NONE {
-            log_unit(log, view, helps, literal)?;
+            log_unit(log, view, contributions, literal)?;
         }
     }
     Ok(())
@@ -343,12 +347,12 @@ fn push_units<A: Allocator + Copy>(log: &mut Log<A>, sure: &[u32]) -> Result<(),
 fn find_steps<A: Allocator + Copy>(
     log: &mut Log<A>,
     view: &View<'_, A>,
-    helps: &mut Vec<Help, A>,
+    contributions: &mut Vec<Contribution, A>,
     literals: &[u32],
 ) -> Result<(), OutOfMemory> {
     log.needed.clear();
     for literal in literals {
-        let number = step_of(log, view, helps, *literal)?;
+        let number = step_of(log, view, contributions, *literal)?;
         let place = at(view.states, var(*literal), UNKNOWN).place;
         log.needed.push(Placed { place, number })?;
     }
@@ -363,8 +367,8 @@ pub(crate) fn log_learned<A: Allocator + Copy>(
     view: &View<'_, A>,
     analysis: &mut Analysis<A>,
 ) -> Result<u32, OutOfMemory> {
-    log_units(log, view, &mut analysis.helps, &analysis.sure)?;
-    find_steps(log, view, &mut analysis.helps, &analysis.used)?;
+    log_units(log, view, &mut analysis.contributions, &analysis.sure)?;
+    find_steps(log, view, &mut analysis.contributions, &analysis.used)?;
     let from = log.steps.hints.len();
     push_units(log, &analysis.sure)?;
     push_needed(&mut log.steps.hints, &log.needed)?;
@@ -377,13 +381,13 @@ pub(crate) fn log_learned<A: Allocator + Copy>(
 fn find_last_steps<A: Allocator + Copy>(
     log: &mut Log<A>,
     view: &View<'_, A>,
-    helps: &mut Vec<Help, A>,
+    contributions: &mut Vec<Contribution, A>,
 ) -> Result<(), OutOfMemory> {
     for place in 0..log.needed.len() {
         let mut found = at(&log.needed, place, NOT_PLACED);
         let unit = at(&log.units, var(found.number), NONE);
         if unit == NONE {
-            found.number = step_of(log, view, helps, found.number)?;
+            found.number = step_of(log, view, contributions, found.number)?;
         } else {
             found.number = unit;
         }
@@ -407,14 +411,14 @@ fn push_needed<A: Allocator + Copy>(
 pub(crate) fn log_end<A: Allocator + Copy>(
     log: &mut Log<A>,
     view: &View<'_, A>,
-    helps: &mut Vec<Help, A>,
+    contributions: &mut Vec<Contribution, A>,
     literals: &[u32],
 ) -> Result<(), OutOfMemory> {
     if is_step(&log.steps, log.last, &[]) {
         return Ok(());
     }
-    find_needed(log, view, helps, literals)?;
-    find_last_steps(log, view, helps)?;
+    find_needed(log, view, contributions, literals)?;
+    find_last_steps(log, view, contributions)?;
     let from = log.steps.hints.len();
     push_needed(&mut log.steps.hints, &log.needed)?;
     log.steps.hints.push(log.last)?;

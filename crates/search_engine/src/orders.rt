@@ -3,7 +3,7 @@
 use crate::closure::is_before;
 use crate::draft::{LITERALS, Origin, add_clause};
 use crate::items::{FALSE, NONE, TRUE, at, neg, set, short};
-use crate::known::{Ground, assign, value};
+use crate::known::{Antecedent, assign, value};
 use crate::solver::{Solver, backjump};
 use crate::spans::{Span, before, instant, span_of};
 use crate::visits::watch_both;
@@ -12,7 +12,8 @@ use aud_order::{Cursor, Shape};
 use aud_witness::{Decision, Fate};
 use std::alloc::Allocator;
 
-/// The row that took effect first of those that are not placed and that no other one has to stand before.
+/// The next row of a topological order: of those that are not placed and wait for no row, the one that took effect first; or the number of
+/// rows, where there is none.
 fn first_free(spans: &[Span], counts: &[u32]) -> usize {
     let mut best = 0;
     let mut found = spans.len();
@@ -208,7 +209,7 @@ pub(crate) fn block<A: Allocator + Copy>(
         TRUE,
     );
     if open == 1 {
-        assign(&mut solver.known, first, Ground::Clause(number));
+        assign(&mut solver.known, first, Antecedent::Clause(number));
     }
     Ok(open > 0)
 }

@@ -2,7 +2,7 @@
 
 use crate::draft::{CAUSE, Clauses, LEVELS, LINK, LITERALS};
 use crate::items::{NONE, at, set, short, var};
-use crate::known::{Assigned, Ground, Known, UNKNOWN};
+use crate::known::{Antecedent, Assigned, Known, UNKNOWN};
 use crate::visits::watch_all;
 use aud_event::OutOfMemory;
 use std::alloc::Allocator;
@@ -54,7 +54,7 @@ fn next_clause(arena: &[u32], clause: u32) -> u32 {
     )
 }
 
-/// Notes in each clause which variable it is the ground of, or none.
+/// Notes in each clause which variable it is the antecedent of, or none.
 fn note_grounds(arena: &mut [u32], trail: &[u32], states: &[Assigned]) {
     let mut clause: u32 = 0;
     for _ in 0..arena.len() {
@@ -65,17 +65,17 @@ fn note_grounds(arena: &mut [u32], trail: &[u32], states: &[Assigned]) {
         clause = next_clause(arena, clause);
     }
     for literal in trail {
-        if let Ground::Clause(clause) = at(states, var(*literal), UNKNOWN).ground {
+        if let Antecedent::Clause(clause) = at(states, var(*literal), UNKNOWN).antecedent {
             set_word(arena, clause, LINK, short(var(*literal)));
         }
     }
 }
 
-/// The clause moves to another place, and the variable that it is the ground of is told.
+/// The clause moves to another place, and the variable that it is the antecedent of is told.
 fn move_clause(arena: &mut [u32], states: &mut [Assigned], clause: u32, to: u32) {
     let variable = word(arena, clause, LINK) as usize;
     let mut state = at(states, variable, UNKNOWN);
-    state.ground = Ground::Clause(to);
+    state.antecedent = Antecedent::Clause(to);
     set(states, variable, state);
     let length = word(arena, clause, 0) as usize;
     for index in 0..length.wrapping_add(LITERALS) {
@@ -84,7 +84,7 @@ fn move_clause(arena: &mut [u32], states: &mut [Assigned], clause: u32, to: u32)
     }
 }
 
-/// Whether the clause stays: it is the ground of a variable, or it is not marked.
+/// Whether the clause stays: it is the antecedent of a variable, or it is not marked.
 fn stays(arena: &[u32], clause: u32) -> bool {
     word(arena, clause, LINK) != NONE || word(arena, clause, LEVELS) != NONE
 }

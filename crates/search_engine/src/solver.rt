@@ -2,13 +2,13 @@
 
 use crate::analysis::{Analysis, count_levels, learn, make_marks, read_conflict};
 use crate::betweens::{check_commits, judge_pair, judge_source};
-use crate::bounds::{count_terms, judge_waiting, let_wait, wake_guarded};
+use crate::bounds::{clear_waiting, count_terms, judge_waiting, wake_guarded};
 use crate::closure::{Closure, close, close_spans, reopen};
 use crate::draft::{LITERALS, Role, append};
-use crate::grounds::{View, pair_of};
+use crate::explanation::{View, pair_of};
 use crate::heap::{Heap, heaviest, insert, make_heap, take_heaviest};
 use crate::items::{NONE, TRUE, at, between, neg, set, short, var};
-use crate::known::{Conflict, Ground, Known, assign, make_room, value};
+use crate::known::{Antecedent, Conflict, Known, assign, make_room, value};
 use crate::log::{Log, bytes_logged, log_conflict, log_end, log_learned, make_log};
 use crate::problem::{Problem, bytes_of};
 use crate::queues::NO_ITEM;
@@ -45,9 +45,10 @@ pub(crate) struct Solver<A: Allocator + Copy = Global> {
     pub conflicts: u64,
     /// Literals that are taken to hold for a while.
     pub assumed: Vec<u32, A>,
-    /// The phases of the longest trail, its length, and whether they are tried.
+    /// The phases of the longest trail, its length, how many of its first literals still hold, and whether its phases are tried.
     best: Vec<bool, A>,
     best_count: usize,
+    best_kept: usize,
     pub tries_best: bool,
     reduced: u64,
     /// How many decisions were made, and how many before the last conflict.
@@ -90,6 +91,7 @@ pub(crate) fn solver_of<A: Allocator + Copy>(
         assumed: Vec::new(alloc),
         best: Vec::new(alloc),
         best_count: 0,
+        best_kept: 0,
         tries_best: false,
         reduced: REDUCED,
         decisions: 0,
@@ -280,7 +282,8 @@ pub(crate) fn backjump<A: Allocator + Copy>(solver: &mut Solver<A>, level: u32) 
     uncount(&mut problem.sums, &known.trail, to, known.judged);
     unassign_from(problem, known, &mut solver.closure, &mut solver.heap, to);
     known.levels.truncate(level as usize);
-    let_wait(&mut problem.sums);
+    solver.best_kept = solver.best_kept.min(to);
+    clear_waiting(&mut problem.sums);
     let kept = force_late(known, &problem.clauses.arena, &mut solver.late, level);
     solver.late.truncate(kept);
 }
@@ -300,7 +303,7 @@ fn force_late<A: Allocator + Copy>(
         }
         let first = at(arena, (found.clause as usize).wrapping_add(LITERALS), TRUE);
         if value(&known.values, first) == 0 {
-            assign(known, first, Ground::Clause(found.clause));
+            assign(known, first, Antecedent::Clause(found.clause));
         }
         set(late, kept, found);
         kept = kept.wrapping_add(1);
@@ -308,23 +311,25 @@ fn force_late<A: Allocator + Copy>(
     kept
 }
 
-/// Notes the phases of the first literals of the trail, so many, if none longer was noted.
+/// Notes the phases of the first literals of the trail, so many, if none longer was noted. Those that held when the last one was noted, and
+/// still do, are noted already.
 fn note_best<A: Allocator + Copy>(solver: &mut Solver<A>, count: usize) -> Result<(), OutOfMemory> {
     if count <= solver.best_count {
         return Ok(());
     }
-    solver.best_count = count;
-    solver.best.clear();
-    solver
-        .best
-        .extend_from_slice(&solver.problem.variables.phases)?;
-    for literal in between(&solver.known.trail, 0, count) {
+    if solver.best.is_empty() {
+        let phases = &solver.problem.variables.phases[..];
+        solver.best.extend_from_slice(phases)?;
+    }
+    for literal in between(&solver.known.trail, solver.best_kept, count) {
         set(&mut solver.best, var(*literal), *literal & 1 == 0);
     }
+    solver.best_count = count;
+    solver.best_kept = count;
     Ok(())
 }
 
-/// What grounds are read from.
+/// What explanations are read from.
 macro_rules! view_of {
     ($solver:expr) => {
         View {
@@ -360,7 +365,7 @@ fn add_learned<A: Allocator + Copy>(
     watch_both(&mut clauses.arena, &mut clauses.heads, clause);
     let first = at(&solver.analysis.clause, 0, 0);
     if value(&solver.known.values, first) == 0 {
-        assign(&mut solver.known, first, Ground::Clause(clause));
+        assign(&mut solver.known, first, Antecedent::Clause(clause));
     }
     if level < short(solver.known.levels.len()) {
         solver.late.push(Late { clause, level })?;
@@ -378,7 +383,12 @@ fn note_conflict<A: Allocator + Copy>(
     let literals = &solver.analysis.todo[..];
     log_conflict(&mut solver.log, &view, conflict, literals)?;
     if is_end {
-        log_end(&mut solver.log, &view, &mut solver.analysis.helps, literals)?;
+        log_end(
+            &mut solver.log,
+            &view,
+            &mut solver.analysis.contributions,
+            literals,
+        )?;
     }
     Ok(())
 }
@@ -477,7 +487,7 @@ fn assume_one<A: Allocator + Copy>(solver: &mut Solver<A>, literal: u32) -> bool
     if value(&solver.known.values, literal) != 0 {
         return true;
     }
-    assign(&mut solver.known, literal, Ground::Choice);
+    assign(&mut solver.known, literal, Antecedent::Choice);
     propagate(&mut solver.problem, &mut solver.known, &mut solver.closure).is_none()
 }
 
@@ -518,7 +528,7 @@ fn decide<A: Allocator + Copy>(solver: &mut Solver<A>) -> Result<bool, OutOfMemo
             let literal = first_literal(solver, variable);
             solver.decisions = solver.decisions.wrapping_add(1);
             solver.known.levels.push(solver.known.count)?;
-            assign(&mut solver.known, literal, Ground::Choice);
+            assign(&mut solver.known, literal, Antecedent::Choice);
             return Ok(true);
         }
     }
@@ -544,7 +554,7 @@ fn begin_clauses<A: Allocator + Copy>(solver: &mut Solver<A>) -> Option<Conflict
             return Some(Conflict::Clause(clause));
         }
         if length == 1 && known == 0 {
-            assign(&mut solver.known, literal, Ground::Clause(clause));
+            assign(&mut solver.known, literal, Antecedent::Clause(clause));
         }
         place = place.wrapping_add(LITERALS).wrapping_add(length as usize);
     }

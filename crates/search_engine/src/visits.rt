@@ -2,7 +2,7 @@
 
 use crate::draft::{Clauses, LENGTH, LINK, LITERALS};
 use crate::items::{NONE, at, fill, neg, set};
-use crate::known::{Conflict, Ground, Known, assign, value};
+use crate::known::{Antecedent, Conflict, Known, assign, value};
 use aud_event::OutOfMemory;
 use std::alloc::Allocator;
 
@@ -133,7 +133,7 @@ fn visit_all<A: Allocator + Copy>(
             continue;
         };
         match value(&known.values, other) {
-            0 => assign(known, other, Ground::Clause(clause)),
+            0 => assign(known, other, Antecedent::Clause(clause)),
             1 => {}
             _ => conflict = Some(Conflict::Clause(clause)),
         }

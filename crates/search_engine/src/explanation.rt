@@ -4,13 +4,13 @@ use crate::betweens::clause_of;
 use crate::cells::Cells;
 use crate::draft::{LITERALS, Origin, Role};
 use crate::items::{FALSE, NONE, TRUE, at, between, neg, var};
-use crate::known::{Assigned, Conflict, Ground, Known, UNKNOWN, place_if, value};
+use crate::known::{Antecedent, Assigned, Conflict, Known, UNKNOWN, place_if, value};
 use crate::spans::{Span, before};
 use crate::sums::{NO_SUM, NO_TERM, Sum, Sums, Term};
 use aud_event::OutOfMemory;
 use std::alloc::Allocator;
 
-/// What grounds are read from.
+/// What explanations are read from.
 #[derive(Drop)]
 pub(crate) struct View<'a, A: Allocator + Copy> {
     pub values: &'a [i8],
@@ -24,9 +24,9 @@ pub(crate) struct View<'a, A: Allocator + Copy> {
     pub terms: &'a [Term],
 }
 
-/// A term that helps to force a bound: when it came to, by how much, and its number.
+/// A term that contributes to a forced bound: when it came to, by how much, and its number.
 #[derive(Clone, Copy, PartialEq, Eq, PartialOrd, Ord)]
-pub(crate) struct Help {
+pub(crate) struct Contribution {
     place: u32,
     gain: i64,
     term: usize,
@@ -93,8 +93,8 @@ fn is_decided(values: &[i8], states: &[Assigned], term: &Term, limit: u32) -> bo
     fails < limit || holds < limit
 }
 
-/// When the term came to help to raise the least of the sum, or to lower the greatest, or never.
-fn help_at(values: &[i8], states: &[Assigned], term: &Term, rises: bool) -> u32 {
+/// When the term came to raise the least of the sum, or to lower the greatest, or never.
+fn contributes_at(values: &[i8], states: &[Assigned], term: &Term, rises: bool) -> u32 {
     let [first, second] = term.literals;
     if rises {
         place_if(values, states, first, 1).max(place_if(values, states, second, 1))
@@ -103,8 +103,8 @@ fn help_at(values: &[i8], states: &[Assigned], term: &Term, rises: bool) -> u32 
     }
 }
 
-/// Adds the literals by which the term helps.
-fn add_help<A: Allocator + Copy>(
+/// Adds the literals by which the term contributes.
+fn add_contribution<A: Allocator + Copy>(
     values: &[i8],
     states: &[Assigned],
     term: &Term,
@@ -126,14 +126,14 @@ fn add_help<A: Allocator + Copy>(
     Ok(())
 }
 
-/// What the helps have to add up to so that the bound is crossed, the forced literal's term aside; and those that may.
-fn find_helps<A: Allocator + Copy>(
+/// What the contributions have to add up to so that the bound is crossed, the forced literal's term aside; and those that may.
+fn find_contributions<A: Allocator + Copy>(
     view: &View<'_, A>,
     sum: &Sum,
     is_low: bool,
     forced: u32,
     limit: u32,
-    helps: &mut Vec<Help, A>,
+    contributions: &mut Vec<Contribution, A>,
     out: &mut Vec<u32, A>,
 ) -> Result<i64, OutOfMemory> {
     let sign: i64 = if is_low { 1 } else { -1 };
@@ -160,10 +160,10 @@ fn find_helps<A: Allocator + Copy>(
             }
             continue;
         }
-        let came = help_at(view.values, view.states, &term, rises);
+        let came = contributes_at(view.values, view.states, &term, rises);
         if came < limit {
             let gain = gain.wrapping_abs();
-            helps.push(Help {
+            contributions.push(Contribution {
                 place: came,
                 gain,
                 term: place,
@@ -181,20 +181,20 @@ pub(crate) fn add_bound<A: Allocator + Copy>(
     is_low: bool,
     forced: u32,
     limit: u32,
-    helps: &mut Vec<Help, A>,
+    contributions: &mut Vec<Contribution, A>,
     out: &mut Vec<u32, A>,
 ) -> Result<(), OutOfMemory> {
     let sum = at(view.sums, number as usize, NO_SUM);
-    helps.clear();
-    let mut lacks = find_helps(view, &sum, is_low, forced, limit, helps, out)?;
-    helps.sort_unstable();
-    for help in helps.iter() {
+    contributions.clear();
+    let mut lacks = find_contributions(view, &sum, is_low, forced, limit, contributions, out)?;
+    contributions.sort_unstable();
+    for contribution in contributions.iter() {
         if lacks <= 0 {
             break;
         }
-        lacks = lacks.wrapping_sub(help.gain);
-        let term = at(view.terms, help.term, NO_TERM);
-        add_help(
+        lacks = lacks.wrapping_sub(contribution.gain);
+        let term = at(view.terms, contribution.term, NO_TERM);
+        add_contribution(
             view.values,
             view.states,
             &term,
@@ -209,34 +209,50 @@ pub(crate) fn add_bound<A: Allocator + Copy>(
 }
 
 /// Adds the literals that force this one.
-pub(crate) fn add_grounds<A: Allocator + Copy>(
+pub(crate) fn explain<A: Allocator + Copy>(
     view: &View<'_, A>,
     literal: u32,
-    helps: &mut Vec<Help, A>,
+    contributions: &mut Vec<Contribution, A>,
     out: &mut Vec<u32, A>,
 ) -> Result<(), OutOfMemory> {
     let state = at(view.states, var(literal), UNKNOWN);
-    match state.ground {
-        Ground::Choice => Ok(()),
-        Ground::Clause(clause) => add_others(literals_of(view.arena, clause), literal, out),
-        Ground::Circle(row, other) => match pair_of(view.roles, literal) {
+    match state.antecedent {
+        Antecedent::Choice => Ok(()),
+        Antecedent::Clause(clause) => add_others(literals_of(view.arena, clause), literal, out),
+        Antecedent::Circle(row, other) => match pair_of(view.roles, literal) {
             Some(ends) => add_circle(view.spans, ends, (row as usize, other as usize), out),
             None => Ok(()),
         },
-        Ground::Between(source, writer) => {
+        Antecedent::Between(source, writer) => {
             let clause = clause_of(view.cells, view.spans, source, writer);
             add_others(&clause, literal, out)
         }
-        Ground::Low(sum) => add_bound(view, sum, true, literal, state.place, helps, out),
-        Ground::High(sum) => add_bound(view, sum, false, literal, state.place, helps, out),
+        Antecedent::Low(sum) => add_bound(
+            view,
+            sum,
+            true,
+            literal,
+            state.place,
+            contributions,
+            out,
+        ),
+        Antecedent::High(sum) => add_bound(
+            view,
+            sum,
+            false,
+            literal,
+            state.place,
+            contributions,
+            out,
+        ),
     }
 }
 
 /// Adds the literals that hold, and cannot all do.
-pub(crate) fn add_conflict<A: Allocator + Copy>(
+pub(crate) fn explain_conflict<A: Allocator + Copy>(
     view: &View<'_, A>,
     conflict: Conflict,
-    helps: &mut Vec<Help, A>,
+    contributions: &mut Vec<Contribution, A>,
     out: &mut Vec<u32, A>,
 ) -> Result<(), OutOfMemory> {
     match conflict {
@@ -252,6 +268,6 @@ pub(crate) fn add_conflict<A: Allocator + Copy>(
             let clause = clause_of(view.cells, view.spans, source, writer);
             add_others(&clause, FALSE, out)
         }
-        Conflict::Sum(sum, is_low) => add_bound(view, sum, is_low, FALSE, NONE, helps, out),
+        Conflict::Sum(sum, is_low) => add_bound(view, sum, is_low, FALSE, NONE, contributions, out),
     }
 }
