@@ -21,7 +21,7 @@ use Rattle.aud_witness.proofs.Bridge.{row-at, status-allowed}
 use Rattle.search_memo.specs.declared.choice.Choice.{Choice}
 use Rattle.aud_order.specs.Silent.{silent_fate}
 use Rattle.search_memo.specs.declared.choice.Visibility.TheVariants.{Silent}
-use Rattle.search_memo.specs.Choices.{AreChoices, AreMarked, AreMarkedFrom, key_of, row_choices, both_choices, choices_from}
+use Rattle.search_memo.specs.Choices.{AreChoices, AreMarkedSilent, AreMarkedFrom, key_of, row_choices, both_choices, choices_from}
 
 abbrev Key : Type 0
 Key = ℕ × Decision
@@ -252,7 +252,7 @@ there-at (x ∷ cs) (suc k) c at = let (i, inside, is) = there-at cs k c at in (
 
 -- # What is marked as silent
 
-pub marked-none : (h : History) (cs : List Choice) → cs ≡ [] → AreMarked h cs
+pub marked-none : (h : History) (cs : List Choice) → cs ≡ [] → AreMarkedSilent h cs
 marked-none h cs none c there mark = let (i, inside, is) = subst (λ l. Contains l c) none there in absurd (omega arith)
 
 pub marked-same : (old new : List Choice) (t : ℕ) (silent : Option Fate) → new ≡ old → AreMarkedFrom old new t silent
@@ -265,7 +265,7 @@ marked-push old new t silent x grown mark of c there =
       | inr is ↦ inr (λ is_silent. (mark (ap (λ (y : Choice). y.visibility) is ∙ is_silent) ∙ ap (λ (y : Choice). Some y.decision.fate) is, sym (ap (λ (y : Choice). y.decision.tx) is) ∙ of))
     ]
 
-pub marked-more : (h : History) (old mid new : List Choice) (t : ℕ) (silent : Option Fate) → AreMarked h old → AreMarkedFrom old mid t silent → AreMarkedFrom mid new t silent → silent ≡ silent_fate h t → AreMarked h new
+pub marked-more : (h : History) (old mid new : List Choice) (t : ℕ) (silent : Option Fate) → AreMarkedSilent h old → AreMarkedFrom old mid t silent → AreMarkedFrom mid new t silent → silent ≡ silent_fate h t → AreMarkedSilent h new
 marked-more h old mid new t silent marked first second is c there mark =
     elim (second c there) [
       | inl before ↦ elim (first c before) [ inl earlier ↦ marked c earlier mark | inr reported ↦ by (reported mark) ]
@@ -275,7 +275,7 @@ marked-more h old mid new t silent marked first second is c there mark =
     by : (silent ≡ Some c.decision.fate) × (c.decision.tx ≡ t) → silent_fate h c.decision.tx ≡ Some c.decision.fate
     by (some, of) = ap (silent_fate h) of ∙ sym is ∙ some
 
-pub choices-sorted : (h : History) (gathered sorted : List Choice) → IsWellFormed h → AreMarked h gathered → map key_of gathered ≡ choices_from 0 (table_of h) → IsPermutation gathered sorted → AreChoices h sorted
+pub choices-sorted : (h : History) (gathered sorted : List Choice) → IsWellFormed h → AreMarkedSilent h gathered → map key_of gathered ≡ choices_from 0 (table_of h) → IsPermutation gathered sorted → AreChoices h sorted
 choices-sorted h gathered sorted fine marked is permuted = record {
   rows = λ k c at.
       let member : Contains (choices_from 0 (table_of h)) (key_of c) = Contains-permutation (map key_of sorted) (choices_from 0 (table_of h)) (key_of c) (IsPermutation-sym (choices_from 0 (table_of h)) (map key_of sorted) keys) (key-there sorted k c at) in

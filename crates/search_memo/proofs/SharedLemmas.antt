@@ -6,7 +6,7 @@ use Rattle.base_bits.specs.Marked.{marks_of, IsBitWritten}
 use Rattle.aud_object.specs.Objects.{ObjState}
 use Rattle.aud_history.specs.Table.{transactions}
 use Rattle.aud_order.specs.Shapes.{ShapeOf, history_of}
-use Rattle.search_memo.specs.Known.{IsMarkedBy, IsRefutedTo, IsRefutedBy}
+use Rattle.search_memo.specs.Known.{IsMarkedBy, IsRefutedTo, IsRefutedAtWord}
 use Rattle.search_memo.specs.Visited.{WithPlace, with_place}
 use Rattle.search_memo.proofs.Visiting.{marks-with}
 
@@ -32,7 +32,7 @@ marked-further word own place words marks only is inside more =
     ap (λ (l : List Bool). set l place true) (sym one) ∙ sym (marks-with (word ∷ []) (own ∷ []) (length marks) place inside more) ∙ ap (marks_of (own ∷ [])) (sym long)
 
 -- of what the word marks, where there are as many marks as rows
-pub refuted-marks : (shape : ShapeOf) (states : List ObjState) (word : ℕ) (marks : List Bool) → IsMarkedBy word marks → length marks ≡ length (transactions (history_of shape)) → IsRefutedBy shape states word → IsRefutedTo shape states marks
+pub refuted-marks : (shape : ShapeOf) (states : List ObjState) (word : ℕ) (marks : List Bool) → IsMarkedBy word marks → length marks ≡ length (transactions (history_of shape)) → IsRefutedAtWord shape states word → IsRefutedTo shape states marks
 refuted-marks shape states word marks is rows k = subst (IsRefutedTo shape states) (ap (marks_of (word ∷ [])) (sym rows) ∙ sym is) k
 
 -- one further leaves as many marks

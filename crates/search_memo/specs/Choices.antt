@@ -30,12 +30,12 @@ choices_from n [] = []
 choices_from n (r ∷ rs) = both_choices n r ++ choices_from (suc n) rs
 
 -- what is marked as silent is the decision of a silent transaction with its silent fate
-abbrev pub AreMarked : History → List Choice → Type 0
-AreMarked h cs = (c : Choice) → Contains cs c → c.visibility ≡ Silent → silent_fate h c.decision.tx ≡ Some c.decision.fate
+abbrev pub AreMarkedSilent : History → List Choice → Type 0
+AreMarkedSilent h cs = (c : Choice) → Contains cs c → c.visibility ≡ Silent → silent_fate h c.decision.tx ≡ Some c.decision.fate
 
 -- the new choices are marked rightly if the old ones are
 abbrev pub StayMarked : History → List Choice → List Choice → Type 0
-StayMarked h old new = AreMarked h old → AreMarked h new
+StayMarked h old new = AreMarkedSilent h old → AreMarkedSilent h new
 
 -- what came to some choices is of T, and marked as silent only with the silent fate of T
 abbrev pub AreMarkedFrom : List Choice → List Choice → ℕ → Option Fate → Type 0

@@ -39,8 +39,8 @@ abbrev pub IsMarkedBy : ℕ → List Bool → Type 0
 IsMarkedBy word marks = marks ≡ marks_of (word ∷ []) (length marks)
 
 -- a good prefix that is refuted places those of the history's transactions that one word marks, and leaves the states
-abbrev pub IsRefutedBy : ShapeOf → List ObjState → ℕ → Type 0
-IsRefutedBy shape states word = IsRefutedTo shape states (marks_of (word ∷ []) (length (transactions (history_of shape))))
+abbrev pub IsRefutedAtWord : ShapeOf → List ObjState → ℕ → Type 0
+IsRefutedAtWord shape states word = IsRefutedTo shape states (marks_of (word ∷ []) (length (transactions (history_of shape))))
 
 -- as many marks as some shape that a search is of has transactions
 abbrev pub MarksRows : (ShapeOf → Type 0) → List Bool → Type 0

@@ -2,7 +2,7 @@
 
 ghost use Rattle.std.specs.Prelude.{◌≡◌, ◌++◌, map, Some, IfOk, OnOk};
 ghost use Rattle.aud_order.specs.Shapes.{history_of};
-ghost use Rattle.search_memo.specs.Choices.{AreChoices, AreMarked, AreMarkedFrom, StayMarked, key_of, row_choices, both_choices, choices_from};
+ghost use Rattle.search_memo.specs.Choices.{AreChoices, AreMarkedSilent, AreMarkedFrom, StayMarked, key_of, row_choices, both_choices, choices_from};
 
 use aud_event::OutOfMemory;
 use aud_history::TxRow;
@@ -122,7 +122,7 @@ fn gather<A: Allocator + Copy>(
     rows: &[TxRow<A>],
 ) -> Result<Vec<Choice, A>, OutOfMemory>
     ensures all { IfOk result (λ choices. map key_of choices.items ≡ choices_from 0 rows.now) }
-    ensures marked { IfOk result (λ choices. AreMarked (history_of shape.now) choices.items) }
+    ensures marked { IfOk result (λ choices. AreMarkedSilent (history_of shape.now) choices.items) }
 {
     let mut choices = Vec::new(alloc);
     for (place, row) in rows.iter().enumerate() {

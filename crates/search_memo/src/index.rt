@@ -3,7 +3,7 @@
 //! What is found under a hash need not be what was put there: whoever looks compares. So nothing is promised of an index
 //! but that each call ends, and only how fast a search is depends on it.
 
-use crate::room::{gives, takes};
+use crate::room::{give_back, take};
 use aud_event::OutOfMemory;
 use std::alloc::{Allocator, Global};
 use std::mem::size_of;
@@ -127,11 +127,11 @@ impl<A: Allocator + Copy> Index<A> {
     fn grow(&mut self, room: &mut usize) -> Result<(), OutOfMemory> {
         let count = self.slots.len().saturating_mul(2).max(FEWEST);
         let (old, size) = (self.size(), count.saturating_mul(SLOT));
-        if !takes(room, size) {
+        if !take(room, size) {
             return Err(OutOfMemory);
         }
         let grown = self.grow_to(count);
-        gives(room, if grown.is_ok() { old } else { size });
+        give_back(room, if grown.is_ok() { old } else { size });
         grown
     }
 

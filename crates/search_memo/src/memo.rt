@@ -16,7 +16,7 @@ ghost use Rattle.search_memo.specs.Visited.{AreWith, entry, with_place};
 use crate::choice::{Choice, Visibility};
 use crate::index::{Index, Look, hash_of};
 use crate::recorder::{Recorder, RefutedBy};
-use crate::room::{gives, reserves, takes};
+use crate::room::{give_back, reserve, take};
 use crate::stored_states::{BlockStep, Finder, StoredStates, keep_states, size_of_shared};
 use crate::visited_set::{VisitedSet, forget_first};
 use aud_event::OutOfMemory;
@@ -166,11 +166,11 @@ fn seen_of<A: Allocator + Copy>(
     }
     let digest = finder.digest(store)?;
     let size = size_of_shared(store);
-    if !takes(room, size) {
+    if !take(room, size) {
         return None;
     }
     let Some(states) = shared_copy(alloc, store) else {
-        gives(room, size);
+        give_back(room, size);
         return None;
     };
     Some(Seen { states, digest })
@@ -205,7 +205,7 @@ fn keep_transition<A: Allocator + Copy>(
 ) -> Result<(), OutOfMemory>
     ensures { AreWith transitions.old.items transitions.new.items transition }
 {
-    if !reserves(room, transitions, 1, TRANSITION) {
+    if !reserve(room, transitions, 1, TRANSITION) {
         return Err(OutOfMemory);
     }
     by_hash.put(
@@ -311,7 +311,7 @@ impl<'a, N: Copy, R: Recorder<N, A>, A: Allocator + Copy> Memo<'a, N, R, A> {
         ensures { self.new ≡ self.old }
     {
         let size = self.transitions.capacity().saturating_mul(TRANSITION);
-        gives(
+        give_back(
             &mut self.states_room,
             size.saturating_add(self.transitions_by_hash.size()),
         );
@@ -350,7 +350,7 @@ impl<'a, N: Copy, R: Recorder<N, A>, A: Allocator + Copy> Memo<'a, N, R, A> {
         if number != self.seen.len() || !self.recorder.is_sharing() {
             return;
         }
-        if !reserves(&mut self.states_room, &mut self.seen, 1, SEEN) {
+        if !reserve(&mut self.states_room, &mut self.seen, 1, SEEN) {
             self.forget_transitions();
             return;
         }
@@ -574,7 +574,7 @@ impl<'a, N: Copy, R: Recorder<N, A>, A: Allocator + Copy> Memo<'a, N, R, A> {
         } else {
             NOTE
         };
-        if !reserves(&mut self.visited_room, &mut self.notes, 1, size) {
+        if !reserve(&mut self.visited_room, &mut self.notes, 1, size) {
             self.forget_older();
             return;
         }

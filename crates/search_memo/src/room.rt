@@ -13,7 +13,7 @@ pub const BOUND: usize = 1 << 30;
 const FEWEST: usize = 16;
 
 /// Takes as much of what is left, if there is so much.
-pub(crate) fn takes(room: &mut usize, size: usize) -> bool {
+pub(crate) fn take(room: &mut usize, size: usize) -> bool {
     if size <= *room {
         *room -= size;
         true
@@ -23,7 +23,7 @@ pub(crate) fn takes(room: &mut usize, size: usize) -> bool {
 }
 
 /// Gives back what was taken.
-pub(crate) fn gives(room: &mut usize, size: usize) {
+pub(crate) fn give_back(room: &mut usize, size: usize) {
     *room = room.saturating_add(size);
 }
 
@@ -35,7 +35,7 @@ fn has_space<T, A: Allocator>(list: &Vec<T, A>, more: usize) -> bool
 }
 
 /// Has memory for so many more elements after those of the list, which take so many bytes each, if there is room and memory for it.
-pub(crate) fn reserves<T, A: Allocator>(
+pub(crate) fn reserve<T, A: Allocator>(
     room: &mut usize,
     list: &mut Vec<T, A>,
     more: usize,
@@ -47,7 +47,7 @@ pub(crate) fn reserves<T, A: Allocator>(
     if has_space(list, more) {
         return true;
     }
-    grows(room, list, more, size);
+    grow(room, list, more, size);
     has_space(list, more)
 }
 
@@ -63,7 +63,7 @@ fn grown(room: usize, size: usize, old: usize, wanted: usize) -> Option<usize> {
 }
 
 /// Has the list grow, if there is room and memory for the new block beside the old one.
-fn grows<T, A: Allocator>(room: &mut usize, list: &mut Vec<T, A>, more: usize, size: usize)
+fn grow<T, A: Allocator>(room: &mut usize, list: &mut Vec<T, A>, more: usize, size: usize)
     ensures { list.new.items ≡ list.old.items }
 {
     let old = list.capacity();
@@ -72,11 +72,11 @@ fn grows<T, A: Allocator>(room: &mut usize, list: &mut Vec<T, A>, more: usize, s
         return;
     };
     let block = count.saturating_mul(size);
-    if !takes(room, block) {
+    if !take(room, block) {
         return;
     }
     match list.reserve_exact(count.saturating_sub(list.len())) {
-        Ok(()) => gives(room, old.saturating_mul(size)),
-        Err(_) => gives(room, block),
+        Ok(()) => give_back(room, old.saturating_mul(size)),
+        Err(_) => give_back(room, block),
     }
 }

@@ -4,7 +4,7 @@
 ghost use Rattle.std.specs.Prelude.{◌≡◌, ◌<◌, IfSome, IsTrue, MatchOption, length};
 ghost use Rattle.aud_history.specs.Table.{transactions};
 ghost use Rattle.aud_order.specs.Shapes.{history_of};
-ghost use Rattle.search_memo.specs.Known.{IsMarkedBy, IsRefutedBy, IsRefutedTo};
+ghost use Rattle.search_memo.specs.Known.{IsMarkedBy, IsRefutedAtWord, IsRefutedTo};
 ghost use Rattle.search_memo.specs.Visited.{with_place};
 
 use crate::index::{hash_of, spread};
@@ -55,13 +55,13 @@ pub struct RefutedEntry<J: Scene, A: Allocator> {
 }
 
 impl<J: Scene, A: Allocator> Model for RefutedEntry<J, A> {
-    ghost use Rattle.search_memo.specs.Known.{RefutedEntryOf, IsRefutedBy};
+    ghost use Rattle.search_memo.specs.Known.{RefutedEntryOf, IsRefutedAtWord};
 
     ghost Value = { RefutedEntryOf };
 
     ghost view = { λ r. record { word = r.word; states = r.states.value.now } };
 
-    ghost invariant = { λ r. IsRefutedBy J.shape r.states.value.now r.word };
+    ghost invariant = { λ r. IsRefutedAtWord J.shape r.states.value.now r.word };
 }
 
 /// Slots that follow one another, which are made when one of them is needed first.
@@ -177,7 +177,7 @@ fn free_slots<J: Scene, A: Allocator + Copy>(
 impl<J: Scene, A: Allocator + Copy> RefutedEntry<J, A> {
     /// Whether it is of the rows that the word marks, and of the states.
     fn is_of(&self, word: u64, states: &Store<A>) -> bool
-        ensures { IsTrue result → IsRefutedBy J.shape states.now.now word }
+        ensures { IsTrue result → IsRefutedAtWord J.shape states.now.now word }
     {
         self.word == word && self.states.same(states)
     }
@@ -242,17 +242,17 @@ impl<J: Scene, A: Allocator + Copy> Shared<J, A> {
     }
 
     /// Takes room for slots, or for states that stand in them, if there is so much.
-    fn takes(&self, size: u64) -> bool {
+    fn take(&self, size: u64) -> bool {
         let before = self.taken.fetch_add(size, Ordering::SeqCst);
         if before.saturating_add(size) <= ROOM as u64 {
             return true;
         }
-        self.gives(size);
+        self.give_back(size);
         false
     }
 
     /// Gives back room that was taken.
-    fn gives(&self, size: u64) {
+    fn give_back(&self, size: u64) {
         self.taken.fetch_sub(size, Ordering::SeqCst);
     }
 
@@ -269,7 +269,7 @@ impl<J: Scene, A: Allocator + Copy> Shared<J, A> {
 
     /// Whether a refuted prefix is known that places the rows that the word marks, and leaves the states.
     fn has(&self, configuration: Probe, states: &Store<A>) -> bool
-        ensures { IsTrue result → IsRefutedBy J.shape states.now.now configuration.word }
+        ensures { IsTrue result → IsRefutedAtWord J.shape states.now.now configuration.word }
     {
         for step in 0..LOOKS {
             let Some(known) = self.at(configuration, step) else {
@@ -303,11 +303,11 @@ impl<J: Scene, A: Allocator + Copy> Shared<J, A> {
 
     /// Makes the slots of the part, unless they are there, if there is room and memory for them.
     fn make(&self, part: &Part<J, A>) {
-        if part.slots.get().is_some() || !self.takes(SLOTS as u64) {
+        if part.slots.get().is_some() || !self.take(SLOTS as u64) {
             return;
         }
         if !part.make(self.alloc) {
-            self.gives(SLOTS as u64);
+            self.give_back(SLOTS as u64);
         }
     }
 
@@ -336,7 +336,7 @@ impl<J: Scene, A: Allocator + Copy> Shared<J, A> {
     /// Has all threads know of the refuted prefix, which places the rows that the word marks, if there is a free slot and memory for
     /// it.
     fn keep_at(&self, configuration: Probe, states: &Arc<Store<A>, A>) -> bool
-        requires { IsRefutedBy J.shape states.now.value.now configuration.word }
+        requires { IsRefutedAtWord J.shape states.now.value.now configuration.word }
     {
         let Ok(states) = Arc::try_clone(states) else {
             return false;
@@ -362,12 +362,12 @@ impl<J: Scene, A: Allocator + Copy> Shared<J, A> {
             return self.keep_at(configuration, states);
         }
         let size = size_of_shared(states) as u64;
-        if !self.takes(size) {
+        if !self.take(size) {
             return false;
         }
         let is_kept = self.keep_at(configuration, states);
         if !is_kept {
-            self.gives(size);
+            self.give_back(size);
         }
         is_kept
     }

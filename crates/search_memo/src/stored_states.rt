@@ -8,7 +8,7 @@ ghost use Rattle.search_memo.specs.StoredStates.{IsMoreOf, states_of, run_way, I
 
 use crate::digests::Digests;
 use crate::index::{Index, Look};
-use crate::room::{gives, reserves, takes};
+use crate::room::{give_back, reserve, take};
 use aud_object::{Block, Store};
 use aud_order::Shape;
 use std::alloc::{Allocator, Global};
@@ -276,13 +276,13 @@ fn copy_of<A: Allocator + Copy>(room: &mut usize, store: &Store<A>) -> Option<St
     ensures { IfSome result (λ copy. copy.now ≡ store.now.now) }
 {
     let size = size_of_whole(store);
-    if !takes(room, size) {
+    if !take(room, size) {
         return None;
     }
     match store.present() {
         Ok(copy) => Some(copy),
         Err(_) => {
-            gives(room, size);
+            give_back(room, size);
             None
         }
     }
@@ -303,7 +303,7 @@ fn kept_as<A: Allocator + Copy>(
     if let Some(step) = step {
         let cost = cost_of(kept, shape, step);
         if cost.blocks <= LONGEST && cost.operations <= store.size() {
-            if !takes(room, size_of_step(shape, step)) {
+            if !take(room, size_of_step(shape, step)) {
                 return None;
             }
             return Some(StoredStates::After(step, cost));
@@ -338,13 +338,13 @@ pub(crate) fn keep_states<A: Allocator + Copy>(
     if let Some(number) = find_states(kept, finder, shape, digest, store) {
         return Some(number);
     }
-    if !reserves(room, kept, 1, KEPT) {
+    if !reserve(room, kept, 1, KEPT) {
         return None;
     }
     let fresh = kept_as(kept, shape, room, step, store)?;
     let number = kept.len();
     if finder.by_digest.put(digest, number, room).is_err() {
-        gives(room, size_beside(shape, &fresh));
+        give_back(room, size_beside(shape, &fresh));
         return None;
     }
     let Ok(()) = kept.push(fresh) else {

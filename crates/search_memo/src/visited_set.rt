@@ -4,7 +4,7 @@ ghost use Rattle.std.specs.Prelude.{◌≡◌, ◌+◌, ◌<◌, ◌≤◌, ◌+
 ghost use Rattle.search_memo.specs.Visited.{IsKeptAs, with_place, WithPlace, IsConfiguration, IsPlaceOf, entries_over, entry};
 
 use crate::index::{Index, Look, hash_of};
-use crate::room::reserves;
+use crate::room::reserve;
 use base_bits::{Marks, are_same, with_bit};
 use std::alloc::{Allocator, Global};
 use std::marker::Model;
@@ -207,7 +207,7 @@ impl<A: Allocator + Copy> VisitedSet<A> {
         if !is_width(self.count, self.width, width) {
             return false;
         }
-        if !reserves(room, &mut self.words, width, size_of::<u64>()) {
+        if !reserve(room, &mut self.words, width, size_of::<u64>()) {
             return false;
         }
         let hash = hash_configuration(states, marks, None);

@@ -12,7 +12,7 @@ use Rattle.search_memo.specs.Choices.{AreChoices}
 use Rattle.search_prefix.specs.Levels.{AreTried, IsSearching}
 use Rattle.search_memo.specs.Memos.{MemoOf, states_reached, Names, IsNext}
 use Rattle.search_prefix.specs.Readiness.{ReadyOf, IsReady}
-use Rattle.search_prefix.specs.Tried.{IsFound, ArePassed}
+use Rattle.search_prefix.specs.Tried.{FindsFirstGood, ArePassed}
 use Rattle.search_prefix.proofs.Levels.{search-on}
 use Rattle.search_prefix.proofs.Readiness.{bad-until}
 use Rattle.search_memo.proofs.Refuting.{refuted-bad}
@@ -75,7 +75,7 @@ passed-search start cur cs used next from gs same s passed =
 
 -- the choice that is followed stands after them
 pub passed-follows : (start cur new : CursorOf) (cs : List Choice) (used next from k : ℕ) (gs : List ℕ) → cur.shape ≡ start.shape → IsSearching (objects_of start.shape) (history_of start.shape) start.path cs used cur.path next gs → ArePassed cur cs next from →
-    IsFound cur new cs from (Some k) → Follows start cur new cs next k
+    FindsFirstGood cur new cs from (Some k) → Follows start cur new cs next k
 passed-follows start cur new cs used next from k gs same s passed found =
     let f = follows start cur new cs used from k gs same (passed-search start cur cs used next from gs same s passed) found in
     let before : next ≤ from = passed.0 in

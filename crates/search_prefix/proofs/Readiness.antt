@@ -25,7 +25,7 @@ use Rattle.aud_order.proofs.SilentRows.{row-found}
 use Rattle.search_memo.specs.declared.choice.Choice.{Choice}
 use Rattle.search_prefix.specs.declared.ready.RowChoices.{RowChoices}
 use Rattle.search_memo.specs.Choices.{AreChoices}
-use Rattle.search_prefix.specs.Readiness.{ReadyOf, chosen, no_choices, HasRows, IsLeft, IsReady, IsReadyAfter, IsReadyBefore, IsRowMarked}
+use Rattle.search_prefix.specs.Readiness.{ReadyOf, chosen, no_choices, HasRows, HoldsBack, IsReady, IsReadyAfter, IsReadyBefore, IsRowMarked}
 use Rattle.search_prefix.proofs.Steps.{AreBad, Follows, ready-good, no_choice, choice-at, went-back}
 
 -- # Rows
@@ -330,11 +330,11 @@ unmarked old new row mark k c marked at none =
       )
     ]
 
-pub left-start : (r : ReadyOf) (at : CursorOf) → r.shape ≡ at.shape → r.begun ≡ 0 → IsLeft r at
+pub left-start : (r : ReadyOf) (at : CursorOf) → r.shape ≡ at.shape → r.begun ≡ 0 → HoldsBack r at
 left-start r at shape none = record { shape = shape; inside = omega (arith, none); left = λ k c there unmarked. inr (omega (arith, none)) }
 
 -- a transaction was placed that has no choice
-pub left-on_none : (r : ReadyOf) (at : CursorOf) (d : Decision) → IsReadyAfter r at d → IsLeft r at
+pub left-on_none : (r : ReadyOf) (at : CursorOf) (d : Decision) → IsReadyAfter r at d → HoldsBack r at
 left-on_none r at d (p, (path, ready)) = record {
   shape = ready.all.shape;
   inside = ready.all.inside;
@@ -345,7 +345,7 @@ left-on_none r at d (p, (path, ready)) = record {
 }
 
 pub left-on : (old new : ReadyOf) (at : CursorOf) (d : Decision) (row : ℕ) → AreChoices (history_of at.shape) old.choices → IsReadyAfter old at d →
-    position (nat_eq d.tx) (map (λ (x : RowOf). x.tx) (table_of (history_of at.shape))) ≡ Some row → IsRowMarked old new row false → IsLeft new at
+    position (nat_eq d.tx) (map (λ (x : RowOf). x.tx) (table_of (history_of at.shape))) ≡ Some row → IsRowMarked old new row false → HoldsBack new at
 left-on old new at d row choices behind found marked =
     let older = left-on_none old at d behind in record {
       shape = marked.shape ∙ older.shape;
@@ -359,9 +359,9 @@ left-on old new at d row choices behind found marked =
     }
 
 -- one row more has begun
-pub left-more : (old mid : ReadyOf) (at : CursorOf) (mark : Bool) → AreChoices (history_of at.shape) old.choices → IsLeft old at → old.begun < length (table_of (history_of at.shape)) →
+pub left-more : (old mid : ReadyOf) (at : CursorOf) (mark : Bool) → AreChoices (history_of at.shape) old.choices → HoldsBack old at → old.begun < length (table_of (history_of at.shape)) →
     mark ≡ not (slice_index_or (map (is_named at.path) (transactions (history_of at.shape))) old.begun false) →
-    IsRowMarked old mid old.begun mark → IsLeft (record { shape = mid.shape; choices = mid.choices; marks = mid.marks; begun = mid.begun + 1 }) at
+    IsRowMarked old mid old.begun mark → HoldsBack (record { shape = mid.shape; choices = mid.choices; marks = mid.marks; begun = mid.begun + 1 }) at
 left-more old mid at mark choices before inside is marked =
     record {
       shape = marked.shape ∙ before.shape;

@@ -17,7 +17,7 @@ use Rattle.search_memo.specs.Choices.{AreChoices}
 use Rattle.search_prefix.specs.Levels.{IsSearching}
 use Rattle.search_memo.specs.Memos.{MemoOf, NameWay, IsGrown, IsReported, IsFurther}
 use Rattle.search_memo.specs.Recorders.{HasNote, HasSilent, IsReason, AreKept, IsSilentAt, reason_by}
-use Rattle.search_prefix.specs.Tried.{IsFound, IsNextPlace, ArePassed}
+use Rattle.search_prefix.specs.Tried.{FindsFirstGood, IsNextPlace, ArePassed}
 use Rattle.search_prefix.proofs.Passing.{passed-search, passed-follows}
 use Rattle.search_prefix.specs.Readiness.{ReadyOf, IsReady}
 use Rattle.search_prefix.proofs.Levels.{there-below}
@@ -244,11 +244,11 @@ module _ {V N : Type 0} {noted : V → N → List Decision → Type 0} {start cu
   there-good : (d : Decision) → IsGoodNext (objects_of start.shape) (history_of start.shape) cur.path d → IsGoodAt cur d
   there-good d good = subst (λ (s : ShapeOf). IsGoodNext (objects_of s) (history_of s) cur.path d) (sym r.same) good
 
-  pub round-follows : (new : CursorOf) (k : ℕ) → IsFound cur new cs from (Some k) → Follows start cur new cs here.next k
+  pub round-follows : (new : CursorOf) (k : ℕ) → FindsFirstGood cur new cs from (Some k) → Follows start cur new cs here.next k
   round-follows new k found = passed-follows start cur new cs used here.next from k (reverse (map next_of frames)) r.same r.before r.passed found
 
   -- why the prefix is refuted after which nothing is left
-  pub round-reason : (new : CursorOf) (reason : RefutedBy N) → AreChoices (history_of start.shape) cs → IsFound cur new cs from None → reason ≡ reason_by here.silent → IsReason (noted memo.recorder) new.shape new.path reason
+  pub round-reason : (new : CursorOf) (reason : RefutedBy N) → AreChoices (history_of start.shape) cs → FindsFirstGood cur new cs from None → reason ≡ reason_by here.silent → IsReason (noted memo.recorder) new.shape new.path reason
   round-reason new reason choices (stays, bad) is =
       subst (λ (x : RefutedBy N). IsReason (noted memo.recorder) new.shape new.path x) (sym is)
       (subst (λ (v : CursorOf). IsReason (noted memo.recorder) v.shape v.path (reason_by here.silent)) (sym stays)
@@ -256,14 +256,14 @@ module _ {V N : Type 0} {noted : V → N → List Decision → Type 0} {start cu
       (heard-reason (noted memo.recorder) start.shape cs cur.path from here.silent choices (r.searching.opens cur.path r.searching.here).1 r.heard (λ j c after below there good. bad j c after there (there-good c.decision good)))))
 
   -- the first prefix is refuted
-  pub round-over : (new : CursorOf) (recorder : V) (note : N) → IsFound cur new cs from None → frames ≡ [] → noted recorder note new.path → noted recorder note start.path
+  pub round-over : (new : CursorOf) (recorder : V) (note : N) → FindsFirstGood cur new cs from None → frames ≡ [] → noted recorder note new.path → noted recorder note start.path
   round-over new recorder note (stays, bad) none holds =
       let last = subst (λ (l : List Frame). IsSearching (objects_of start.shape) (history_of start.shape) start.path cs used cur.path from (reverse (map next_of l))) none r.searching in
       subst (λ (l : List Decision). noted recorder note l) (ap (λ (v : CursorOf). v.path) stays ∙ last.levels) holds
 
   module _ (recorder : V) (on : (p : List Decision) → HasNote (noted memo.recorder) p → HasNote (noted recorder) p) where
     -- a prefix is refuted, and the search goes back
-    pub round-back : (new : CursorOf) (p : List Decision) (less : List Frame) (t : Frame) (note : N) → IsFound cur new cs from None → frames ≡ less ++ t ∷ [] → noted recorder note new.path → p ≡ take (length cur.path - 1) cur.path →
+    pub round-back : (new : CursorOf) (p : List Decision) (less : List Frame) (t : Frame) (note : N) → FindsFirstGood cur new cs from None → frames ≡ less ++ t ∷ [] → noted recorder note new.path → p ≡ take (length cur.path - 1) cur.path →
         IsHeard (HasNote (noted recorder)) start.shape cs p t.next t.silent × AreOpen (HasNote (noted recorder)) start.shape cs (reverse less) p
     round-back new p less t note (stays, bad) shorter holds back =
         let all = opens-on (HasNote (noted memo.recorder)) (HasNote (noted recorder)) start.shape cs on (reverse frames) cur.path r.opens in
@@ -274,7 +274,7 @@ module _ {V N : Type 0} {noted : V → N → List Decision → Type 0} {start cu
         (open-done (HasNote (noted recorder)) start.shape cs q d t o here_noted, rest)
 
     -- a good choice was followed
-    round-open : (new : CursorOf) (k g : ℕ) (silent : Option Decision) (t : Frame) → AreChoices (history_of start.shape) cs → (f : IsFound cur new cs from (Some k)) → IsNextPlace cs k g → IsSilentAt cs k silent → t.next ≡ g → t.silent ≡ silent →
+    round-open : (new : CursorOf) (k g : ℕ) (silent : Option Decision) (t : Frame) → AreChoices (history_of start.shape) cs → (f : FindsFirstGood cur new cs from (Some k)) → IsNextPlace cs k g → IsSilentAt cs k silent → t.next ≡ g → t.silent ≡ silent →
         IsOpen (HasNote (noted recorder)) start.shape cs cur.path f.0.decision t
     round-open new k g silent t choices (c, (past, inside, at, good, is, bad)) behind quiet next own =
         open-next (HasNote (noted recorder)) start.shape cs cur.path k g c t silent choices at
@@ -284,7 +284,7 @@ module _ {V N : Type 0} {noted : V → N → List Decision → Type 0} {start cu
         (good-there c.decision good) behind quiet next own
 
     -- its prefix is known to be refuted, and was noted
-    pub round-known : (new : CursorOf) (p : List Decision) (k g : ℕ) (silent : Option Decision) (note : N) → AreChoices (history_of start.shape) cs → IsFound cur new cs from (Some k) → IsNextPlace cs k g → IsSilentAt cs k silent → noted recorder note new.path → p ≡ cur.path →
+    pub round-known : (new : CursorOf) (p : List Decision) (k g : ℕ) (silent : Option Decision) (note : N) → AreChoices (history_of start.shape) cs → FindsFirstGood cur new cs from (Some k) → IsNextPlace cs k g → IsSilentAt cs k silent → noted recorder note new.path → p ≡ cur.path →
         IsHeard (HasNote (noted recorder)) start.shape cs p g silent × AreOpen (HasNote (noted recorder)) start.shape cs (reverse frames) p
     round-known new p k g silent note choices found behind quiet holds back =
         let path : new.path ≡ cur.path ++ found.0.decision ∷ [] = ap (λ (v : CursorOf). v.path) found.1.4 in
@@ -295,7 +295,7 @@ module _ {V N : Type 0} {noted : V → N → List Decision → Type 0} {start cu
         )
 
     -- its prefix is searched
-    pub round-deeper : (new : CursorOf) (k g : ℕ) (silent : Option Decision) (t : Frame) (more : List Frame) → AreChoices (history_of start.shape) cs → IsFound cur new cs from (Some k) → IsNextPlace cs k g → IsSilentAt cs k silent → t.next ≡ g → t.silent ≡ silent → more ≡ frames ++ t ∷ [] →
+    pub round-deeper : (new : CursorOf) (k g : ℕ) (silent : Option Decision) (t : Frame) (more : List Frame) → AreChoices (history_of start.shape) cs → FindsFirstGood cur new cs from (Some k) → IsNextPlace cs k g → IsSilentAt cs k silent → t.next ≡ g → t.silent ≡ silent → more ≡ frames ++ t ∷ [] →
         AreOpen (HasNote (noted recorder)) start.shape cs (reverse more) new.path
     round-deeper new k g silent t more choices found behind quiet next own grown =
         subst (λ (l : List Frame). AreOpen (HasNote (noted recorder)) start.shape cs l new.path) (sym (ap reverse grown ∙ reverse-push frames t)) (

@@ -34,7 +34,7 @@ use Rattle.search_prefix.specs.Searches.{SpentBy, Reports}
 use Rattle.search_prefix.specs.Levels.{AreTried, IsSearching}
 use Rattle.base_values.specs.Budgets.{IsOneLess}
 use Rattle.search_memo.specs.Memos.{MemoOf, states_reached, Names, NameWay, IsStep}
-use Rattle.search_prefix.specs.Tried.{IsTried, IsFound, IsNextPlace, IsWitnessOf, Spends, ReportsFrom, outcome_of}
+use Rattle.search_prefix.specs.Tried.{IsTried, FindsFirstGood, IsNextPlace, IsWitnessOf, Spends, ReportsFrom, outcome_of}
 use Rattle.search_prefix.proofs.Levels.{there-below, tried-more, tried-after, search-on, search-deeper, search-spent, search-unspent, refuted-here, search-back, search-refuted, search-begins}
 use Rattle.search_prefix.proofs.Weights.{weigh, lighter-deeper, lighter-on, lighter-back}
 
@@ -79,11 +79,11 @@ bad-more start cur new cs from k false inside same bad tried is = (
   ]),
 )
 
-pub bad-all : (start cur : CursorOf) (cs : List Choice) (from to : ℕ) → length cs ≤ to → cur ≡ start → AreBad start cs from to → IsFound start cur cs from None
+pub bad-all : (start cur : CursorOf) (cs : List Choice) (from to : ℕ) → length cs ≤ to → cur ≡ start → AreBad start cs from to → FindsFirstGood start cur cs from None
 bad-all start cur cs from to past same bad = (same, (λ j c behind at good. let low : j < length cs = there-below cs j c at in bad j c behind (omega arith) at good))
 
 pub found-at : (start cur new : CursorOf) (cs : List Choice) (from k : ℕ) (b : Bool) → from ≤ k → k < length cs → cur ≡ start → AreBad start cs from k → IsTried cur new (slice_index_or cs k no_choice).decision b → b ≡ true →
-    IsFound start new cs from (Some k)
+    FindsFirstGood start new cs from (Some k)
 found-at start cur new cs from k false past inside same bad tried is = absurd (cc)
 found-at start cur new cs from k true past inside same bad tried is = (
   slice_index_or cs k no_choice,
@@ -166,7 +166,7 @@ here-good : (start cur : CursorOf) (d : Decision) → cur.shape ≡ start.shape 
 here-good start cur d same good = subst (λ (s : ShapeOf). IsGoodNext (objects_of s) (history_of s) cur.path d) (sym same) good
 
 pub follows : (start cur new : CursorOf) (cs : List Choice) (used next k : ℕ) (gs : List ℕ) → cur.shape ≡ start.shape →
-    IsSearching (objects_of start.shape) (history_of start.shape) start.path cs used cur.path next gs → IsFound cur new cs next (Some k) → Follows start cur new cs next k
+    IsSearching (objects_of start.shape) (history_of start.shape) start.path cs used cur.path next gs → FindsFirstGood cur new cs next (Some k) → Follows start cur new cs next k
 follows start cur new cs used next k gs same s (c, (past, inside, at, good, is, bad)) = record {
   choice = c;
   past = past;
@@ -289,13 +289,13 @@ loop-known-lighter start cur new popped cs next k g below f behind is =
     (lighter-on (length cs) (length (transactions (history_of start.shape))) (length cur.path) next k g (reverse below) f.past f.inside behind)
 
 pub loop-refuted : (start cur new : CursorOf) (cs : List Choice) (used next : ℕ) (gs : List ℕ) → cur.shape ≡ start.shape → AreChoices (history_of start.shape) cs →
-    IsSearching (objects_of start.shape) (history_of start.shape) start.path cs used cur.path next gs → IsFound cur new cs next None → Refuted (objects_of start.shape) (history_of start.shape) cur.path
+    IsSearching (objects_of start.shape) (history_of start.shape) start.path cs used cur.path next gs → FindsFirstGood cur new cs next None → Refuted (objects_of start.shape) (history_of start.shape) cur.path
 loop-refuted start cur new cs used next gs same choices s (_, bad) =
     refuted-here (objects_of start.shape) (history_of start.shape) start.path cs used cur.path next gs choices s
     (tried-more (objects_of start.shape) (history_of start.shape) cs cur.path next (length cs) s.tried (λ j e behind below there ok. bad j e behind there (here-good start cur e.decision same ok)))
 
 pub loop-over : (start cur new : CursorOf) (cs : List Choice) (used next : ℕ) (below : List ℕ) → cur.shape ≡ start.shape → AreChoices (history_of start.shape) cs →
-    IsSearching (objects_of start.shape) (history_of start.shape) start.path cs used cur.path next (reverse below) → IsFound cur new cs next None → below ≡ [] →
+    IsSearching (objects_of start.shape) (history_of start.shape) start.path cs used cur.path next (reverse below) → FindsFirstGood cur new cs next None → below ≡ [] →
     Refuted (objects_of start.shape) (history_of start.shape) start.path
 loop-over start cur new cs used next below same choices s found none =
     search-refuted (objects_of start.shape) (history_of start.shape) start.path cs used cur.path next
@@ -312,7 +312,7 @@ back-same old new false root back =
     is ∙ (λ i. record { shape = old.shape; path = sym nothing i })
 
 pub loop-back : (start cur mid new : CursorOf) (cs : List Choice) (used next g : ℕ) (below less : List ℕ) → cur.shape ≡ start.shape → AreChoices (history_of start.shape) cs →
-    IsSearching (objects_of start.shape) (history_of start.shape) start.path cs used cur.path next (reverse below) → IsFound cur mid cs next None → below ≡ less ++ g ∷ [] →
+    IsSearching (objects_of start.shape) (history_of start.shape) start.path cs used cur.path next (reverse below) → FindsFirstGood cur mid cs next None → below ≡ less ++ g ∷ [] →
     new ≡ record { shape = mid.shape; path = take (length mid.path - 1) mid.path } →
     (new.shape ≡ start.shape) × IsSearching (objects_of start.shape) (history_of start.shape) start.path cs used new.path g (reverse less) × (new.path ≡ take (length cur.path - 1) cur.path)
 loop-back start cur mid new cs used next g below less same choices s found shorter is =

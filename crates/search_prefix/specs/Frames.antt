@@ -9,11 +9,11 @@ use Rattle.search_prefix.specs.declared.searching.Arrival.TheVariants.{Known, Fr
 use Rattle.search_prefix.specs.declared.searching.Frame.{Frame}
 use Rattle.search_memo.specs.Memos.{MemoOf, states_reached, Names, IsRefutedAt}
 use Rattle.search_memo.specs.Recorders.{HasNote, AreKept}
-use Rattle.search_prefix.specs.Tried.{IsFound, ArePassed}
+use Rattle.search_prefix.specs.Tried.{FindsFirstGood, ArePassed}
 
 -- choices that are known to be refuted were passed over from a place on, and the others were tried up to the first that is good
 abbrev pub IsSought : {N : Type 0} → (N → List Decision → Type 0) → CursorOf → CursorOf → List Choice → ℕ → Option ℕ → Type 0
-IsSought noted old new cs next found = (from : ℕ) × (ArePassed old cs next from × AreKept (HasNote noted) old.shape cs old.path next from × IsFound old new cs from found)
+IsSought noted old new cs next found = (from : ℕ) × (ArePassed old cs next from × AreKept (HasNote noted) old.shape cs old.path next from × FindsFirstGood old new cs from found)
 
 -- the prefix is known to be refuted, has a note and was taken back; or the states there have the number, where there is one
 abbrev pub IsArrived : {N : Type 0} → (N → List Decision → Type 0) → List (List ObjState) → CursorOf → CursorOf → Arrival → Type 0
@@ -21,9 +21,9 @@ IsArrived noted all old new Known = HasNote noted old.path × IsRefutedAt old ×
 IsArrived noted all old new (Fresh states) = Names all states (states_reached old.shape old.path) × (new ≡ old)
 
 -- the prefix has a note, and is the first one; or the search went back from it to the prefix of the last frame
-abbrev pub IsClosed : {N : Type 0} → (N → List Decision → Type 0) → CursorOf → CursorOf → List Frame → List Frame → Frame → Option N → Type 0
-IsClosed noted old new frames less here (Some note) = (frames ≡ []) × noted note old.path × (new ≡ old)
-IsClosed noted old new frames less here None = (frames ≡ less ++ here ∷ []) × HasNote noted old.path × (new ≡ cursor_back old)
+abbrev pub IsFrameClosed : {N : Type 0} → (N → List Decision → Type 0) → CursorOf → CursorOf → List Frame → List Frame → Frame → Option N → Type 0
+IsFrameClosed noted old new frames less here (Some note) = (frames ≡ []) × noted note old.path × (new ≡ old)
+IsFrameClosed noted old new frames less here None = (frames ≡ less ++ here ∷ []) × HasNote noted old.path × (new ≡ cursor_back old)
 
 -- the frame without the number of the states
 abbrev pub unnumbered : Frame → Frame

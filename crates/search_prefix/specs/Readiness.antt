@@ -32,14 +32,14 @@ pub record HasRows (cs : List Choice) (upto : ℕ) (rows : List RowChoices) : Ty
   pub whole : (k : ℕ) (c : Choice) → k < upto → slice_get cs k ≡ Some c → chosen (slice_index_or rows c.place no_choices) c.decision.fate ≡ Some k
 
 -- a choice that is not marked is of a transaction that is placed, or of a row that has not begun
-pub record IsLeft (r : ReadyOf) (at : CursorOf) : Type 0 where
+pub record HoldsBack (r : ReadyOf) (at : CursorOf) : Type 0 where
   pub shape : r.shape ≡ at.shape
   pub inside : r.begun ≤ length (table_of (history_of at.shape))
   pub left : (k : ℕ) (c : Choice) → slice_get r.choices k ≡ Some c → slice_index_or r.marks k false ≡ false → (is_named at.path c.decision.tx ≡ true) ⊎ (r.begun ≤ c.place)
 
 -- and no transaction of a row that has not begun may be placed yet
 pub record IsReady (r : ReadyOf) (at : CursorOf) : Type 0 where
-  pub all : IsLeft r at
+  pub all : HoldsBack r at
   pub late : r.begun < length (table_of (history_of at.shape)) → is_enabled (history_of at.shape) at.path (slice_index_or (transactions (history_of at.shape)) r.begun 0) ≡ false
 
 -- the cursor is one decision further than where they were ready

@@ -33,7 +33,7 @@ pub record AreExpanded (objects : List Declared) (h : History) (p : List Decisio
   pub unfull : (e : List Decision) (d : Decision) → Contains es e → IsGood objects h (e ++ d ∷ []) → IsFull h (e ++ d ∷ []) → ⊥
 
 -- one more prefix that is good and not full: p, or a kid of one that was expanded
-pub record IsLeft (objects : List Declared) (h : History) (p : List Decision) (es : List (List Decision)) (next : List Decision) : Type 0 where
+pub record IsUnexpanded (objects : List Declared) (h : History) (p : List Decision) (es : List (List Decision)) (next : List Decision) : Type 0 where
   pub opens : IsExpandable objects h next
   pub outside : Contains es next → ⊥
   pub place : (next ≡ p) ⊎ ((e : List Decision) × ((d : Decision) × (Contains es e × (next ≡ e ++ d ∷ []))))
@@ -41,7 +41,7 @@ pub record IsLeft (objects : List Declared) (h : History) (p : List Decision) (e
 -- exactly b prefixes were expanded, and one more is left
 abbrev pub SpentBy : List Declared → History → List Decision → ℕ → Type 0
 SpentBy objects h p b =
-    (es : List (List Decision)) × ((length es ≡ b) × AreExpanded objects h p es × ((next : List Decision) × IsLeft objects h p es next))
+    (es : List (List Decision)) × ((length es ≡ b) × AreExpanded objects h p es × ((next : List Decision) × IsUnexpanded objects h p es next))
 
 -- what an outcome says of the prefixes that begin with p, where there is a budget and where there is none
 abbrev pub Reports : {X : Type 0} → List Declared → History → List Decision → Option ℕ → Outcome X → Type 0

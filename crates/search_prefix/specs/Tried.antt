@@ -21,9 +21,9 @@ IsTried old new d true = IsGoodAt old d × (new ≡ cursor_with old d)
 IsTried old new d false = (IsGoodAt old d → ⊥) × (new ≡ old)
 
 -- choices were tried from a place on, up to the first that is good
-abbrev pub IsFound : CursorOf → CursorOf → List Choice → ℕ → Option ℕ → Type 0
-IsFound old new cs from None = (new ≡ old) × ((j : ℕ) (c : Choice) → from ≤ j → slice_get cs j ≡ Some c → IsGoodAt old c.decision → ⊥)
-IsFound old new cs from (Some k) =
+abbrev pub FindsFirstGood : CursorOf → CursorOf → List Choice → ℕ → Option ℕ → Type 0
+FindsFirstGood old new cs from None = (new ≡ old) × ((j : ℕ) (c : Choice) → from ≤ j → slice_get cs j ≡ Some c → IsGoodAt old c.decision → ⊥)
+FindsFirstGood old new cs from (Some k) =
     (c : Choice) × ((from ≤ k) × (k < length cs) × (slice_get cs k ≡ Some c) × IsGoodAt old c.decision × (new ≡ cursor_with old c.decision)
     × ((j : ℕ) (e : Choice) → from ≤ j → j < k → slice_get cs j ≡ Some e → IsGoodAt old e.decision → ⊥))
 

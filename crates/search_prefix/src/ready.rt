@@ -4,7 +4,7 @@ ghost use Rattle.std.specs.Prelude.{◌≡◌, ◌<◌, length, Some, None, IfOk
 ghost use Rattle.base_bits.specs.Marked.{IsNextMark};
 ghost use Rattle.aud_order.specs.Shapes.{history_of};
 ghost use Rattle.search_memo.specs.Choices.{AreChoices};
-ghost use Rattle.search_prefix.specs.Readiness.{chosen, HasRows, IsLeft, IsReady, IsReadyAfter, IsReadyBefore, IsRowMarked};
+ghost use Rattle.search_prefix.specs.Readiness.{chosen, HasRows, HoldsBack, IsReady, IsReadyAfter, IsReadyBefore, IsRowMarked};
 
 use aud_event::OutOfMemory;
 use aud_order::{Cursor, Shape};
@@ -154,7 +154,7 @@ impl<'a, A: Allocator + Copy> Ready<'a, A> {
 
     /// Marks the choices of the rows that need no longer wait.
     fn begin_rows(&mut self, cursor: &Cursor<A>)
-        requires { IsLeft self.old cursor.now }
+        requires { HoldsBack self.old cursor.now }
         ensures ready { IsReady self.new cursor.now }
         ensures choices { self.new.choices ≡ self.old.choices }
     {

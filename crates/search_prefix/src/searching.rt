@@ -10,10 +10,10 @@ ghost use Rattle.search_memo.specs.Choices.{AreChoices};
 ghost use Rattle.search_prefix.specs.Readiness.{IsReady};
 ghost use Rattle.search_prefix.specs.Searches.{Reports, ReportsWith};
 ghost use Rattle.aud_order.specs.Cursors.{cursor_back, cursor_with};
-ghost use Rattle.search_prefix.specs.Tried.{IsTried, IsFound, IsNextPlace, ArePassed, IsWitnessOf, ReportsAt};
+ghost use Rattle.search_prefix.specs.Tried.{IsTried, FindsFirstGood, IsNextPlace, ArePassed, IsWitnessOf, ReportsAt};
 ghost use Rattle.search_memo.specs.Memos.{Names, states_reached, IsReported, IsFurther, IsStep, IsRefutedAt};
 ghost use Rattle.search_memo.specs.Recorders.{HasNote, IsNotedFor, IsReason, AreKept, IsSilentAt, reason_by, IsNotedAfter, HasNoteAfter};
-ghost use Rattle.search_prefix.specs.Frames.{IsSought, IsArrived, IsClosed, unnumbered, HasRoomMade};
+ghost use Rattle.search_prefix.specs.Frames.{IsSought, IsArrived, IsFrameClosed, unnumbered, HasRoomMade};
 
 use crate::outcome::{Outcome, SearchEnd, Searched};
 use crate::ready::Ready;
@@ -47,7 +47,7 @@ fn try_from<A: Allocator + Copy>(
     requires choices { AreChoices (history_of cursor.old.shape) choices.now }
     requires same { ready.now.choices ≡ choices.now }
     requires ready { IsReady ready.now cursor.old }
-    ensures { IfOk result (IsFound cursor.old cursor.new choices.now from) }
+    ensures { IfOk result (FindsFirstGood cursor.old cursor.new choices.now from) }
 {
     let mut next = from;
     while let Some(place) = ready.next(next) {
@@ -300,7 +300,7 @@ fn close<N: Copy, R: Recorder<N, A>, A: Allocator + Copy>(
     requires named { Names memo.old.states here.old.states (states_reached cursor.old.shape cursor.old.path) }
     requires refuted { IsRefutedAt cursor.old }
     requires ready { IsReady ready.old cursor.old }
-    ensures closed { IfOk result (IsClosed (R.noted memo.new.recorder) cursor.old cursor.new frames.old.items frames.new.items here.new) }
+    ensures closed { IfOk result (IsFrameClosed (R.noted memo.new.recorder) cursor.old cursor.new frames.old.items frames.new.items here.new) }
     ensures further { OnOk result (IsFurther R.grows memo.old memo.new) }
     ensures ready { OnOk result (IsReady ready.new cursor.new) }
     ensures choices { ready.new.choices ≡ ready.old.choices }

@@ -12,7 +12,7 @@ use Rattle.search_prefix.specs.declared.searching.Frame.{Frame}
 use Rattle.search_memo.specs.Memos.{states_reached, Names, NameWay}
 use Rattle.search_prefix.specs.Readiness.{IsReady, IsReadyAfter}
 use Rattle.search_memo.specs.Recorders.{HasNote}
-use Rattle.search_prefix.specs.Tried.{IsFound, IsWitnessOf, ReportsAt}
+use Rattle.search_prefix.specs.Tried.{FindsFirstGood, IsWitnessOf, ReportsAt}
 use Rattle.search_memo.proofs.MemoLemmas.{way-further, way-deeper, way-back}
 use Rattle.search_prefix.proofs.Readiness.{ready-on, ready-still}
 use Rattle.search_prefix.proofs.Anew.{room-next, room-nexts, room-silent, room-way, room-opens}
@@ -301,7 +301,7 @@ search-preserved g c =
     let made = c.make_room.ensures in
     let P = HasNote (g.R.Recorder.noted c.make_room.new.memo.recorder) in
     let further = c.in_ok-states.ensures.further in
-    let there = subst (λ (v : CursorOf). IsFound at.cursor v cs from (Some c.in-Some.place)) (sym stays) found in
+    let there = subst (λ (v : CursorOf). FindsFirstGood at.cursor v cs from (Some c.in-Some.place)) (sym stays) found in
     let f = round-follows r new c.in-Some.place there in
     record {
       same = f.shape;

@@ -15,7 +15,7 @@ invariant_of-self-then-keep g c =
     let noted = subst (λ (m : MemoOf _). g.R.Recorder.noted m.recorder c.args.note at.path) (sym c.self.view_is) c.requires.noted in (
       true-entry _ _ _ _ _ _ _ i.transitions.items entry c.args.note
           (subst (λ n. IsKeptAs (map (entry_of n) i.visited) (map (entry_of n) c.keep.new.self) entry true) (rows-placed i.shape.now placed at same c.placed-placed.ensures) (rw c.if-keep.true at c.keep.ensures))
-          (c.in-Ok.ensures.items ∙ ap (λ l. l ++ c.args.note ∷ []) c.reserves.ensures.items)
+          (c.in-Ok.ensures.items ∙ ap (λ l. l ++ c.args.note ∷ []) c.reserve.ensures.items)
           (dead-here _ _ _ placed c.args.states at same c.prefix-good.ensures.good c.requires.refuted c.placed-placed.ensures
           (subst (λ (m : MemoOf _). Names m.states (Some c.args.states) (states_reached at.shape at.path)) (sym c.self.view_is) c.requires.named) noted) c.self.invariant.0,
       c.self.invariant.1,
@@ -29,7 +29,7 @@ invariant_of-self-else-keep g c =
     let placed = c.placed-placed.result.now in
     let entry : EntryOf = record { placed = placed; states = c.args.states } in
     let same = ap (λ (m : MemoOf _). m.shape) c.self.view_is ∙ c.requires.shape in (
-      true-unkept _ _ _ _ _ _ _ _ (subst (λ n. IsKeptAs (map (entry_of n) i.visited) (map (entry_of n) c.keep.new.self) entry false) (rows-placed i.shape.now placed at same c.placed-placed.ensures) (rw c.if-keep.false at c.keep.ensures)) c.reserves.ensures.items c.self.invariant.0,
+      true-unkept _ _ _ _ _ _ _ _ (subst (λ n. IsKeptAs (map (entry_of n) i.visited) (map (entry_of n) c.keep.new.self) entry false) (rows-placed i.shape.now placed at same c.placed-placed.ensures) (rw c.if-keep.false at c.keep.ensures)) c.reserve.ensures.items c.self.invariant.0,
       c.self.invariant.1,
       c.self.invariant.2,
     )

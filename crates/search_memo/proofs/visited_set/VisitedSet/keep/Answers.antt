@@ -8,7 +8,7 @@ invariant_of-self-then-append g c =
     let i = c.self.inside in
     let marks = c.words-marks.result.now in (
       omega arith,
-      words-grown i.width (length marks + 1) i.words.items c.append.new.words.items marks i.count c.args.states (c.is_width.ensures c.if-not-is_width.false) c.self.invariant.1 refl (rw c.if-append.true at c.append.ensures ∙ ap (λ l. l ++ c.args.states ∷ marks) c.reserves.ensures.items),
+      words-grown i.width (length marks + 1) i.words.items c.append.new.words.items marks i.count c.args.states (c.is_width.ensures c.if-not-is_width.false) c.self.invariant.1 refl (rw c.if-append.true at c.append.ensures ∙ ap (λ l. l ++ c.args.states ∷ marks) c.reserve.ensures.items),
     )
 
 pub returns-then-append : goal.returns-then-append
@@ -16,4 +16,4 @@ returns-then-append g c =
     let i = c.self.inside in
     let marks = c.words-marks.result.now in
     visited-with i.width (length marks + 1) i.words.items c.append.new.words.items marks c.args.placed.now c.args.self.now i.count c.args.states (c.is_width.ensures c.if-not-is_width.false) c.self.invariant.1 refl c.words-marks.ensures
-    (rw c.if-append.true at c.append.ensures ∙ ap (λ l. l ++ c.args.states ∷ marks) c.reserves.ensures.items) c.self.view_is
+    (rw c.if-append.true at c.append.ensures ∙ ap (λ l. l ++ c.args.states ∷ marks) c.reserve.ensures.items) c.self.view_is

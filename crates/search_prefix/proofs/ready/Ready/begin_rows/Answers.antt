@@ -5,7 +5,7 @@ use Rattle.aud_witness.specs.Orders.{is_named}
 use Rattle.aud_witness.specs.OrderFaults.{is_enabled}
 use Rattle.aud_order.specs.Shapes.{ShapeOf, history_of}
 use Rattle.search_memo.specs.Choices.{AreChoices}
-use Rattle.search_prefix.specs.Readiness.{ReadyOf, IsLeft, IsRowMarked}
+use Rattle.search_prefix.specs.Readiness.{ReadyOf, HoldsBack, IsRowMarked}
 use Rattle.search_prefix.proofs.Readiness.{left-more, choices-of}
 use Rattle.search_prefix.proofs.ready.Ready.begin_rows.Goals as goal
 
@@ -25,7 +25,7 @@ loop-self-preserved g c =
     let view = sym c.self-in-loop-self-2.view_is in record {
       choices = ap (λ (v : ReadyOf). v.choices) c.self-in-loop-self-2.view_is ∙ c.set_row-in-loop-self.ensures.choices ∙ c.loop-self.invariant.choices;
       shape = ap (λ (v : ReadyOf). v.shape) c.self-in-loop-self-2.view_is ∙ c.set_row-in-loop-self.ensures.shape ∙ c.loop-self.invariant.shape;
-      left = subst (λ (v : ReadyOf). IsLeft (record { shape = v.shape; choices = v.choices; marks = v.marks; begun = v.begun + 1 }) at) view
+      left = subst (λ (v : ReadyOf). HoldsBack (record { shape = v.shape; choices = v.choices; marks = v.marks; begun = v.begun + 1 }) at) view
           (left-more old mid at (not c.has-is_open.result) choices c.loop-self.invariant.left inside
           (ap not (c.has-is_open.ensures ∙ ap (λ l. slice_index_or l c.self-in-loop-self.inside.begun false) c.placed.ensures ∙ ap (λ n. slice_index_or (map (is_named at.path) (transactions (history_of at.shape))) n false) begun)) marked);
     }
