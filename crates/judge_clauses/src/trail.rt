@@ -26,7 +26,7 @@ impl<A: Allocator> Model for Trail<A> {
 }
 
 impl<A: Allocator + Copy> Trail<A> {
-    /// None, of so many atoms.
+    /// No literal yet, of so many atoms.
     pub(crate) fn new(alloc: A, atoms: usize) -> Result<Trail<A>, OutOfMemory>
         ensures { IfOk result (λ trail. trail ≡ []) }
     {
@@ -42,14 +42,14 @@ impl<A: Allocator + Copy> Trail<A> {
 }
 
 impl<A: Allocator> Trail<A> {
-    /// None any more.
+    /// Takes all literals out; their places stay, and are read only where a literal of that place is the one asked for.
     pub(crate) fn clear(&mut self)
         ensures { self.new ≡ [] }
     {
         self.literals.clear();
     }
 
-    /// One more.
+    /// Adds a literal that holds.
     pub(crate) fn put(&mut self, literal: Literal) -> Result<(), OutOfMemory>
         ensures { OnOk result (self.new ≡ self.old ++ literal ∷ []) }
     {

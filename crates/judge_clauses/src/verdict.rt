@@ -44,7 +44,7 @@ pub enum Judgement {
 }
 
 /// Goes over the steps, each after those before it, up to one without a literal.
-fn reach_nothing<L: Law, A: Allocator + Copy>(
+fn reach_empty_clause<L: Law, A: Allocator + Copy>(
     alloc: A,
     facts: &KnownFacts<A>,
     trail: &mut Trail<A>,
@@ -76,5 +76,5 @@ pub fn judge<L: Law, A: Allocator + Copy>(
 {
     let facts = KnownFacts::of(alloc, history, &refutation.atoms)?;
     let mut trail = Trail::new(alloc, refutation.atoms.len())?;
-    reach_nothing(alloc, &facts, &mut trail, &refutation.steps)
+    reach_empty_clause(alloc, &facts, &mut trail, &refutation.steps)
 }

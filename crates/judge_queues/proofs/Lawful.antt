@@ -20,12 +20,12 @@ use Rattle.judge_clauses.proofs.Validity.{valid-unless}
 use Rattle.judge_clauses.proofs.Walking.{row-there}
 use Rattle.judge_sums.specs.declared.bounds.Bounds.{Bounds}
 use Rattle.search_model.specs.declared.quantity.Quantity.TheVariants.{Takes, Additions, Shortening}
-use Rattle.judge_sums.specs.Between.{IsWithin}
+use Rattle.judge_sums.specs.Between.{IsBetween}
 use Rattle.search_model.specs.Quantities.{net_of}
 use Rattle.judge_sums.specs.Laws.{ComesTo}
 use Rattle.judge_sums.specs.Sums.{total}
 use Rattle.search_model.specs.Blocks.{added, added_of, takes_value}
-use Rattle.judge_queues.specs.Laws.{IsQueue, AsksIn, IsTaken, NoItem, AreListed, IsStuck}
+use Rattle.judge_queues.specs.Laws.{IsQueue, AsksIn, IsTaken, NoItem, AreNoSources, IsStuck}
 use Rattle.judge_queues.proofs.Running.{added-length}
 use Rattle.judge_queues.proofs.Adders.{added_before, adder-place, adder-stands, added-through}
 use Rattle.judge_queues.proofs.Placing.{item-found, place-found, own-found, empty-found, empty-at}
@@ -73,25 +73,25 @@ module _ (f : KnownFactsOf) (c : List Literal) where
 
   -- the place of what another one added
   pub valid-place : (take : Take) (a i : ℕ) (place : Bounds) → is_in f.history take.taker ≡ true → Unless f c (λ p. says f.history p (Item take a i) ≡ true) →
-      Unless f c (λ p. IsWithin place (total f.history (net_of f.history (Takes take.object)) p take.taker -ℤ total f.history (net_of f.history (Additions take.object)) p a)) →
-      (IsWithin place (pos i -ℤ pos take.number) → ⊥) → IsValid f c
+      Unless f c (λ p. IsBetween place (total f.history (net_of f.history (Takes take.object)) p take.taker -ℤ total f.history (net_of f.history (Additions take.object)) p a)) →
+      (IsBetween place (pos i -ℤ pos take.number) → ⊥) → IsValid f c
   valid-place take a i place there is between out =
       valid-unless f c (λ p shown broken.
       let at = addition-is (item_of f.history p take) a i (is p shown broken) in
       let found = place-found f.plan f.history take.object p take.taker shown there take.number a i at in
-      out (subst (IsWithin place) found.0 (between p shown broken)))
+      out (subst (IsBetween place) found.0 (between p shown broken)))
 
   -- the place of the taker's own addition
   pub valid-own : (take : Take) (i : ℕ) (place : Bounds) → is_in f.history take.taker ≡ true → Unless f c (λ p. says f.history p (Item take take.taker i) ≡ true) →
-      Unless f c (λ p. IsWithin place (total f.history (net_of f.history (Shortening take.object)) p take.taker)) → (IsWithin place (pos i -ℤ pos take.number) → ⊥) → IsValid f c
+      Unless f c (λ p. IsBetween place (total f.history (net_of f.history (Shortening take.object)) p take.taker)) → (IsBetween place (pos i -ℤ pos take.number) → ⊥) → IsValid f c
   valid-own take i place there is between out =
       valid-unless f c (λ p shown broken.
       let at = addition-is (item_of f.history p take) take.taker i (is p shown broken) in
-      out (subst (IsWithin place) (own-found f.plan f.history take.object p take.taker shown there take.number i at) (between p shown broken)))
+      out (subst (IsBetween place) (own-found f.plan f.history take.object p take.taker shown there take.number i at) (between p shown broken)))
 
   module _ (fine : IsWellFormed f.history) (within : IsWithinLimits f.plan f.history) where
     -- one of the additions that are listed is what is taken
-    pub valid-items : (take : Take) (v : ℤ) (e : ℕ) → IsQueue f take.object → IsTaken f take v e → NoItem f c take take.taker v e (row_of f.history take.taker).block.executions → AreListed f c take v → IsValid f c
+    pub valid-items : (take : Take) (v : ℤ) (e : ℕ) → IsQueue f take.object → IsTaken f take v e → NoItem f c take take.taker v e (row_of f.history take.taker).block.executions → AreNoSources f c take v → IsValid f c
     valid-items take v e is_queue taken own listed =
         valid-unless f c (λ p shown broken.
         let (d, (declared, opens)) = is_queue in

@@ -5,7 +5,7 @@ ghost use Rattle.aud_history.specs.Table.{RowOf, table_of};
 ghost use Rattle.judge_clauses.specs.Clauses.{says, Unless, IsValid};
 ghost use Rattle.judge_clauses.specs.declared.clause.Atom.TheVariants.{Item};
 ghost use Rattle.search_model.specs.Blocks.{is_addition_of};
-ghost use Rattle.judge_queues.specs.Laws.{NoItem, IsListed, AreListed};
+ghost use Rattle.judge_queues.specs.Laws.{NoItem, IsNoSource, AreNoSources};
 
 use crate::known::{is_queue, may_come, taken_by};
 use aud_history::TxRow;
@@ -68,14 +68,14 @@ fn is_none_item<A: Allocator + Copy>(
 
 /// Whether none of the row's additions of the value is what is taken where the clause does not hold, if the row commits and stands before
 /// the taker.
-fn is_listed<A: Allocator + Copy>(
+fn is_no_source<A: Allocator + Copy>(
     facts: &KnownFacts<A>,
     clause: &[Literal],
     take: Take,
     value: i64,
     row: &TxRow<A>,
 ) -> bool
-    ensures { IsTrue result → IsListed facts.now clause.now take value row.now }
+    ensures { IsTrue result → IsNoSource facts.now clause.now take value row.now }
 {
     let adder = row.tx();
     if !may_come(facts, adder, take.taker) {
@@ -88,35 +88,35 @@ fn is_listed<A: Allocator + Copy>(
 
 /// Whether none of the additions of the value by the row of the place is what is taken where the clause does not hold, if the row commits and
 /// stands before the taker. It looks at no executions of a row that does not touch the queue.
-fn is_listed_at<A: Allocator + Copy>(
+fn is_no_source_at<A: Allocator + Copy>(
     facts: &KnownFacts<A>,
     clause: &[Literal],
     take: Take,
     value: i64,
     place: usize,
 ) -> bool
-    ensures { IsTrue result → (row : RowOf) → slice_get (table_of facts.now.history) place ≡ Some row → IsListed facts.now clause.now take value row }
+    ensures { IsTrue result → (row : RowOf) → slice_get (table_of facts.now.history) place ≡ Some row → IsNoSource facts.now clause.now take value row }
 {
     if !facts.touches(place, take.object) {
         return true;
     }
     match facts.rows().get(place) {
-        Some(row) => is_listed(facts, clause, take, value, row),
+        Some(row) => is_no_source(facts, clause, take, value, row),
         None => false,
     }
 }
 
 /// Whether no addition of the value by a row that commits and stands before the taker is what is taken where the clause does not hold.
-fn are_listed<A: Allocator + Copy>(
+fn are_no_sources<A: Allocator + Copy>(
     facts: &KnownFacts<A>,
     clause: &[Literal],
     take: Take,
     value: i64,
 ) -> bool
-    ensures { IsTrue result → AreListed facts.now clause.now take value }
+    ensures { IsTrue result → AreNoSources facts.now clause.now take value }
 {
     for place in 0..facts.rows().len() {
-        if !is_listed_at(facts, clause, take, value, place) {
+        if !is_no_source_at(facts, clause, take, value, place) {
             return false;
         }
     }
@@ -149,5 +149,5 @@ pub(crate) fn lists_items<A: Allocator + Copy>(
     if !is_none_item(facts, clause, own, item.additions, row.block().executions()) {
         return false;
     }
-    are_listed(facts, clause, take, item.value)
+    are_no_sources(facts, clause, take, item.value)
 }

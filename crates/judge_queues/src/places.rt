@@ -5,7 +5,7 @@ ghost use Rattle.judge_clauses.specs.Clauses.{says, is_kept_in, Unless, IsValid}
 ghost use Rattle.aud_witness.specs.Orders.{stands_before};
 ghost use Rattle.judge_clauses.specs.declared.clause.Atom.TheVariants.{Item};
 ghost use Rattle.search_model.specs.declared.quantity.Quantity.TheVariants.{Takes, Additions, Shortening};
-ghost use Rattle.judge_sums.specs.Between.{IsWithin};
+ghost use Rattle.judge_sums.specs.Between.{IsBetween};
 ghost use Rattle.search_model.specs.Quantities.{net_of};
 ghost use Rattle.judge_sums.specs.Laws.{ComesTo};
 ghost use Rattle.judge_sums.specs.Sums.{total};
@@ -61,7 +61,7 @@ fn place_bounds<A: Allocator + Copy>(
     adder: u32,
 ) -> Result<Option<Bounds>, OutOfMemory>
     requires { Unless facts.now clause.now (λ p. stands_before p take.taker adder ≡ false) }
-    ensures { IfOk result (λ found. IfSome found (λ bounds. Unless facts.now clause.now (λ p. IsWithin bounds (total facts.now.history (net_of facts.now.history (Takes take.object)) p take.taker -ℤ total facts.now.history (net_of facts.now.history (Additions take.object)) p adder)))) }
+    ensures { IfOk result (λ found. IfSome found (λ bounds. Unless facts.now clause.now (λ p. IsBetween bounds (total facts.now.history (net_of facts.now.history (Takes take.object)) p take.taker -ℤ total facts.now.history (net_of facts.now.history (Additions take.object)) p adder)))) }
 {
     let taken = Quantity::Takes(take.object);
     let Some(takes) = sum_bounds(alloc, facts, clause, taken, take.taker)? else {

@@ -8,5 +8,5 @@ fits None b = true
 fits (Some c) b = if c then b else not b
 
 -- the number lies between them
-abbrev pub IsWithin : Bounds → ℤ → Type 0
-IsWithin bounds n = (bounds.low ≤ℤ n) × (n ≤ℤ bounds.high)
+abbrev pub IsBetween : Bounds → ℤ → Type 0
+IsBetween bounds n = (bounds.low ≤ℤ n) × (n ≤ℤ bounds.high)

@@ -18,5 +18,5 @@ abbrev pub HasRoomForAll : KnownFactsOf → ℕ → ℤ → Type 0
 HasRoomForAll f x n = (s : ℕ) → pos s ≡ sum_of (λ t. pos (reach_of f.history (Count x) t)) (transactions f.history) → HasRoom n s
 
 -- the one has so much more to either side than the other
-abbrev pub IsWider : Bounds → Bounds → ℤ → Type 0
-IsWider wide bounds s = (wide.low ≡ bounds.low -ℤ s) × (wide.high ≡ bounds.high +ℤ s)
+abbrev pub IsWiderBy : Bounds → Bounds → ℤ → Type 0
+IsWiderBy wide bounds s = (wide.low ≡ bounds.low -ℤ s) × (wide.high ≡ bounds.high +ℤ s)

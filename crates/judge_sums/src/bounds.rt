@@ -8,7 +8,7 @@ ghost use Rattle.judge_clauses.specs.declared.question.Question.TheVariants.{Doe
 ghost use Rattle.aud_history.specs.Table.{RowOf, table_of};
 ghost use Rattle.search_model.specs.Quantities.{net, net_of};
 ghost use Rattle.judge_sums.specs.Sums.{total};
-ghost use Rattle.judge_sums.specs.Between.{fits, IsWithin};
+ghost use Rattle.judge_sums.specs.Between.{fits, IsBetween};
 
 use crate::estimate::Estimate;
 use aud_event::OutOfMemory;
@@ -26,7 +26,7 @@ pub struct Bounds {
 impl Bounds {
     /// Those of the difference, if they are i64s.
     pub fn less(self, other: Bounds) -> Option<Bounds>
-        ensures { IfSome result (λ bounds. (m n : ℤ) → IsWithin self m → IsWithin other n → IsWithin bounds (m -ℤ n)) }
+        ensures { IfSome result (λ bounds. (m n : ℤ) → IsBetween self m → IsBetween other n → IsBetween bounds (m -ℤ n)) }
     {
         Some(Bounds {
             low: self.low.checked_sub(other.high)?,
@@ -36,7 +36,7 @@ impl Bounds {
 
     /// Whether the number does not lie between them.
     pub fn exclude(self, number: i64) -> bool
-        ensures { IsTrue result → IsWithin self number → ⊥ }
+        ensures { IsTrue result → IsBetween self number → ⊥ }
     {
         number < self.low || self.high < number
     }
@@ -47,7 +47,7 @@ pub(crate) const NOTHING: Bounds = Bounds { low: 0, high: 0 };
 
 /// What lies between the bounds.
 impl Estimate for Bounds {
-    ghost says = { IsWithin };
+    ghost says = { IsBetween };
 
     fn zero(self) -> Bounds {
         NOTHING
@@ -176,7 +176,7 @@ pub fn sum_bounds<A: Allocator + Copy>(
     quantity: Quantity,
     reader: u32,
 ) -> Result<Option<Bounds>, OutOfMemory>
-    ensures { IfOk result (λ found. IfSome found (λ bounds. Unless facts.now clause.now (λ p. IsWithin bounds (total facts.now.history (net_of facts.now.history quantity) p reader)))) }
+    ensures { IfOk result (λ found. IfSome found (λ bounds. Unless facts.now clause.now (λ p. IsBetween bounds (total facts.now.history (net_of facts.now.history quantity) p reader)))) }
 {
     estimated(alloc, NOTHING, facts, clause, quantity, reader)
 }
@@ -191,7 +191,7 @@ pub fn sum_bounds_without<A: Allocator + Copy>(
     out: u32,
 ) -> Result<Option<Bounds>, OutOfMemory>
     requires { Unless facts.now clause.now (λ p. stands_before p out reader ≡ false) }
-    ensures { IfOk result (λ found. IfSome found (λ bounds. Unless facts.now clause.now (λ p. IsWithin bounds (total facts.now.history (net_of facts.now.history quantity) p reader)))) }
+    ensures { IfOk result (λ found. IfSome found (λ bounds. Unless facts.now clause.now (λ p. IsBetween bounds (total facts.now.history (net_of facts.now.history quantity) p reader)))) }
 {
     let kept = facts.values(alloc, clause, Question::DoesCommit)?;
     let mut before = facts.values(alloc, clause, Question::StandsBefore(reader))?;

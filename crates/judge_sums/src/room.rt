@@ -5,7 +5,7 @@ ghost use Rattle.aud_history.specs.Table.{RowOf, transactions, table_of};
 ghost use Rattle.search_model.specs.declared.quantity.Quantity.TheVariants.{Count};
 ghost use Rattle.search_model.specs.Quantities.{reach_by, reaches, reach_of};
 ghost use Rattle.judge_sums.specs.Sums.{sum_of};
-ghost use Rattle.judge_sums.specs.Room.{HasRoomForAll, IsWider};
+ghost use Rattle.judge_sums.specs.Room.{HasRoomForAll, IsWiderBy};
 
 use crate::bounds::Bounds;
 use aud_object::Execution;
@@ -15,7 +15,7 @@ use std::alloc::Allocator;
 
 /// What a count lies between, if it lay between these before the execution.
 fn after_one(room: Bounds, counter: u16, execution: &Execution) -> Option<Bounds>
-    ensures { IfSome result (λ wide. IsWider wide room (pos (reach_by (Count counter) execution.now))) }
+    ensures { IfSome result (λ wide. IsWiderBy wide room (pos (reach_by (Count counter) execution.now))) }
 {
     let change = change_by(Quantity::Count(counter), execution);
     if change < 0 {
@@ -33,7 +33,7 @@ fn after_one(room: Bounds, counter: u16, execution: &Execution) -> Option<Bounds
 
 /// What a count lies between, if it lay between these before some of the executions ran.
 fn after_some(room: Bounds, counter: u16, executions: &[Execution]) -> Option<Bounds>
-    ensures { IfSome result (λ wide. IsWider wide room (pos (reaches (Count counter) executions.now))) }
+    ensures { IfSome result (λ wide. IsWiderBy wide room (pos (reaches (Count counter) executions.now))) }
 {
     let mut wide = room;
     for execution in executions {
@@ -49,7 +49,7 @@ fn after_row<A: Allocator + Copy>(
     facts: &KnownFacts<A>,
     place: usize,
 ) -> Option<Bounds>
-    ensures { IfSome result (λ wide. (row : RowOf) → slice_get (table_of facts.now.history) place ≡ Some row → IsWider wide room (pos (reaches (Count counter) row.block.executions))) }
+    ensures { IfSome result (λ wide. (row : RowOf) → slice_get (table_of facts.now.history) place ≡ Some row → IsWiderBy wide room (pos (reaches (Count counter) row.block.executions))) }
 {
     if !facts.touches(place, counter) {
         return Some(room);
@@ -64,7 +64,7 @@ fn after_rows<A: Allocator + Copy>(
     counter: u16,
     facts: &KnownFacts<A>,
 ) -> Option<Bounds>
-    ensures { IfSome result (λ wide. IsWider wide room (sum_of (λ t. pos (reach_of facts.now.history (Count counter) t)) (transactions facts.now.history))) }
+    ensures { IfSome result (λ wide. IsWiderBy wide room (sum_of (λ t. pos (reach_of facts.now.history (Count counter) t)) (transactions facts.now.history))) }
 {
     let mut wide = room;
     for place in 0..facts.rows().len() {

@@ -10,5 +10,5 @@ use Rattle.judge_clauses.proofs.verdict.judge.Goals as goal
 pub returns : goal.returns
 returns g c =
     let f = c.in_ok-facts.facts in
-    subst (λ (f : KnownFactsOf). IfOk c.reach_nothing.result (λ j. j ≡ Refutes → Refuted f.plan.objects f.history [])) c.in_ok-facts.ensures
-    (IfOk-weaker c.reach_nothing.result (λ j. j ≡ Refutes → IsValid f []) (λ j. j ≡ Refutes → Refuted f.plan.objects f.history []) (λ j valid so rest. valid-nothing f (valid so) rest) c.reach_nothing.ensures)
+    subst (λ (f : KnownFactsOf). IfOk c.reach_empty_clause.result (λ j. j ≡ Refutes → Refuted f.plan.objects f.history [])) c.in_ok-facts.ensures
+    (IfOk-weaker c.reach_empty_clause.result (λ j. j ≡ Refutes → IsValid f []) (λ j. j ≡ Refutes → Refuted f.plan.objects f.history []) (λ j valid so rest. valid-nothing f (valid so) rest) c.reach_empty_clause.ensures)

@@ -6,7 +6,7 @@ use Rattle.base_values.proofs.Bools.{is_false, nat_eq-is}
 use Rattle.judge_clauses.specs.Clauses.{Unless}
 use Rattle.judge_sums.specs.declared.bounds.Bounds.{Bounds}
 use Rattle.search_model.specs.declared.quantity.Quantity.TheVariants.{Takes, Additions}
-use Rattle.judge_sums.specs.Between.{IsWithin}
+use Rattle.judge_sums.specs.Between.{IsBetween}
 use Rattle.search_model.specs.Quantities.{net_of}
 use Rattle.judge_sums.specs.Sums.{total}
 use Rattle.judge_queues.proofs.Lawful.{taker-behind, valid-place}
@@ -22,8 +22,8 @@ returns-in-Some g c = λ so.
     let f = c.args.facts.now in
     let take = c.args.take in
     let bounds : Bounds = c.in-Some.bounds in
-    let between : Unless f c.args.clause.now (λ p. IsWithin bounds (total f.history (net_of f.history (Takes take.object)) p take.taker -ℤ total f.history (net_of f.history (Additions take.object)) p c.args.adder)) =
-    subst (λ (o : Option Bounds). IfSome o (λ b. Unless f c.args.clause.now (λ p. IsWithin b (total f.history (net_of f.history (Takes take.object)) p take.taker -ℤ total f.history (net_of f.history (Additions take.object)) p c.args.adder)))) c.in-Some.is c.in_ok-bounds.ensures in
+    let between : Unless f c.args.clause.now (λ p. IsBetween bounds (total f.history (net_of f.history (Takes take.object)) p take.taker -ℤ total f.history (net_of f.history (Additions take.object)) p c.args.adder)) =
+    subst (λ (o : Option Bounds). IfSome o (λ b. Unless f c.args.clause.now (λ p. IsBetween b (total f.history (net_of f.history (Takes take.object)) p take.taker -ℤ total f.history (net_of f.history (Additions take.object)) p c.args.adder)))) c.in-Some.is c.in_ok-bounds.ensures in
     let number : to_z w64 (of_z w64 c.place_of.result) ≡ pos c.args.addition -ℤ pos take.number = let is = c.place_of.ensures in omega (arith, ints, is) in
     valid-place f c.args.clause.now c.args.take c.args.adder c.args.addition bounds (c.is_there.ensures c.if-not-is_there.false) (c.is_so.ensures c.if-not-is_so.false) between
-    (λ w. c.exclude.ensures so (subst (IsWithin bounds) (sym number) w))
+    (λ w. c.exclude.ensures so (subst (IsBetween bounds) (sym number) w))

@@ -6,7 +6,7 @@ use Rattle.aud_object.specs.Blocks.{BlockOf}
 use Rattle.aud_history.specs.Table.{RowOf, table_of}
 use Rattle.search_model.specs.declared.quantity.Quantity.TheVariants.{Count}
 use Rattle.search_model.specs.Quantities.{reaches}
-use Rattle.judge_sums.specs.Room.{IsWider}
+use Rattle.judge_sums.specs.Room.{IsWiderBy}
 use Rattle.judge_sums.proofs.Adding.{reaches-untouched}
 use Rattle.judge_sums.proofs.Bounding.{found-row}
 use Rattle.judge_sums.proofs.room.after_row.Goals as goal
@@ -24,4 +24,4 @@ returns g c =
     IfSome_then c.after_some.result c.after_some.ensures
     (λ wide is row at.
     let same = whole ∙ ap (λ (r : RowOf). r.block.executions) (found-row (table_of c.args.facts.now.history) c.rows.result.now c.args.place found row c.rows.ensures (lookup.3).0 lookup.1 at) in
-    subst (λ es. IsWider wide c.args.room (pos (reaches (Count c.args.counter) es))) same is)
+    subst (λ es. IsWiderBy wide c.args.room (pos (reaches (Count c.args.counter) es))) same is)
