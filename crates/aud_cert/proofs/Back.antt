@@ -17,7 +17,7 @@ use Rattle.aud_text.proofs.JsonText.{json_of-text}
 use Rattle.aud_text.proofs.OrderText.{reads_back}
 use Rattle.aud_text.proofs.Spelling.{IsPlain, plain_reads, quoted_then}
 use Rattle.cert_accept.specs.declared.cert.CertLine.TheVariants.{Kids, Silent, Same}
-use Rattle.aud_cert.specs.LineText.{Line, line_read, line_judged}
+use Rattle.aud_cert.specs.LineText.{OwnCertLine, line_read, line_judged}
 use Rattle.aud_cert.specs.CertText.{header_members, header_read, lines_read, headed, lines_headed, with_line, cert_read}
 use Rattle.aud_cert.specs.Written.{line_text, header_text, ended, cert_text, IsShort, HasShort, IsWithin}
 use Rattle.aud_cert.proofs.Bytes.{plain-escape, order-plain}
@@ -26,7 +26,7 @@ use Rattle.aud_cert.specs.Limits.{longest_cert_line}
 
 -- ---- the values of lines
 
-abbrev line_data : Line → Data
+abbrev line_data : OwnCertLine → Data
 line_data (Kids p) = object (member (codes "by") (string (codes "kids")) (member (codes "p") (string (order_text p)) no_members))
 line_data (Silent p d) = object (member (codes "by") (string (codes "silent")) (member (codes "d") (string (decision_text d)) (member (codes "p") (string (order_text p)) no_members)))
 line_data (Same p q) = object (member (codes "as") (string (order_text q)) (member (codes "by") (string (codes "same")) (member (codes "p") (string (order_text p)) no_members)))
@@ -34,7 +34,7 @@ line_data (Same p q) = object (member (codes "as") (string (order_text q)) (memb
 abbrev header_data : ℕ → Data
 header_data n = object (member (codes "cert") (number (unsigned n)) no_members)
 
-line-plain : (line : Line) → IsPlain 1 (line_data line)
+line-plain : (line : OwnCertLine) → IsPlain 1 (line_data line)
 line-plain (Kids p) = record { same = refl; numbers = (tt, (tt, tt)); flat = omega arith }
 line-plain (Silent p d) = record { same = refl; numbers = (tt, (tt, (tt, tt))); flat = omega arith }
 line-plain (Same p q) = record { same = refl; numbers = (tt, (tt, (tt, tt))); flat = omega arith }
@@ -51,7 +51,7 @@ header-plain n h = record {
 short-plain : (p : List Decision) → IsShort p → escape (order_text p) ≡ order_text p
 short-plain p short = plain-escape (order_text p) (order-plain p short.ids)
 
-line-is : (line : Line) → HasShort line → compact_text (line_data line) ≡ line_text line
+line-is : (line : OwnCertLine) → HasShort line → compact_text (line_data line) ≡ line_text line
 unfolding escape_byte
 line-is (Kids p) short = ap (λ l. codes "{\"by\":\"kids\",\"p\":" ++ l) (quoted_then (order_text p) (125 ∷ []) (short-plain p short))
 line-is (Silent p d) short =
@@ -70,7 +70,7 @@ header-is n = refl
 read-short : (p : List Decision) → IsShort p → order_read (order_text p) ≡ Ok p
 read-short p short = reads_back p short.ids short.text
 
-judged : (line : Line) → HasShort line → line_judged (line_data line) ≡ Ok line
+judged : (line : OwnCertLine) → HasShort line → line_judged (line_data line) ≡ Ok line
 judged (Kids p) short = rw (read-short p short) refl
 judged (Silent p d) short = rw (read-short p short.0, read-short (d ∷ []) short.1) refl
 judged (Same p q) short = rw (read-short p short.0, read-short q short.1) refl
@@ -83,7 +83,7 @@ header-short n h =
     let parts : length (header_text n) ≡ 8 + (length (decimal n) + 1) = omega (arith, length-append (decimal n) (codes "}")) in
     grind (arith, digits, parts)
 
-pub line-back : (line : Line) → IsWithin line → line_read (line_text line) ≡ Ok line
+pub line-back : (line : OwnCertLine) → IsWithin line → line_read (line_text line) ≡ Ok line
 line-back line within =
     let t : nat_le (length (line_text line)) longest_cert_line ≡ true = grind (arith, within.text) in
     let utf8 = text-utf8 (line_text line) (line-are_text line within.orders) in
@@ -103,7 +103,7 @@ header-back n small =
 
 -- ---- the text
 
-lines-of : (lines : List Line) → All IsWithin lines → lines_of (flat_map (λ l. ended (line_text l)) lines) ≡ map line_text lines
+lines-of : (lines : List OwnCertLine) → All IsWithin lines → lines_of (flat_map (λ l. ended (line_text l)) lines) ≡ map line_text lines
 lines-of [] all = refl
 lines-of (line ∷ lines) all =
     let within = All-head IsWithin line lines all in
@@ -112,12 +112,12 @@ lines-of (line ∷ lines) all =
     ∙ ap (λ ls. line_text line ∷ ls) (lines-of lines (All-tail IsWithin line lines all))
 
 -- a written line, where it stands
-first-filled : (line : Line) (all n before : ℕ) (ls : List (List ℕ)) → (f : Filled) × ((filled_from all n before (line_text line ∷ ls) ≡ f ∷ filled_from all (n + 1) (before + length (line_text line) + 1) ls) × (f.line ≡ line_text line))
+first-filled : (line : OwnCertLine) (all n before : ℕ) (ls : List (List ℕ)) → (f : Filled) × ((filled_from all n before (line_text line ∷ ls) ≡ f ∷ filled_from all (n + 1) (before + length (line_text line) + 1) ls) × (f.line ≡ line_text line))
 first-filled (Kids p) all n before ls = (_, (refl, refl))
 first-filled (Silent p d) all n before ls = (_, (refl, refl))
 first-filled (Same p q) all n before ls = (_, (refl, refl))
 
-lines-back : (lines : List Line) (after all n before : ℕ) → All IsWithin lines → lines_read after (length lines) (filled_from all n before (map line_text lines)) ≡ Ok lines
+lines-back : (lines : List OwnCertLine) (after all n before : ℕ) → All IsWithin lines → lines_read after (length lines) (filled_from all n before (map line_text lines)) ≡ Ok lines
 lines-back [] after all n before within = refl
 lines-back (line ∷ lines) after all n before within =
     let (f, (is, same)) = first-filled line all n before (map line_text lines) in
@@ -127,7 +127,7 @@ lines-back (line ∷ lines) after all n before within =
     ∙ ap (λ x. with_line f.number x (lines_read after (length lines) (filled_from all (n + 1) (before + length (line_text line) + 1) (map line_text lines)))) here
     ∙ ap (λ x. with_line f.number (Ok line) x) rest
 
-pub certificates-read-back : (lines : List Line) → All IsWithin lines → length lines < 9223372036854775808 → cert_read (cert_text lines) ≡ Ok lines
+pub certificates-read-back : (lines : List OwnCertLine) → All IsWithin lines → length lines < 9223372036854775808 → cert_read (cert_text lines) ≡ Ok lines
 certificates-read-back lines within few =
     let whole = cert_text lines in
     let header = header_text (length lines) in

@@ -59,14 +59,14 @@ small-from_few p low few = let long = order-length p low in record { ids = low; 
 short-from_small : (p : List Decision) → IsSmall p → IsShort p
 short-from_small p small = let text = small.text in record { ids = small.ids; text = omega (arith, text) }
 
--- a list of one decision
+-- an order of one decision
 small-one : (d : Decision) → Low d → IsSmall (d ∷ [])
 small-one d low = small-from_few (d ∷ []) (All-cons Low d [] low (All-nil Low)) (omega arith)
 
 prefix-length : (p : List Decision) → IsSmall p → length (prefix_text p) ≤ 24592
 prefix-length p small = let text = small.text in omega (arith, text, length-append (order_text p) (codes "\"}"))
 
--- # Lines of small lists
+-- # Lines of small prefixes
 
 abbrev HasSmall : {X : Type 0} → CertLine X → Type 0
 HasSmall (Kids p) = IsSmall p

@@ -9,7 +9,7 @@ use Rattle.aud_witness.specs.declared.decision.Decision.{Decision}
 use Rattle.aud_text.specs.Lines.{lines_of}
 use Rattle.aud_text.specs.Orders.{order_text, decision_text}
 use Rattle.cert_accept.specs.declared.cert.CertLine.TheVariants.{Kids, Silent, Same}
-use Rattle.aud_cert.specs.LineText.{Line}
+use Rattle.aud_cert.specs.LineText.{OwnCertLine}
 use Rattle.aud_cert.specs.Written.{prefix_text, line_text, header_text, IsShort, HasShort}
 use Rattle.aud_cert.proofs.Bytes.{IsPlainByte, ArePlain, decimal-plain, order-plain}
 use Rattle.base_values.proofs.Bools.{and_true}
@@ -44,7 +44,7 @@ decided-are_text : (before : List ℕ) (p : List Decision) (d : Decision) → ar
 decided-are_text before p d first short =
     between before (prefix_text p) (d ∷ []) short.1 first (between (codes "\",\"p\":\"") (codes "\"}") p short.0 refl refl)
 
-pub line-are_text : (line : Line) → HasShort line → are_text (line_text line) ≡ true
+pub line-are_text : (line : OwnCertLine) → HasShort line → are_text (line_text line) ≡ true
 line-are_text (Kids p) short = between (codes "{\"by\":\"kids\",\"p\":\"") (codes "\"}") p short refl refl
 line-are_text (Silent p d) short = decided-are_text (codes "{\"by\":\"silent\",\"d\":\"") p d refl short
 line-are_text (Same p q) short =

@@ -7,14 +7,14 @@ use Rattle.std.proofs.lemmas.List.Elements.{All-map}
 use Rattle.cert_accept.specs.declared.cert.CertLine.{CertLine}
 use Rattle.cert_accept.specs.declared.cert.CertLine.TheVariants.{Kids, Silent, Same}
 use Rattle.cert_accept.specs.Acceptance.{elsewhere}
-use Rattle.aud_cert.specs.LineText.{Line, line_read}
+use Rattle.aud_cert.specs.LineText.{OwnCertLine, line_read}
 use Rattle.aud_cert.specs.CertText.{cert_read}
 use Rattle.aud_cert.specs.Written.{line_text, header_text, ended, cert_text, HasShort, IsWithin}
 use Rattle.aud_cert.proofs.Back.{line-back, certificates-read-back}
 use Rattle.aud_cert.specs.Limits.{longest_cert_line}
 
 -- a line in memory of another kind has the same text, and is as short
-abbrev own : {X : Type 0} → CertLine X → Line
+abbrev own : {X : Type 0} → CertLine X → OwnCertLine
 own l = elsewhere l
 
 same-text : {X : Type 0} (l : CertLine X) → line_text l ≡ line_text (own l)

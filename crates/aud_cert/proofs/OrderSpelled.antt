@@ -24,7 +24,7 @@ digit-more text rest more n d some low digit is next =
     let step : decimal (n * 10 + d) ≡ decimal n ++ (48 + d) ∷ [] = decimal_step (n * 10 + d) (omega arith) (omega arith) ∙ (λ i. decimal (front i) ++ (48 + last i) ∷ []) in
     is ∙ ap (λ t. decimal n ++ t) next ∙ sym (append_assoc (decimal n) ((48 + d) ∷ []) more) ∙ ap (λ t. t ++ more) (sym step)
 
--- a list of one
+-- an order of one
 pub only-is : (ds : List Decision) (d : Decision) → only_of ds ≡ Some d → ds ≡ d ∷ []
 only-is [] d is = absurd (cc)
 only-is (e ∷ []) d is = let same : e ≡ d = cc in ap (λ x. x ∷ []) same

@@ -7,7 +7,7 @@ use Rattle.aud_text.specs.declared.fault.TextFault.TheVariants as fault
 use Rattle.aud_text.specs.Json.{Key, json_read, has_all, has_only, whole_at}
 use Rattle.aud_text.specs.Lines.{Filled, lines_of, filled_left, filled_lines}
 use Rattle.aud_cert.specs.declared.fault.CertTextFault.{CertTextFault}
-use Rattle.aud_cert.specs.LineText.{Line, line_read}
+use Rattle.aud_cert.specs.LineText.{OwnCertLine, line_read}
 use Rattle.aud_cert.specs.Limits.{longest_cert_line}
 
 -- ---- the header line
@@ -49,30 +49,30 @@ abbrev pub at_line : ℕ → TextFault → CertTextFault
 at_line n e = record { line = n; fault = e }
 
 -- a line before the later ones; of two faults that of the earlier line
-abbrev pub with_line : ℕ → Result Line TextFault → Result (List Line) CertTextFault → Result (List Line) CertTextFault
+abbrev pub with_line : ℕ → Result OwnCertLine TextFault → Result (List OwnCertLine) CertTextFault → Result (List OwnCertLine) CertTextFault
 with_line n (Err e) later = Err (at_line n e)
 with_line n (Ok line) (Err e) = Err e
 with_line n (Ok line) (Ok lines) = Ok (line ∷ lines)
 
 -- so many lines and no more; `after` is the number of the line after the text's last
-abbrev pub lines_read : ℕ → ℕ → List Filled → Result (List Line) CertTextFault
+abbrev pub lines_read : ℕ → ℕ → List Filled → Result (List OwnCertLine) CertTextFault
 lines_read after zero [] = Ok []
 lines_read after zero (l ∷ ls) = Err (at_line l.number fault.KeyUnknown)
 lines_read after (suc k) [] = Err (at_line after fault.KeyMissing)
 lines_read after (suc k) (l ∷ ls) = with_line l.number (line_read l.line) (lines_read after k ls)
 
 -- the same of what is left of a text, from a line of this number on
-abbrev pub lines_left : List ℕ → List ℕ → ℕ → ℕ → Result (List Line) CertTextFault
+abbrev pub lines_left : List ℕ → List ℕ → ℕ → ℕ → Result (List OwnCertLine) CertTextFault
 lines_left text left number count = lines_read (length (lines_of text) + 1) count (filled_left (length text) number left)
 
-abbrev pub headed : ℕ → ℕ → Result ℕ TextFault → List Filled → Result (List Line) CertTextFault
+abbrev pub headed : ℕ → ℕ → Result ℕ TextFault → List Filled → Result (List OwnCertLine) CertTextFault
 headed after n (Err e) ls = Err (at_line n e)
 headed after n (Ok count) ls = lines_read after count ls
 
-abbrev pub lines_headed : ℕ → List Filled → Result (List Line) CertTextFault
+abbrev pub lines_headed : ℕ → List Filled → Result (List OwnCertLine) CertTextFault
 lines_headed after [] = Err (at_line after fault.KeyMissing)
 lines_headed after (l ∷ ls) = headed after l.number (header_read l.line) ls
 
 -- the lines that a text says, or its first fault
-abbrev pub cert_read : List ℕ → Result (List Line) CertTextFault
+abbrev pub cert_read : List ℕ → Result (List OwnCertLine) CertTextFault
 cert_read text = lines_headed (length (lines_of text) + 1) (filled_lines text)

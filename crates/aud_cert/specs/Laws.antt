@@ -4,19 +4,19 @@ use Rattle.aud_event.specs.Meanings.{PlanOf}
 use Rattle.aud_history.specs.Histories.{History}
 use Rattle.aud_history.specs.FirstFault.{IsWithinLimits}
 use Rattle.cert_accept.specs.Acceptance.{IsAccepted}
-use Rattle.aud_cert.specs.LineText.{Line}
+use Rattle.aud_cert.specs.LineText.{OwnCertLine}
 use Rattle.aud_cert.specs.CertText.{cert_read}
 use Rattle.aud_cert.specs.Written.{cert_text, IsWithin}
 
 -- what is written of the lines reads as them
-abbrev pub ReadsAsThem : List Line → Type 0
+abbrev pub ReadsAsThem : List OwnCertLine → Type 0
 ReadsAsThem lines = length lines < 2 ^ 63 → cert_read (cert_text lines) ≡ Ok lines
 
 -- what is written of lines within the limits reads as them
 abbrev pub CertificatesReadBack : Type 0
-CertificatesReadBack = (lines : List Line) → All IsWithin lines → ReadsAsThem lines
+CertificatesReadBack = (lines : List OwnCertLine) → All IsWithin lines → ReadsAsThem lines
 
 -- each line of what is accepted is within the limits, and what is written of the lines reads as them
 abbrev pub AcceptedReadsBack : Type 0
-AcceptedReadsBack = (plan : PlanOf) (h : History) (lines : List Line) → IsWithinLimits plan h → IsAccepted plan.objects h lines →
+AcceptedReadsBack = (plan : PlanOf) (h : History) (lines : List OwnCertLine) → IsWithinLimits plan h → IsAccepted plan.objects h lines →
     All IsWithin lines × ReadsAsThem lines

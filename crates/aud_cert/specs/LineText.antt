@@ -15,9 +15,9 @@ use Rattle.aud_cert.specs.declared.reason.ByWord.{ByWord}
 use Rattle.aud_cert.specs.declared.reason.ByWord.TheVariants as by
 use Rattle.aud_cert.specs.Limits.{longest_cert_line}
 
--- a line that is read, its lists in memory of the program's own allocator
-abbrev pub Line : Type 0
-Line = CertLine Global
+-- a line that is read, its prefixes in memory of the program's own allocator
+abbrev pub OwnCertLine : Type 0
+OwnCertLine = CertLine Global
 
 -- ---- the reason
 
@@ -66,17 +66,17 @@ abbrev pub is_out_of_range : OrderText → Bool
 is_out_of_range (Some (Err fault.TypeOrRange)) = true
 is_out_of_range _ = false
 
--- the one decision of a list of one
+-- the one decision of an order of one
 abbrev pub only_of : List Decision → Option Decision
 only_of (d ∷ []) = Some d
 only_of _ = None
 
--- the list, where it is read
-abbrev pub list_of : OrderText → Option (List Decision)
-list_of (Some (Ok ds)) = Some ds
-list_of _ = None
+-- the order, where it is read
+abbrev pub read_order : OrderText → Option (List Decision)
+read_order (Some (Ok ds)) = Some ds
+read_order _ = None
 
--- a list that is read has one decision
+-- an order that is read has one decision
 abbrev pub is_one : OrderText → Bool
 is_one (Some (Ok ds)) = is_some (only_of ds)
 is_one _ = true
@@ -87,11 +87,11 @@ abbrev pub all_texts : Data → Bool
 all_texts d = text_fits (codes "as") d && (text_fits (codes "by") d && (text_fits (codes "d") d && text_fits (codes "p") d))
 
 -- the line of a reason, where the order texts that it needs are read
-abbrev pub line_of : Option ByWord → OrderText → OrderText → OrderText → Option Line
+abbrev pub line_of : Option ByWord → OrderText → OrderText → OrderText → Option OwnCertLine
 line_of None p d q = None
-line_of (Some by.Kids) p d q = option_map (λ l. Kids l) (list_of p)
-line_of (Some by.Silent) p d q = option_and_then (λ l. option_map (λ e. Silent l e) (option_and_then only_of (list_of d))) (list_of p)
-line_of (Some by.Same) p d q = option_and_then (λ l. option_map (λ m. Same l m) (list_of q)) (list_of p)
+line_of (Some by.Kids) p d q = option_map (λ l. Kids l) (read_order p)
+line_of (Some by.Silent) p d q = option_and_then (λ l. option_map (λ e. Silent l e) (option_and_then only_of (read_order d))) (read_order p)
+line_of (Some by.Same) p d q = option_and_then (λ l. option_map (λ m. Same l m) (read_order q)) (read_order p)
 
 -- the least fault of a line that is an object: of its keys, by the reason, of the types, and of the order texts `p`, `d` and `as`
 abbrev pub fault_of : Data → Members → Option ByWord → OrderText → OrderText → OrderText → Option TextFault
@@ -107,26 +107,26 @@ abbrev pub fault_with : Data → Members → Option ByWord → OrderTexts → Op
 fault_with e ms reason texts = fault_of e ms reason texts.prefix texts.decision texts.other
 
 -- where there is no such fault, only a word is unknown if there is no line
-abbrev pub line_unless : Option TextFault → Option Line → Result Line TextFault
+abbrev pub line_unless : Option TextFault → Option OwnCertLine → Result OwnCertLine TextFault
 line_unless (Some e) line = Err e
 line_unless None (Some line) = Ok line
 line_unless None None = Err fault.UnknownWord
 
 abbrev pub line_by : Data → Members → Option ByWord → OrderText → OrderText → OrderText →
-    Result Line TextFault
+    Result OwnCertLine TextFault
 line_by e ms reason p d q = line_unless (fault_of e ms reason p d q) (line_of reason p d q)
 
-abbrev pub line_members : Data → Option Members → Result Line TextFault
+abbrev pub line_members : Data → Option Members → Result OwnCertLine TextFault
 line_members e None = Err fault.NotObject
 line_members e (Some ms) = line_by e ms (reason_at e) (order_at_key (codes "p") e) (order_at_key (codes "d") e) (order_at_key (codes "as") e)
 
-abbrev pub line_judged : Data → Result Line TextFault
+abbrev pub line_judged : Data → Result OwnCertLine TextFault
 line_judged e = line_members e (as_object e)
 
-abbrev pub line_json : Result Data TextFault → Result Line TextFault
+abbrev pub line_json : Result Data TextFault → Result OwnCertLine TextFault
 line_json (Err e) = Err e
 line_json (Ok e) = line_judged e
 
 -- what a line of at most 65,536 bytes says
-abbrev pub line_read : List ℕ → Result Line TextFault
+abbrev pub line_read : List ℕ → Result OwnCertLine TextFault
 line_read line = line_json (json_read longest_cert_line line)

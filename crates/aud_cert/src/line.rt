@@ -3,7 +3,7 @@
 ghost use Rattle.std.specs.Prelude.{◌≡◌, ◌⊎◌, Ok, Err, codes, IfOk, MatchResult};
 ghost use Rattle.serde_json.specs.View.{view, members_view};
 ghost use Rattle.cert_accept.specs.Acceptance.{elsewhere};
-ghost use Rattle.aud_cert.specs.LineText.{order_at_key, is_long, is_out_of_range, is_one, all_texts, only_of, list_of, fault_with, line_of, line_judged, line_read};
+ghost use Rattle.aud_cert.specs.LineText.{order_at_key, is_long, is_out_of_range, is_one, all_texts, only_of, read_order, fault_with, line_of, line_judged, line_read};
 
 use crate::reason::{ByWord, allowed_keys, reason_in, required_keys};
 use crate::spelled::line_spelled;
@@ -90,7 +90,7 @@ fn has_one(text: &OrderText) -> bool
     ensures { result ≡ is_one text.now }
 {
     match text {
-        Some(Ok(list)) => only(list.decisions()).is_some(),
+        Some(Ok(order)) => only(order.decisions()).is_some(),
         _ => true,
     }
 }
@@ -138,11 +138,11 @@ fn fault_in(
     None
 }
 
-fn list_in(text: OrderText) -> Option<Prefix>
-    ensures { result ≡ list_of text }
+fn prefix_from(text: OrderText) -> Option<Prefix>
+    ensures { result ≡ read_order text }
 {
     match text {
-        Some(Ok(list)) => Some(list),
+        Some(Ok(order)) => Some(order),
         _ => None,
     }
 }
@@ -152,16 +152,16 @@ fn line_in(reason: Option<ByWord>, texts: OrderTexts) -> Option<CertLine>
     ensures { result ≡ line_of reason texts.prefix texts.decision texts.other }
 {
     let reason = reason?;
-    let prefix = list_in(texts.prefix)?;
+    let prefix = prefix_from(texts.prefix)?;
     match reason {
         ByWord::Kids => Some(CertLine::Kids(prefix)),
         ByWord::Silent => {
-            let list = list_in(texts.decision)?;
-            let decision = only(list.decisions())?;
+            let order = prefix_from(texts.decision)?;
+            let decision = only(order.decisions())?;
             Some(CertLine::Silent(prefix, decision))
         }
         ByWord::Same => {
-            let other = list_in(texts.other)?;
+            let other = prefix_from(texts.other)?;
             Some(CertLine::Same(prefix, other))
         }
     }
@@ -208,19 +208,19 @@ fn moved<A: Allocator + Copy>(alloc: A, line: &CertLine) -> Result<CertLine<A>, 
     }
 }
 
-/// The line that a text says, or the least fault that it deserves. Its prefixes are in the memory of `lists`; the list is room that each call
+/// The line that a text says, or the least fault that it deserves. Its prefixes are in the memory of `prefixes`; `scratch` is room that each call
 /// writes over.
 pub(crate) fn read_line<A: Allocator + Copy>(
     alloc: Global,
-    lists: A,
+    prefixes: A,
     line: &[u8],
-    list: &mut Vec<Decision>,
+    scratch: &mut Vec<Decision>,
 ) -> Result<CertLine<A>, TextFault>
     ensures { MatchResult result (λ l. line_read line.now ≡ Ok (elsewhere l))
         (λ e. (e ≡ TextFault.OutOfMemory) ⊎ (line_read line.now ≡ Err e)) }
 {
     // Most lines are spelled as they are written here, and need no JSON value.
-    if let Some(read) = line_spelled(lists, line, list) {
+    if let Some(read) = line_spelled(prefixes, line, scratch) {
         return Ok(read);
     }
     let value = match json_in(alloc, line, CERT_LINE_MAX) {
@@ -231,7 +231,7 @@ pub(crate) fn read_line<A: Allocator + Copy>(
         Ok(read) => read,
         Err(fault) => return Err(fault),
     };
-    match moved(lists, &read) {
+    match moved(prefixes, &read) {
         Ok(moved) => Ok(moved),
         Err(_) => Err(TextFault::OutOfMemory),
     }

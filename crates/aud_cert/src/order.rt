@@ -1,4 +1,4 @@
-//! Reading a list of decisions where it stands in a line, in one pass and up to the byte after it.
+//! Reading decisions where they stand in a line, in one pass and up to the byte after it.
 
 ghost use Rattle.std.specs.Prelude.{◌≡◌, ◌<◌, ◌≤◌, ◌++◌, ◌∷◌, ◌+◌, All, IfSome, decimal, length};
 ghost use Rattle.aud_event.specs.Limits.{most_transactions};
@@ -74,38 +74,38 @@ fn next_at(text: &[u8]) -> Option<(Decision, &[u8])>
     }
 }
 
-/// Puts the decisions that a text begins with into the list, in the place of what it had, and answers what stands after them.
-fn list_at<'l>(text: &'l [u8], list: &mut Vec<Decision>) -> Option<&'l [u8]>
-    ensures spelled { IfSome result (λ rest. text.now ≡ order_text list.new.items ++ rest.now) }
-    ensures low { IfSome result (λ rest. All Low list.new.items) }
+/// Puts the decisions that a text begins with into `scratch`, in the place of what it had, and answers what stands after them.
+fn decisions_at<'l>(text: &'l [u8], scratch: &mut Vec<Decision>) -> Option<&'l [u8]>
+    ensures spelled { IfSome result (λ rest. text.now ≡ order_text scratch.new.items ++ rest.now) }
+    ensures low { IfSome result (λ rest. All Low scratch.new.items) }
 {
-    list.clear();
+    scratch.clear();
     if let Some(rest) = after(text, "none") {
         return Some(rest);
     }
     let (first, mut rest) = decision_at(text)?;
-    list.push(first).ok()?;
+    scratch.push(first).ok()?;
     'decisions: while let Some((decision, more)) = next_at(rest) {
-        list.push(decision).ok()?;
+        scratch.push(decision).ok()?;
         rest = more;
     }
     Some(rest)
 }
 
 /// The decisions that the text begins with, in memory of their own and no more than they need, and what stands after them.
-/// The list is room that each call writes over.
+/// `scratch` is room that each call writes over.
 pub(crate) fn order_at<'l, A: Allocator>(
     alloc: A,
     text: &'l [u8],
-    list: &mut Vec<Decision>,
+    scratch: &mut Vec<Decision>,
 ) -> Option<(Prefix<A>, &'l [u8])>
     ensures spelled { IfSome result (λ r. text.now ≡ order_text r.0 ++ r.1.now) }
     ensures short { IfSome result (λ r. IsShort r.0) }
 {
-    let rest = list_at(text, list)?;
+    let rest = decisions_at(text, scratch)?;
     if text.len() - rest.len() > ORDER_MAX {
         return None;
     }
-    let order = Prefix::copy_of(alloc, list).ok()?;
+    let order = Prefix::copy_of(alloc, scratch).ok()?;
     Some((order, rest))
 }

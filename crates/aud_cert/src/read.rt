@@ -89,7 +89,7 @@ fn most_lines(count: u64, left: usize) -> usize {
 /// The certificate's lines, as many as the header says of what is left of the text. No line that is not empty comes after them.
 fn read_lines<A: Allocator + Copy>(
     alloc: Global,
-    lists: A,
+    prefixes: A,
     text: &[u8],
     left: &[u8],
     number: usize,
@@ -100,10 +100,10 @@ fn read_lines<A: Allocator + Copy>(
     ensures { MatchResult result (λ lines. lines_left text.now left.now number count ≡ Ok (map elsewhere lines.items))
         (λ e. (e.fault ≡ TextFault.OutOfMemory) ⊎ (lines_left text.now left.now number count ≡ Err e)) }
 {
-    let mut list = Vec::new(alloc);
+    let mut scratch = Vec::new(alloc);
     let mut rest = left;
     let mut line = number;
-    let Ok(mut lines) = Vec::with_capacity(lists, most_lines(count, left.len())) else {
+    let Ok(mut lines) = Vec::with_capacity(prefixes, most_lines(count, left.len())) else {
         return Err(CertTextFault {
             line,
             fault: TextFault::OutOfMemory,
@@ -114,7 +114,7 @@ fn read_lines<A: Allocator + Copy>(
             return Err(ends_early(text));
         };
         line = next.number;
-        let read = match read_line(alloc, lists, next.line, &mut list) {
+        let read = match read_line(alloc, prefixes, next.line, &mut scratch) {
             Ok(read) => read,
             Err(fault) => return Err(CertTextFault { line, fault }),
         };
@@ -147,10 +147,10 @@ pub fn read_cert(alloc: Global, text: &[u8]) -> Result<Cert, CertTextFault>
     read_cert_into(alloc, alloc, text)
 }
 
-/// The same, with the lines and their lists in the memory of `lists`: for an arena, where all of them go at once.
+/// The certificate that a text says, with the lines and their prefixes in the memory of `prefixes`: for an arena, where all of them go at once.
 pub fn read_cert_into<A: Allocator + Copy>(
     alloc: Global,
-    lists: A,
+    prefixes: A,
     text: &[u8],
 ) -> Result<Cert<A>, CertTextFault>
     ensures { MatchResult result (λ cert. cert_read text.now ≡ Ok (map elsewhere cert.lines.items))
@@ -164,7 +164,7 @@ pub fn read_cert_into<A: Allocator + Copy>(
         Ok(count) => count,
         Err(fault) => return Err(CertTextFault { line, fault }),
     };
-    match read_lines(alloc, lists, text, first.rest, line + 1, count) {
+    match read_lines(alloc, prefixes, text, first.rest, line + 1, count) {
         Ok(lines) => Ok(Cert { lines }),
         Err(fault) => Err(fault),
     }

@@ -16,7 +16,7 @@ use Rattle.aud_lattice.specs.Covers.{covers, IsCover}
 use Rattle.aud_lattice.specs.Covering.{cover_cover_union, covers-cover_union, same_cover}
 use Rattle.aud_lattice.specs.Least.{reaches}
 use Rattle.aud_lattice.specs.Leasts.{reaches-least_of, same_least}
-use Rattle.aud_know.specs.Norms.{Atom, fact, refuted, shown, facts_of, refuted_of, shown_of, Norm, least_in, norm, merge, witness_atoms, atoms_of, IsNormal}
+use Rattle.aud_know.specs.Norms.{AtomOf, fact, refuted, shown, facts_of, refuted_of, shown_of, Norm, least_in, norm, merge, witness_atoms, atoms_of, IsNormal}
 use Rattle.base_values.proofs.Bools.{or_nothing, or_assoc, same_bools}
 use Rattle.std.proofs.lemmas.List.{append-nil}
 
@@ -46,25 +46,25 @@ refuted-witness F D (Some p) = refl
 
 -- the parts of atoms
 module _ {F D : Type 0} where
-  pub facts-append : (X Y : List (Atom F D)) → facts_of (X ++ Y) ≡ facts_of X ++ facts_of Y
+  pub facts-append : (X Y : List (AtomOf F D)) → facts_of (X ++ Y) ≡ facts_of X ++ facts_of Y
   facts-append [] Y = refl
   facts-append (fact f ∷ X) Y = ap (λ l. f ∷ l) (facts-append X Y)
   facts-append (refuted p ∷ X) Y = facts-append X Y
   facts-append (shown p ∷ X) Y = facts-append X Y
 
-  pub refuted-append : (X Y : List (Atom F D)) → refuted_of (X ++ Y) ≡ refuted_of X ++ refuted_of Y
+  pub refuted-append : (X Y : List (AtomOf F D)) → refuted_of (X ++ Y) ≡ refuted_of X ++ refuted_of Y
   refuted-append [] Y = refl
   refuted-append (fact f ∷ X) Y = refuted-append X Y
   refuted-append (refuted p ∷ X) Y = ap (λ l. p ∷ l) (refuted-append X Y)
   refuted-append (shown p ∷ X) Y = refuted-append X Y
 
-  pub shown-append : (X Y : List (Atom F D)) → shown_of (X ++ Y) ≡ shown_of X ++ shown_of Y
+  pub shown-append : (X Y : List (AtomOf F D)) → shown_of (X ++ Y) ≡ shown_of X ++ shown_of Y
   shown-append [] Y = refl
   shown-append (fact f ∷ X) Y = shown-append X Y
   shown-append (refuted p ∷ X) Y = shown-append X Y
   shown-append (shown p ∷ X) Y = ap (λ l. p ∷ l) (shown-append X Y)
 
-  pub fact_there : (X : List (Atom F D)) (f : F) → Contains (facts_of X) f → Contains X (fact f)
+  pub fact_there : (X : List (AtomOf F D)) (f : F) → Contains (facts_of X) f → Contains X (fact f)
   fact_there [] f h = absurd (let lt = h.1 in omega arith)
   fact_there (fact g ∷ X) f h = elim (first_or_later g f (facts_of X) h) [
     | inl e ↦ subst (λ x. Contains (fact g ∷ X) (fact x)) e (here (fact g) X)
@@ -73,7 +73,7 @@ module _ {F D : Type 0} where
   fact_there (refuted p ∷ X) f h = later (refuted p) (fact f) X (fact_there X f h)
   fact_there (shown p ∷ X) f h = later (shown p) (fact f) X (fact_there X f h)
 
-  pub refuted_there : (X : List (Atom F D)) (p : List D) → Contains (refuted_of X) p → Contains X (refuted p)
+  pub refuted_there : (X : List (AtomOf F D)) (p : List D) → Contains (refuted_of X) p → Contains X (refuted p)
   refuted_there [] p h = absurd (let lt = h.1 in omega arith)
   refuted_there (refuted q ∷ X) p h = elim (first_or_later q p (refuted_of X) h) [
     | inl e ↦ subst (λ x. Contains (refuted q ∷ X) (refuted x)) e (here (refuted q) X)
@@ -82,7 +82,7 @@ module _ {F D : Type 0} where
   refuted_there (fact f ∷ X) p h = later (fact f) (refuted p) X (refuted_there X p h)
   refuted_there (shown q ∷ X) p h = later (shown q) (refuted p) X (refuted_there X p h)
 
-  pub shown_there : (X : List (Atom F D)) (p : List D) → Contains (shown_of X) p → Contains X (shown p)
+  pub shown_there : (X : List (AtomOf F D)) (p : List D) → Contains (shown_of X) p → Contains X (shown p)
   shown_there [] p h = absurd (let lt = h.1 in omega arith)
   shown_there (shown q ∷ X) p h = elim (first_or_later q p (shown_of X) h) [
     | inl e ↦ subst (λ x. Contains (shown q ∷ X) (shown x)) e (here (shown q) X)
@@ -92,31 +92,31 @@ module _ {F D : Type 0} where
   shown_there (refuted q ∷ X) p h = later (refuted q) (shown p) X (shown_there X p h)
 
   -- which fact, prefix or witness an atom is
-  abbrev IsFact : F → Atom F D → Type 0
+  abbrev IsFact : F → AtomOf F D → Type 0
   IsFact f (fact g) = g ≡ f
   IsFact f (refuted p) = ⊥
   IsFact f (shown p) = ⊥
 
-  abbrev IsRefuted : List D → Atom F D → Type 0
+  abbrev IsRefuted : List D → AtomOf F D → Type 0
   IsRefuted p (fact g) = ⊥
   IsRefuted p (refuted q) = q ≡ p
   IsRefuted p (shown q) = ⊥
 
-  abbrev IsShown : List D → Atom F D → Type 0
+  abbrev IsShown : List D → AtomOf F D → Type 0
   IsShown p (fact g) = ⊥
   IsShown p (refuted q) = ⊥
   IsShown p (shown q) = q ≡ p
 
-  back_fact : (f : F) (a : Atom F D) → a ≡ fact f → IsFact f a
+  back_fact : (f : F) (a : AtomOf F D) → a ≡ fact f → IsFact f a
   back_fact f a e = subst (IsFact f) (sym e) refl
 
-  back_refuted : (p : List D) (a : Atom F D) → a ≡ refuted p → IsRefuted p a
+  back_refuted : (p : List D) (a : AtomOf F D) → a ≡ refuted p → IsRefuted p a
   back_refuted p a e = subst (IsRefuted p) (sym e) refl
 
-  back_shown : (p : List D) (a : Atom F D) → a ≡ shown p → IsShown p a
+  back_shown : (p : List D) (a : AtomOf F D) → a ≡ shown p → IsShown p a
   back_shown p a e = subst (IsShown p) (sym e) refl
 
-  pub there_fact : (X : List (Atom F D)) (f : F) → Contains X (fact f) → Contains (facts_of X) f
+  pub there_fact : (X : List (AtomOf F D)) (f : F) → Contains X (fact f) → Contains (facts_of X) f
   there_fact [] f h = absurd (let lt = h.1 in omega arith)
   there_fact (fact x ∷ X) f h = elim (first_or_later (fact x) (fact f) X h) [
     | inl e ↦ subst (Contains (x ∷ facts_of X)) (back_fact f (fact x) e) (here x (facts_of X))
@@ -131,7 +131,7 @@ module _ {F D : Type 0} where
     | inr rest ↦ there_fact X f rest
   ]
 
-  pub there_refuted : (X : List (Atom F D)) (p : List D) → Contains X (refuted p) → Contains (refuted_of X) p
+  pub there_refuted : (X : List (AtomOf F D)) (p : List D) → Contains X (refuted p) → Contains (refuted_of X) p
   there_refuted [] p h = absurd (let lt = h.1 in omega arith)
   there_refuted (fact x ∷ X) p h = elim (first_or_later (fact x) (refuted p) X h) [
     | inl e ↦ absurd (back_refuted p (fact x) e)
@@ -146,7 +146,7 @@ module _ {F D : Type 0} where
     | inr rest ↦ there_refuted X p rest
   ]
 
-  pub there_shown : (X : List (Atom F D)) (p : List D) → Contains X (shown p) → Contains (shown_of X) p
+  pub there_shown : (X : List (AtomOf F D)) (p : List D) → Contains X (shown p) → Contains (shown_of X) p
   there_shown [] p h = absurd (let lt = h.1 in omega arith)
   there_shown (fact x ∷ X) p h = elim (first_or_later (fact x) (shown p) X h) [
     | inl e ↦ absurd (back_shown p (fact x) e)
@@ -161,11 +161,11 @@ module _ {F D : Type 0} where
     | inr rest ↦ later x p (shown_of X) (there_shown X p rest)
   ]
 
-  facts-map_fact : (fs : List F) (X : List (Atom F D)) → facts_of (map fact fs ++ X) ≡ fs ++ facts_of X
+  facts-map_fact : (fs : List F) (X : List (AtomOf F D)) → facts_of (map fact fs ++ X) ≡ fs ++ facts_of X
   facts-map_fact [] X = refl
   facts-map_fact (f ∷ fs) X = ap (λ l. f ∷ l) (facts-map_fact fs X)
 
-  facts-map_refuted : (ps : List (List D)) (X : List (Atom F D)) → facts_of (map refuted ps ++ X) ≡ facts_of X
+  facts-map_refuted : (ps : List (List D)) (X : List (AtomOf F D)) → facts_of (map refuted ps ++ X) ≡ facts_of X
   facts-map_refuted [] X = refl
   facts-map_refuted (p ∷ ps) X = facts-map_refuted ps X
 
@@ -173,19 +173,19 @@ module _ {F D : Type 0} where
   facts-witness None = refl
   facts-witness (Some p) = refl
 
-  refuted-map_fact : (fs : List F) (X : List (Atom F D)) → refuted_of (map fact fs ++ X) ≡ refuted_of X
+  refuted-map_fact : (fs : List F) (X : List (AtomOf F D)) → refuted_of (map fact fs ++ X) ≡ refuted_of X
   refuted-map_fact [] X = refl
   refuted-map_fact (f ∷ fs) X = refuted-map_fact fs X
 
-  refuted-map_refuted : (ps : List (List D)) (X : List (Atom F D)) → refuted_of (map refuted ps ++ X) ≡ ps ++ refuted_of X
+  refuted-map_refuted : (ps : List (List D)) (X : List (AtomOf F D)) → refuted_of (map refuted ps ++ X) ≡ ps ++ refuted_of X
   refuted-map_refuted [] X = refl
   refuted-map_refuted (p ∷ ps) X = ap (λ l. p ∷ l) (refuted-map_refuted ps X)
 
-  shown-map_fact : (fs : List F) (X : List (Atom F D)) → shown_of (map fact fs ++ X) ≡ shown_of X
+  shown-map_fact : (fs : List F) (X : List (AtomOf F D)) → shown_of (map fact fs ++ X) ≡ shown_of X
   shown-map_fact [] X = refl
   shown-map_fact (f ∷ fs) X = shown-map_fact fs X
 
-  shown-map_refuted : (ps : List (List D)) (X : List (Atom F D)) → shown_of (map refuted ps ++ X) ≡ shown_of X
+  shown-map_refuted : (ps : List (List D)) (X : List (AtomOf F D)) → shown_of (map refuted ps ++ X) ≡ shown_of X
   shown-map_refuted [] X = refl
   shown-map_refuted (p ∷ ps) X = shown-map_refuted ps X
 
@@ -242,7 +242,7 @@ module _ {F D : Type 0} {R : F → F → Ordering} {S : D → D → Ordering} (o
   unfolding IsStrictlySortedBy
   cover_none = tt
 
-  pub is_normal : (X : List (Atom F D)) → IsNormal R S (norm R S X)
+  pub is_normal : (X : List (AtomOf F D)) → IsNormal R S (norm R S X)
   is_normal X = record {
     facts = sorted_union o (facts_of X) [] sorted_none;
     cover = cover_cover_union p (refuted_of X) [] cover_none;
@@ -254,24 +254,24 @@ module _ {F D : Type 0} {R : F → F → Ordering} {S : D → D → Ordering} (o
     cover = cover_cover_union p n.cover m.cover a.cover;
   }
 
-  pub has-norm : (X : List (Atom F D)) (q : F) → has R (norm R S X).facts q ≡ has R (facts_of X) q
+  pub has-norm : (X : List (AtomOf F D)) (q : F) → has R (norm R S X).facts q ≡ has R (facts_of X) q
   has-norm X q = has-union o (facts_of X) [] q ∙ or_nothing (has R (facts_of X) q)
 
-  pub covers-norm : (X : List (Atom F D)) (q : List D) → covers S (norm R S X).cover q ≡ covers S (refuted_of X) q
+  pub covers-norm : (X : List (AtomOf F D)) (q : List D) → covers S (norm R S X).cover q ≡ covers S (refuted_of X) q
   covers-norm X q = covers-cover_union p (refuted_of X) [] q ∙ or_nothing (covers S (refuted_of X) q)
 
-  pub reaches-norm : (X : List (Atom F D)) (q : List D) → reaches (slice_cmp S) (norm R S X).witness q ≡ list_any (λ x. is_le (slice_cmp S x q)) (shown_of X)
+  pub reaches-norm : (X : List (AtomOf F D)) (q : List D) → reaches (slice_cmp S) (norm R S X).witness q ≡ list_any (λ x. is_le (slice_cmp S x q)) (shown_of X)
   reaches-norm X q = reaches-least_in lo (shown_of X) q
 
   -- equal sets of atoms, in any order and with repeats, have one normal form
-  pub norm_same : (X Y : List (Atom F D)) → ((a : Atom F D) → Contains X a → Contains Y a) → ((a : Atom F D) → Contains Y a → Contains X a) → norm R S X ≡ norm R S Y
+  pub norm_same : (X Y : List (AtomOf F D)) → ((a : AtomOf F D) → Contains X a → Contains Y a) → ((a : AtomOf F D) → Contains Y a → Contains X a) → norm R S X ≡ norm R S Y
   norm_same X Y f g = same_normal (norm R S X) (norm R S Y) (is_normal X) (is_normal Y)
       (λ q. has-norm X q ∙ any_same _ (facts_of X) (facts_of Y) (λ x h. there_fact Y x (f (fact x) (fact_there X x h))) (λ x h. there_fact X x (g (fact x) (fact_there Y x h))) ∙ sym (has-norm Y q))
       (λ q. covers-norm X q ∙ any_same _ (refuted_of X) (refuted_of Y) (λ x h. there_refuted Y x (f (refuted x) (refuted_there X x h))) (λ x h. there_refuted X x (g (refuted x) (refuted_there Y x h))) ∙ sym (covers-norm Y q))
       (λ q. reaches-norm X q ∙ any_same _ (shown_of X) (shown_of Y) (λ x h. there_shown Y x (f (shown x) (shown_there X x h))) (λ x h. there_shown X x (g (shown x) (shown_there Y x h))) ∙ sym (reaches-norm Y q))
 
   -- the normal form of both is the two normal forms merged
-  pub norm_append : (X Y : List (Atom F D)) → norm R S (X ++ Y) ≡ merge R S (norm R S X) (norm R S Y)
+  pub norm_append : (X Y : List (AtomOf F D)) → norm R S (X ++ Y) ≡ merge R S (norm R S X) (norm R S Y)
   norm_append X Y = same_normal (norm R S (X ++ Y)) (merge R S (norm R S X) (norm R S Y)) (is_normal (X ++ Y)) (merge_normal (norm R S X) (norm R S Y) (is_normal Y))
       (λ q.
       has-norm (X ++ Y) q ∙ ap (λ l. has R l q) (facts-append X Y) ∙ any_append _ (facts_of X) (facts_of Y)
@@ -298,5 +298,5 @@ module _ {F D : Type 0} {R : F → F → Ordering} {S : D → D → Ordering} (o
       (λ q. ap (λ w. reaches (slice_cmp S) w q) (ap (least_in (slice_cmp S)) (shown-atoms n) ∙ witness-itself n.witness))
 
   -- what a normal form absorbed does not show
-  pub norm_of_norm : (X Y : List (Atom F D)) → norm R S (Y ++ atoms_of (norm R S X)) ≡ norm R S (Y ++ X)
+  pub norm_of_norm : (X Y : List (AtomOf F D)) → norm R S (Y ++ atoms_of (norm R S X)) ≡ norm R S (Y ++ X)
   norm_of_norm X Y = norm_append Y (atoms_of (norm R S X)) ∙ ap (merge R S (norm R S Y)) (norm_atoms (norm R S X) (is_normal X)) ∙ sym (norm_append Y X)

@@ -11,7 +11,7 @@ use Rattle.aud_lattice.specs.Sorted.{has-union, has-with_item, sorted_union, sor
 use Rattle.aud_lattice.specs.Covers.{IsCover, covers, cover_union, with_list, normal_form}
 use Rattle.aud_lattice.specs.Covering.{covers-with_list, covers-cover_union, cover_with_list, cover_cover_union, same_cover}
 use Rattle.aud_lattice.specs.Least.{least_of}
-use Rattle.aud_know.specs.Norms.{Atom, fact, refuted, shown, facts_of, refuted_of, shown_of, Norm, set_of, least_in, norm, merge, atoms_of, IsNormal}
+use Rattle.aud_know.specs.Norms.{AtomOf, fact, refuted, shown, facts_of, refuted_of, shown_of, Norm, set_of, least_in, norm, merge, atoms_of, IsNormal}
 use Rattle.aud_know.proofs.Norming.{first_or_later, is_normal, merge_normal, norm_append, norm_atoms}
 use Rattle.aud_know.proofs.Truths.{QuietParts, WholeStays, IsTrueFor, merge_true}
 use Rattle.base_values.proofs.Bools.{or_nothing, or_comm}
@@ -86,7 +86,7 @@ module _ {F D : Type 0} {R : F → F → Ordering} {S : D → D → Ordering} (o
   with_known n m a = ap (merge R S n) (sym (norm_atoms o ex p ey m a))
 
   -- what is merged is taken
-  pub takes : (n m : Norm F D) (Y : List (Atom F D)) → m ≡ merge R S n (norm R S Y) → (X : List (Atom F D)) → n ≡ norm R S X → m ≡ norm R S (X ++ Y)
+  pub takes : (n m : Norm F D) (Y : List (AtomOf F D)) → m ≡ merge R S n (norm R S Y) → (X : List (AtomOf F D)) → n ≡ norm R S X → m ≡ norm R S (X ++ Y)
   takes n m Y e X h = e ∙ ap (λ k. merge R S k (norm R S Y)) h ∙ sym (norm_append o ex p ey X Y)
 
   module _ (Quiet Whole : List F → Type 0) (Refutes Shows : List F → List D → Type 0) (parts : QuietParts R Quiet) (stays : WholeStays R Quiet Whole) where
@@ -122,7 +122,7 @@ module _ {F D : Type 0} {R : F → F → Ordering} {S : D → D → Ordering} (o
         some_same x y e = cc
 
     -- with true atoms what is held stays true
-    pub with_true : (n m : Norm F D) (Y : List (Atom F D)) → IsNormal R S n → IsTrueFor Quiet Whole Refutes Shows n → IsTrueFor Quiet Whole Refutes Shows (norm R S Y) →
+    pub with_true : (n m : Norm F D) (Y : List (AtomOf F D)) → IsNormal R S n → IsTrueFor Quiet Whole Refutes Shows n → IsTrueFor Quiet Whole Refutes Shows (norm R S Y) →
         m ≡ merge R S n (norm R S Y) → IsNormal R S m × IsTrueFor Quiet Whole Refutes Shows m
     with_true n m Y a b t e = subst (λ k. IsNormal R S k × IsTrueFor Quiet Whole Refutes Shows k) (sym e) (
       merge_normal o ex p ey n (norm R S Y) (is_normal o ex p ey Y),

@@ -8,11 +8,11 @@ use Rattle.aud_event.specs.contracts.fact.FactOrd.TheImpl as fact_order
 use Rattle.aud_facts.specs.Sets.{FactsOf}
 use Rattle.aud_witness.specs.declared.decision.Decision.{Decision}
 use Rattle.aud_witness.specs.DecisionOrder.{decision_cmp}
-use Rattle.aud_know.specs.Norms.{Atom, Norm, norm}
+use Rattle.aud_know.specs.Norms.{AtomOf, Norm, norm}
 
 -- an atom of what is known of a history
 abbrev pub KnownAtom : Type 0
-KnownAtom = Atom Fact Decision
+KnownAtom = AtomOf Fact Decision
 
 -- facts, refuted prefixes, and a witness
 abbrev pub Held : Type 0

@@ -8,27 +8,27 @@ use Rattle.aud_lattice.specs.Covers.{IsCover, cover_union, normal_form}
 use Rattle.aud_lattice.specs.Least.{least_of}
 
 -- a fact, a refuted prefix, or an order that shows
-pub data Atom (F D : Type 0) : Type 0 where
-  fact : F → Atom F D
-  refuted : List D → Atom F D
-  shown : List D → Atom F D
+pub data AtomOf (F D : Type 0) : Type 0 where
+  fact : F → AtomOf F D
+  refuted : List D → AtomOf F D
+  shown : List D → AtomOf F D
 
 -- the facts among some atoms
-abbrev pub facts_of : {F D : Type 0} → List (Atom F D) → List F
+abbrev pub facts_of : {F D : Type 0} → List (AtomOf F D) → List F
 facts_of [] = []
 facts_of (fact f ∷ xs) = f ∷ facts_of xs
 facts_of (refuted p ∷ xs) = facts_of xs
 facts_of (shown p ∷ xs) = facts_of xs
 
 -- the refuted prefixes among them
-abbrev pub refuted_of : {F D : Type 0} → List (Atom F D) → List (List D)
+abbrev pub refuted_of : {F D : Type 0} → List (AtomOf F D) → List (List D)
 refuted_of [] = []
 refuted_of (fact f ∷ xs) = refuted_of xs
 refuted_of (refuted p ∷ xs) = p ∷ refuted_of xs
 refuted_of (shown p ∷ xs) = refuted_of xs
 
 -- the witnesses among them
-abbrev pub shown_of : {F D : Type 0} → List (Atom F D) → List (List D)
+abbrev pub shown_of : {F D : Type 0} → List (AtomOf F D) → List (List D)
 shown_of [] = []
 shown_of (fact f ∷ xs) = shown_of xs
 shown_of (refuted p ∷ xs) = shown_of xs
@@ -50,7 +50,7 @@ least_in cmp [] = None
 least_in cmp (x ∷ xs) = least_of cmp (Some x) (least_in cmp xs)
 
 -- the normal form of atoms: their facts, the refuted prefixes of which none begins another, and the least witness
-abbrev pub norm : {F D : Type 0} → (F → F → Ordering) → (D → D → Ordering) → List (Atom F D) → Norm F D
+abbrev pub norm : {F D : Type 0} → (F → F → Ordering) → (D → D → Ordering) → List (AtomOf F D) → Norm F D
 norm R S xs = record {
   facts = set_of R (facts_of xs);
   cover = normal_form S (refuted_of xs);
@@ -65,12 +65,12 @@ merge R S n m = record {
   witness = least_of (slice_cmp S) n.witness m.witness;
 }
 
-abbrev pub witness_atoms : {F D : Type 0} → Option (List D) → List (Atom F D)
+abbrev pub witness_atoms : {F D : Type 0} → Option (List D) → List (AtomOf F D)
 witness_atoms None = []
 witness_atoms (Some p) = shown p ∷ []
 
 -- the atoms of a normal form: its facts, its refuted prefixes, and its witness
-abbrev pub atoms_of : {F D : Type 0} → Norm F D → List (Atom F D)
+abbrev pub atoms_of : {F D : Type 0} → Norm F D → List (AtomOf F D)
 atoms_of n = map fact n.facts ++ (map refuted n.cover ++ witness_atoms n.witness)
 
 -- each part is in its own normal form

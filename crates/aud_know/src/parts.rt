@@ -102,7 +102,7 @@ pub fn witness_with<A: Allocator + Copy>(
 {
     match witness {
         None => copied(alloc, order),
-        Some(old) => match lists_compared(old, order) {
+        Some(old) => match orders_compared(old, order) {
             Ordering::Less | Ordering::Equal => Ok(Some(Arc::try_clone(old)?)),
             Ordering::Greater => copied(alloc, order),
         },
@@ -116,7 +116,7 @@ fn copied<A: Allocator + Copy>(alloc: A, order: &Prefix<A>) -> Result<SharedWitn
     Ok(Some(Arc::new(alloc, copy)?))
 }
 
-fn lists_compared<A: Allocator>(x: &Prefix<A>, y: &Prefix<A>) -> Ordering
+fn orders_compared<A: Allocator>(x: &Prefix<A>, y: &Prefix<A>) -> Ordering
     ensures { result ≡ slice_cmp decision_cmp x.now y.now }
 {
     x.cmp(y)
@@ -132,7 +132,7 @@ pub fn witnesses_joined<A: Allocator>(
     match (ours, theirs) {
         (None, _) => shared(theirs),
         (Some(_), None) => shared(ours),
-        (Some(x), Some(y)) => match lists_compared(x, y) {
+        (Some(x), Some(y)) => match orders_compared(x, y) {
             Ordering::Less | Ordering::Equal => Ok(Some(Arc::try_clone(x)?)),
             Ordering::Greater => Ok(Some(Arc::try_clone(y)?)),
         },
@@ -194,13 +194,13 @@ pub fn same_witness<A: Allocator>(ours: &SharedWitness<A>, theirs: &SharedWitnes
 {
     match (ours, theirs) {
         (None, None) => true,
-        (Some(x), Some(y)) => same_list(x, y),
+        (Some(x), Some(y)) => same_order(x, y),
         (None, Some(_)) => false,
         (Some(_), None) => false,
     }
 }
 
-fn same_list<A: Allocator>(x: &Prefix<A>, y: &Prefix<A>) -> bool
+fn same_order<A: Allocator>(x: &Prefix<A>, y: &Prefix<A>) -> bool
     ensures { IsTrue result ↔ (x.now ≡ y.now) }
 {
     x == y

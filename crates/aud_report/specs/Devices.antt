@@ -2,7 +2,7 @@
 use Rattle.std.specs.Prelude.{◌≡◌, ◌≤◌, ◌<◌, ◌++◌, ◌==◌, ◌&&◌, ℕ, Bool, List, [], length, take, nat_lt, if◌then◌else◌}
 
 -- a read took n bytes off the front of what was left; where it took none into a buffer with room, none are left
-pub record Reads (old new buf : List ℕ) (n : ℕ) : Type 0 where
+pub record ReadsInto (old new buf : List ℕ) (n : ℕ) : Type 0 where
   pub within : n ≤ length buf
   pub bytes : old ≡ take n buf ++ new
   pub ends : n ≡ 0 → 0 < length buf → new ≡ []

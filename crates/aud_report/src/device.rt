@@ -1,7 +1,7 @@
 //! Sources and sinks of bytes, and whole texts from the ones and into the others.
 
 ghost use Rattle.std.specs.Prelude.{◌≡◌, ◌<◌, ◌+◌, ◌++◌, ℕ, List, [], length, Ok, Err, OnOk, OnErr, IfOk, take};
-ghost use Rattle.aud_report.specs.Devices.{Reads, Writes, BeginsOnly, nothing_taken};
+ghost use Rattle.aud_report.specs.Devices.{ReadsInto, Writes, BeginsOnly, nothing_taken};
 
 use std::alloc::{AllocError, Allocator, Global};
 
@@ -26,7 +26,7 @@ pub trait Source {
     fn read(&mut self, buf: &mut [u8]) -> Result<usize, SourceFault>
         requires { ready self.old }
         ensures ready { OnOk result (ready self.new) }
-        ensures ok { IfOk result (λ n. Reads (left self.old) (left self.new) buf.new n) }
+        ensures ok { IfOk result (λ n. ReadsInto (left self.old) (left self.new) buf.new n) }
         ensures kept { OnOk result (failures self.new ≡ failures self.old) }
         ensures err { OnErr result (left self.new ≡ left self.old) }
         ensures failed { OnErr result (failures self.new ≡ failures self.old + 1) };

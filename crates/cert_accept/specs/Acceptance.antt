@@ -4,7 +4,7 @@ use Rattle.aud_event.specs.Meanings.{Declared}
 use Rattle.aud_history.specs.Histories.{History}
 use Rattle.aud_witness.specs.declared.decision.Decision.{Decision}
 use Rattle.aud_witness.specs.Orders.{IsGood}
-use Rattle.cert_earlier.specs.Resting.{HasKids, HasSilent, HasSame}
+use Rattle.cert_earlier.specs.Resting.{HasEarlierKids, HasEarlierSilent, HasSame}
 use Rattle.cert_accept.specs.declared.cert.CertLine.{CertLine}
 use Rattle.cert_accept.specs.declared.cert.CertLine.TheVariants.{Kids, Silent, Same}
 
@@ -22,8 +22,8 @@ elsewhere (Same p q) = Same p q
 
 -- what the line says of the prefixes of the earlier lines holds
 abbrev pub Rests : {X : Type 0} → List Declared → History → List (List Decision) → CertLine X → Type 0
-Rests objects h earlier (Kids p) = HasKids objects h earlier p
-Rests objects h earlier (Silent p d) = HasSilent objects h earlier p d
+Rests objects h earlier (Kids p) = HasEarlierKids objects h earlier p
+Rests objects h earlier (Silent p d) = HasEarlierSilent objects h earlier p d
 Rests objects h earlier (Same p q) = HasSame objects h earlier p q
 
 -- a line is accepted after those of some prefixes: its own prefix is good, and what it says holds

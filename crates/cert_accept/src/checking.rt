@@ -97,7 +97,7 @@ fn are_accepted<'c, A: Allocator + Copy, B: Allocator>(
     Ok(true)
 }
 
-/// The same of lines, from the empty prefix on.
+/// Whether all lines are accepted, where none came before.
 fn are_accepted_from_none<A: Allocator + Copy, B: Allocator>(
     alloc: A,
     shape: &Shape<A>,

@@ -11,7 +11,7 @@ use Rattle.aud_witness.specs.Orders.{IsFull, IsGood, IsGoodNext}
 use Rattle.aud_order.specs.Shapes.{ShapeOf, objects_of, history_of}
 use Rattle.aud_order.specs.Kids.{AreKids}
 use Rattle.cert_earlier.proofs.Placing.{no_decision}
-use Rattle.cert_earlier.specs.Resting.{HasKids, HasSame}
+use Rattle.cert_earlier.specs.Resting.{HasEarlierKids, HasSame}
 use Rattle.cert_earlier.specs.OfShapes.{HasLines}
 
 -- # Some first elements of a list
@@ -45,7 +45,7 @@ all-more seen p ks n next b inside is reported holds before =
     first-more (λ d. Contains seen (p ++ d ∷ [])) ks n inside before (subst (λ (l : List Decision). Contains seen l) is (reported.0 holds))
 
 pub kids-reported : (objects : List Declared) (h : History) (seen : List (List Decision)) (path p kids ks : List Decision) (full has : Bool) → path ≡ p →
-    (IsTrue full ↔ IsFull h path) → full ≡ false → AreKids objects h path kids → ks ≡ kids → (IsTrue has ↔ HasLines seen p ks) → IsTrue has ↔ HasKids objects h seen p
+    (IsTrue full ↔ IsFull h path) → full ≡ false → AreKids objects h path kids → ks ≡ kids → (IsTrue has ↔ HasLines seen p ks) → IsTrue has ↔ HasEarlierKids objects h seen p
 kids-reported objects h seen path p kids ks full has here is_full unfull are same reported = (
   (λ holds. record {
     unfull = λ whole. let clash : full ≡ true = is_full.1 (subst (λ l. IsFull h l) (sym here) whole) in absurd (cc);

@@ -10,12 +10,12 @@ use Rattle.aud_witness.specs.Orders.{is_named, kept, IsFull, IsGoodNext}
 use Rattle.aud_order.specs.Silent.{silent_fate}
 
 -- p isn't full, and every kid of it is the prefix of an earlier line
-pub record HasKids (objects : List Declared) (h : History) (earlier : List (List Decision)) (p : List Decision) : Type 0 where
+pub record HasEarlierKids (objects : List Declared) (h : History) (earlier : List (List Decision)) (p : List Decision) : Type 0 where
   pub unfull : IsFull h p → ⊥
   pub kids : (d : Decision) → IsGoodNext objects h p d → Contains earlier (p ++ d ∷ [])
 
 -- d is of a silent transaction with its silent fate, and p followed by it is good and the prefix of an earlier line
-pub record HasSilent (objects : List Declared) (h : History) (earlier : List (List Decision)) (p : List Decision) (d : Decision) : Type 0 where
+pub record HasEarlierSilent (objects : List Declared) (h : History) (earlier : List (List Decision)) (p : List Decision) (d : Decision) : Type 0 where
   pub silent : silent_fate h d.tx ≡ Some d.fate
   pub good : IsGoodNext objects h p d
   pub line : Contains earlier (p ++ d ∷ [])

@@ -1,10 +1,10 @@
 use Rattle.std.proofs.Common.{◌≡◌, ◌++◌, ◌∷◌, [], ap, length, length-append, arith, rules}
 use Rattle.aud_cert.proofs.OrderSpelled.{order-more, low-more}
-use Rattle.aud_cert.proofs.order.list_at.Goals as goal
+use Rattle.aud_cert.proofs.order.decisions_at.Goals as goal
 
 pub decisions-preserved : goal.decisions-preserved
 decisions-preserved c =
-    let was = c.decisions.list.items in
+    let was = c.decisions.scratch.items in
     let now = c.push-in-Some-next_at.new.self.items in
     let d = c.in-Some-next_at.decision in
     let grown : now ≡ was ++ d ∷ [] = search rules in
