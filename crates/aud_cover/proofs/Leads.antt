@@ -16,7 +16,7 @@ use Rattle.aud_witness.proofs.Good.{IsGood-push}
 use Rattle.aud_order.specs.Shapes.{objects_of, history_of}
 use Rattle.aud_order.specs.Cursors.{CursorOf}
 use Rattle.aud_cover.specs.Closings.{IsCovered, IsInside, IsClosed}
-use Rattle.aud_cover.specs.Leading.{LeadsTo}
+use Rattle.aud_cover.specs.Leading.{LeadsIntoTrie}
 use Rattle.aud_cover.proofs.Beginnings.{marked-covered, marked-inner, marked-outside}
 use Rattle.aud_cover.proofs.Steps.{at-outside, at-open_kid, cursor_with}
 
@@ -30,7 +30,7 @@ module _ (cover : List (List Decision)) (p : List Decision) where
   is-outside : mark_of decision_cmp cover p ≡ Outside → (IsCovered cover p → ⊥) × (IsInside cover p → ⊥)
   is-outside = marked-outside cover p (mark_of decision_cmp cover p) (covered_is decision_cmp cover p) (inner_is decision_cmp cover p)
 
-module _ {A : Type 0} (cover : List (List Decision)) (p : List Decision) (node : Trie Decision A) (leads : LeadsTo cover p node) where
+module _ {A : Type 0} (cover : List (List Decision)) (p : List Decision) (node : Trie Decision A) (leads : LeadsIntoTrie cover p node) where
   here : mark_of decision_cmp cover p ≡ walk_mark decision_cmp node []
   here = ap (mark_of decision_cmp cover) (sym (append-nil p)) ∙ leads []
 
@@ -43,7 +43,7 @@ module _ {A : Type 0} (cover : List (List Decision)) (p : List Decision) (node :
   pub at-inner : walk_mark decision_cmp node [] ≡ Inner → (IsCovered cover p → ⊥) × IsInside cover p
   at-inner e = is-inner cover p (here ∙ e)
 
-  pub kid-leads : (d : Decision) (u : Trie Decision A) → child decision_cmp node d ≡ Some u → LeadsTo cover (p ++ d ∷ []) u
+  pub kid-leads : (d : Decision) (u : Trie Decision A) → child decision_cmp node d ≡ Some u → LeadsIntoTrie cover (p ++ d ∷ []) u
   kid-leads d u found q = ap (mark_of decision_cmp cover) (append_assoc p (d ∷ []) q) ∙ leads (d ∷ q) ∙ known_mark decision_cmp node d q u found
 
   pub kid-outside : walk_mark decision_cmp node [] ≡ Inner → (d : Decision) → child decision_cmp node d ≡ None → (IsCovered cover (p ++ d ∷ []) → ⊥) × (IsInside cover (p ++ d ∷ []) → ⊥)
@@ -53,10 +53,10 @@ module _ {A : Type 0} (cover : List (List Decision)) (root : Trie Decision A) (g
   root_mark : (q : List Decision) → mark_of decision_cmp cover q ≡ walk_mark decision_cmp root q
   root_mark q = ap (λ c. mark_of decision_cmp c q) (sym is) ∙ sym (marks decision_cmp decisions_total decision_exact q root good)
 
-  pub root-leads : LeadsTo cover [] root
+  pub root-leads : LeadsIntoTrie cover [] root
   root-leads q = root_mark q
 
-  pub node-leads : (p : List Decision) (u : Trie Decision A) → node_at decision_cmp p root ≡ Some u → LeadsTo cover p u
+  pub node-leads : (p : List Decision) (u : Trie Decision A) → node_at decision_cmp p root ≡ Some u → LeadsIntoTrie cover p u
   node-leads p u found q = root_mark (p ++ q) ∙ mark_under decision_cmp p root u found q
 
   pub nowhere-outside : (p : List Decision) → node_at decision_cmp p root ≡ None → (mark_of decision_cmp cover p ≡ Covered → ⊥) → (IsCovered cover p → ⊥) × (IsInside cover p → ⊥)
@@ -64,11 +64,11 @@ module _ {A : Type 0} (cover : List (List Decision)) (root : Trie Decision A) (g
 
 -- # With a cursor
 
-module _ {A : Type 0} (cover : List (List Decision)) (start : CursorOf) (node : Trie Decision A) (leads : LeadsTo cover start.path node) (d : Decision) where
+module _ {A : Type 0} (cover : List (List Decision)) (start : CursorOf) (node : Trie Decision A) (leads : LeadsIntoTrie cover start.path node) (d : Decision) where
   -- a kid that was pushed leads to its node
-  pub pushed-leads : (cur pushed : CursorOf) (u : Trie Decision A) → child decision_cmp node d ≡ Some u → cur ≡ start → pushed ≡ cursor_with cur d → LeadsTo cover pushed.path u
+  pub pushed-leads : (cur pushed : CursorOf) (u : Trie Decision A) → child decision_cmp node d ≡ Some u → cur ≡ start → pushed ≡ cursor_with cur d → LeadsIntoTrie cover pushed.path u
   pushed-leads cur pushed u found same grown =
-      subst (λ (c : CursorOf). LeadsTo cover c.path u) (sym (grown ∙ ap (λ (c : CursorOf). cursor_with c d) same)) (kid-leads cover start.path node leads d u found)
+      subst (λ (c : CursorOf). LeadsIntoTrie cover c.path u) (sym (grown ∙ ap (λ (c : CursorOf). cursor_with c d) same)) (kid-leads cover start.path node leads d u found)
 
   -- a good kid that leads nowhere is not closed
   pub gone-closed : walk_mark decision_cmp node [] ≡ Inner → child decision_cmp node d ≡ None → IsGood (objects_of start.shape) (history_of start.shape) start.path → IsGoodNext (objects_of start.shape) (history_of start.shape) start.path d →

@@ -9,24 +9,24 @@ use Rattle.aud_know.specs.declared.item.Item.TheVariants as item
 use Rattle.aud_node.specs.Meanings.{PassOf, mine}
 use Rattle.aud_node.specs.declared.pass.Packet.{Packet}
 use Rattle.aud_node.proofs.Fronts.{prefix_self, prefix_trans}
-use Rattle.aud_gossip.specs.Receiving.{AddsPackets, GoesFurther, HasOffered, HasOfferedIt, IsOf, IsPacketOf}
+use Rattle.aud_gossip.specs.Receiving.{AddsPackets, GoesFurther, HasOffered, HasOfferedIt, HasPlan, IsKnownOfPlan}
 
 adds_more : (plan : PlanOf) (old mid new : List (Item Global)) (m n k : ℕ) → AddsPackets plan old mid m → AddsPackets plan mid new n → k ≡ m + n → AddsPackets plan old new k
 adds_more plan old mid new m n k (xs, p, here, all) (ys, q, there, others) is = (
   xs ++ ys,
   q ∙ ap (λ l. l ++ ys) p ∙ append_assoc old xs ys,
   omega (arith, length-append xs ys, here, there, is),
-  All-append (IsPacketOf plan) xs ys all others,
+  All-append (IsKnownOfPlan plan) xs ys all others,
 )
 
 -- a pass that was not used has offered none
 pub offered_none : (plan : PlanOf) (old : PassOf) → HasOffered plan old old 0
-offered_none plan old = (([], sym (append-nil _), refl, All-nil (IsPacketOf plan)), omega arith)
+offered_none plan old = (([], sym (append-nil _), refl, All-nil (IsKnownOfPlan plan)), omega arith)
 
 -- after one packet more, as many as the pass's offers grew
-pub offered_more : (plan : PlanOf) (p : Packet) (old mid new : PassOf) (count : ℕ) → HasOffered plan old mid count → IsOf plan p → HasOfferedIt p mid new → HasOffered plan old new (new.offers - old.offers)
+pub offered_more : (plan : PlanOf) (p : Packet) (old mid new : PassOf) (count : ℕ) → HasOffered plan old mid count → HasPlan plan p → HasOfferedIt p mid new → HasOffered plan old new (new.offers - old.offers)
 offered_more plan p old mid new count (here, so_far) is (there, one) =
-    let it : AddsPackets plan (mine mid) (mine new) 1 = (item.Known p.known ∷ [], there, refl, All-cons (IsPacketOf plan) (item.Known p.known) [] is (All-nil (IsPacketOf plan))) in
+    let it : AddsPackets plan (mine mid) (mine new) 1 = (item.Known p.known ∷ [], there, refl, All-cons (IsKnownOfPlan plan) (item.Known p.known) [] is (All-nil (IsKnownOfPlan plan))) in
     (adds_more plan (mine old) (mine mid) (mine new) count 1 (new.offers - old.offers) here it (omega (arith, so_far, one)), omega (arith, so_far, one))
 
 pub further_self : (old : PassOf) → GoesFurther old old

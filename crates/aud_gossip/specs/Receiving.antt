@@ -6,7 +6,7 @@ use mathlib.Core.List.{IsPrefix}
 use Rattle.aud_event.specs.Meanings.{PlanOf}
 use Rattle.aud_know.specs.declared.item.Item.{Item}
 use Rattle.aud_know.specs.declared.item.Item.TheVariants as item
-use Rattle.aud_node.specs.Meanings.{NodeOf, PassOf, IsAt, mine}
+use Rattle.aud_node.specs.Meanings.{NodeOf, PassOf, IsOfNode, mine}
 use Rattle.aud_node.specs.declared.pass.Packet.{Packet}
 use Rattle.aud_node.specs.declared.fault.OfferFault.{OfferFault}
 use Rattle.aud_node.specs.declared.fault.OfferFault.TheVariants as offer
@@ -14,18 +14,18 @@ use Rattle.aud_gossip.specs.declared.receiving.Received.{Received}
 use Rattle.aud_gossip.specs.declared.receiving.Stopped.{Stopped}
 
 -- the packet is of the plan
-abbrev pub IsOf : PlanOf → Packet → Type 0
-IsOf plan p = p.known.value.plan ≡ plan
+abbrev pub HasPlan : PlanOf → Packet → Type 0
+HasPlan plan p = p.known.value.plan ≡ plan
 
 -- the item is what a packet of the plan knows
-abbrev pub IsPacketOf : PlanOf → Item Global → Type 0
-IsPacketOf plan (item.Known k) = k.value.plan ≡ plan
-IsPacketOf plan (item.Fact f) = ⊥
-IsPacketOf plan (item.Finding g) = ⊥
+abbrev pub IsKnownOfPlan : PlanOf → Item Global → Type 0
+IsKnownOfPlan plan (item.Known k) = k.value.plan ≡ plan
+IsKnownOfPlan plan (item.Fact f) = ⊥
+IsKnownOfPlan plan (item.Finding g) = ⊥
 
 -- the new list is the old one and so many packets of the plan
 abbrev pub AddsPackets : PlanOf → List (Item Global) → List (Item Global) → ℕ → Type 0
-AddsPackets plan old new count = (items : List (Item Global)) × (new ≡ old ++ items) × (length items ≡ count) × All (IsPacketOf plan) items
+AddsPackets plan old new count = (items : List (Item Global)) × (new ≡ old ++ items) × (length items ≡ count) × All (IsKnownOfPlan plan) items
 
 -- the pass's offers that were answered Ok are the old ones and so many packets of the plan
 abbrev pub HasOffered : PlanOf → PassOf → PassOf → ℕ → Type 0
@@ -37,7 +37,7 @@ HasOfferedIt p old new = (mine new ≡ mine old ++ item.Known p.known ∷ []) ×
 
 -- the test says whether the packet is of the plan, and was offered; else the pass is as it was
 abbrev pub ReportsWhetherOffered : Bool → PlanOf → Packet → PassOf → PassOf → Type 0
-ReportsWhetherOffered test plan p old new = MatchBool test (IsOf plan p × HasOfferedIt p old new) ((IsOf plan p → ⊥) × (new ≡ old))
+ReportsWhetherOffered test plan p old new = MatchBool test (HasPlan plan p × HasOfferedIt p old new) ((HasPlan plan p → ⊥) × (new ≡ old))
 
 -- the same pass, whose view begins with the old one
 abbrev pub GoesFurther : PassOf → PassOf → Type 0
@@ -49,13 +49,13 @@ IsNothing r = (r.taken ≡ 0) × (r.foreign ≡ 0)
 
 -- the packet is there, and is of the plan
 abbrev pub IsBack : PlanOf → Option Packet → Type 0
-IsBack plan found = (p : Packet) × (found ≡ Some p) × IsOf plan p
+IsBack plan found = (p : Packet) × (found ≡ Some p) × HasPlan plan p
 
 -- a pass of another node is reported before anything is received, and no packet is handed back; out of memory is reported of a
 -- pass of the node, and hands a packet of the plan back
 abbrev pub IsStopFor : NodeOf → PassOf → Option Packet → Received → OfferFault → Type 0
 IsStopFor n p packet received offer.WrongNode = (p.number ≢ n.number) × (packet ≡ None) × IsNothing received
-IsStopFor n p packet received offer.OutOfMemory = IsAt n p × IsBack n.plan packet
+IsStopFor n p packet received offer.OutOfMemory = IsOfNode n p × IsBack n.plan packet
 IsStopFor n p packet received offer.PlanMismatch = ⊥
 
 -- why the receiving stopped

@@ -1,8 +1,8 @@
 //! Offering all that comes from other nodes.
 
 ghost use Rattle.std.specs.Prelude.{◌≡◌, IfErr, IfOk, OnErr, OnOk};
-ghost use Rattle.aud_node.specs.Meanings.{IsAt};
-ghost use Rattle.aud_gossip.specs.Receiving.{GoesFurther, HasOffered, IsOf, IsStop, ReportsWhetherOffered};
+ghost use Rattle.aud_node.specs.Meanings.{IsOfNode};
+ghost use Rattle.aud_gossip.specs.Receiving.{GoesFurther, HasOffered, HasPlan, IsStop, ReportsWhetherOffered};
 
 use aud_know::Item;
 use aud_node::{Fleet, OfferFault, Packet, Pass, Running};
@@ -36,10 +36,10 @@ fn offer_packet<J: Fleet, S: Wait + Drop, R: Wait>(
     pass: &mut Pass<J>,
     packet: Packet,
 ) -> Result<bool, Packet>
-    requires { IsAt node.now pass.old }
+    requires { IsOfNode node.now pass.old }
     ensures reported { IfOk result (λ b. ReportsWhetherOffered b node.now.plan packet pass.old pass.new) }
     ensures further { GoesFurther pass.old pass.new }
-    ensures back { IfErr result (λ p. (p ≡ packet) × IsOf node.now.plan p) }
+    ensures back { IfErr result (λ p. (p ≡ packet) × HasPlan node.now.plan p) }
     ensures unchanged { OnErr result (pass.new ≡ pass.old) }
 {
     match node.offer(rt, alloc, pass, Item::Known(packet.known)) {
@@ -64,7 +64,7 @@ pub fn receive_all<J: Fleet, S: Wait + Drop, R: Wait>(
     ensures taken { IfOk result (λ r. HasOffered node.now.plan pass.old pass.new r.taken) }
     ensures taken_before { IfErr result (λ s. HasOffered node.now.plan pass.old pass.new s.received.taken) }
     ensures further { GoesFurther pass.old pass.new }
-    ensures received { OnOk result (IsAt node.now pass.old) }
+    ensures received { OnOk result (IsOfNode node.now pass.old) }
     ensures stopped { IfErr result (λ s. IsStop node.now pass.old s) }
     ensures wrong { IfErr result (λ s. s.fault ≡ OfferFault.WrongNode → pass.new ≡ pass.old) }
 {

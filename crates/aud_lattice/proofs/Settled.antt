@@ -5,7 +5,7 @@ use Rattle.std.specs.Cmp.{IsTotalOrder}
 use Rattle.base_values.specs.Exact.{IsExact}
 use Rattle.aud_lattice.specs.Covers.{covers}
 use Rattle.aud_lattice.specs.declared.trie.Trie.{Trie}
-use Rattle.aud_lattice.specs.Nodes.{stands, AreSettled}
+use Rattle.aud_lattice.specs.Nodes.{stands, SettlesNodes}
 use Rattle.aud_lattice.specs.Walks.{child, go_on, is_member, node_at, walk, walk_on, IsTrie}
 use Rattle.aud_lattice.proofs.Pathed.{covers-paths}
 use Rattle.aud_lattice.proofs.Tries.{pointwise, good_child, live_child, parent_opened}
@@ -42,5 +42,5 @@ module _ {D A : Type 0} (R : D → D → Ordering) where
       cases further (Some v) None c d = absurd (gone t u h e x v c d)
       cases further (Some v) (Some w) c d = further v w (good_child R t x v c h) (good_child R u x w d g) (met t u h e x v c w d)
 
-  pub settled : IsTotalOrder R → IsExact R → AreSettled A R
+  pub settled : IsTotalOrder R → IsExact R → SettlesNodes A R
   settled o ex t u h g same q = same_nodes q t u h g (pointwise (λ q. sym (covers-paths R o ex q t h) ∙ ap (λ ps. covers R ps q) same ∙ covers-paths R o ex q u g))

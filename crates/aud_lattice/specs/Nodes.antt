@@ -10,5 +10,5 @@ abbrev pub stands : {D A : Type 0} → (D → D → Ordering) → List D → Tri
 stands cmp q t = go_on (λ u. Some (is_member u)) (node_at cmp q t)
 
 -- tries of the same lists have the same nodes
-abbrev pub AreSettled : {D : Type 0} → Type 0 → (D → D → Ordering) → Type 0
-AreSettled {D} A cmp = (t u : Trie D A) → IsTrie cmp t → IsTrie cmp u → paths t ≡ paths u → (q : List D) → stands cmp q t ≡ stands cmp q u
+abbrev pub SettlesNodes : {D : Type 0} → Type 0 → (D → D → Ordering) → Type 0
+SettlesNodes {D} A cmp = (t u : Trie D A) → IsTrie cmp t → IsTrie cmp u → paths t ≡ paths u → (q : List D) → stands cmp q t ≡ stands cmp q u

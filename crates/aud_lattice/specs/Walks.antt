@@ -135,9 +135,9 @@ abbrev pub LeavesUnder : {D A : Type 0} → (D → D → Ordering) → D → Tri
 LeavesUnder cmp x node theirs old new = leads cmp (fork new) ≡ either (but (starts cmp x (leads cmp node)) (leads cmp (fork theirs))) (leads cmp (fork old))
 
 -- f passes nothing; or a new node is to stand there, that leads to just what it passes
-abbrev pub IsLeft : {D A : Type 0} → (D → D → Ordering) → (List D → Bool) → Option (Arc (Trie D A) A) → Type 0
-IsLeft cmp f None = f ≡ nothing
-IsLeft cmp f (Some a) = IsTrie cmp (arc_value a) × IsLive cmp (arc_value a) × (leads cmp (arc_value a) ≡ f)
+abbrev pub IsRemainder : {D A : Type 0} → (D → D → Ordering) → (List D → Bool) → Option (Arc (Trie D A) A) → Type 0
+IsRemainder cmp f None = f ≡ nothing
+IsRemainder cmp f (Some a) = IsTrie cmp (arc_value a) × IsLive cmp (arc_value a) × (leads cmp (arc_value a) ≡ f)
 
 -- the test says whether no list has a beginning in it
 abbrev pub ReportsWhetherBare : {D A : Type 0} → (D → D → Ordering) → Bool → Trie D A → Type 0

@@ -1,6 +1,6 @@
 //! The laws of covers as facts that a caller's proof can take.
 
-ghost use Rattle.aud_lattice.specs.Nodes.{AreSettled};
+ghost use Rattle.aud_lattice.specs.Nodes.{SettlesNodes};
 ghost use Rattle.aud_lattice.specs.Norms.{IsNormOfUnion, IsNormWithNorm, IsNormOfFirsts};
 
 use base_values::{Dup, Key};
@@ -27,5 +27,5 @@ pub fn norm_of_firsts<D: Key>()
 /// Tries of the same lists have the same nodes, and the same of them are members.
 #[tactic(auto, using(crate::proofs::Settled::settled))]
 pub fn tries_are_settled<D: Key + Dup, A: Allocator + Copy>()
-    ensures { AreSettled A D.Ord.cmp }
+    ensures { SettlesNodes A D.Ord.cmp }
 {}

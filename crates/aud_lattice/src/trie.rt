@@ -4,7 +4,7 @@ ghost use Rattle.std.specs.Prelude.{None, ◌≡◌, ◌++◌, OnOk, OnErr, IfOk
 ghost use Rattle.std.specs.Option.{option_copied};
 ghost use Rattle.std.specs.Arc.{arc_value};
 ghost use Rattle.std.specs.BTreeMap.{IsOrdered};
-ghost use Rattle.aud_lattice.specs.Walks.{child, walk, walk_mark, leads, left_under, nothing, but, starts, node_at, node_of, now_of, AreAlike, AreAlikeBut, AreJoined, IsAdded, IsTrie, IsLeft, IsLive, IsMet, IsWithin, JoinsUnder, LeavesUnder, StandsUnder, ReportsWhetherBare};
+ghost use Rattle.aud_lattice.specs.Walks.{child, walk, walk_mark, leads, left_under, nothing, but, starts, node_at, node_of, now_of, AreAlike, AreAlikeBut, AreJoined, IsAdded, IsTrie, IsRemainder, IsLive, IsMet, IsWithin, JoinsUnder, LeavesUnder, StandsUnder, ReportsWhetherBare};
 ghost use Rattle.aud_lattice.specs.Paths.{paths};
 ghost use Rattle.aud_lattice.specs.Covers.{begins};
 ghost use Rattle.aud_lattice.specs.declared.trie.Trie.TheVariants.{Fork};
@@ -461,7 +461,7 @@ impl<D: Key + Dup, A: Allocator + Copy> Trie<D, A> {
         requires ours { IsTrie D.Ord.cmp (arc_value ours.now) }
         requires live { IsLive D.Ord.cmp (arc_value ours.now) }
         requires theirs { IsTrie D.Ord.cmp (Fork theirs.now) }
-        ensures { IfOk result (IsLeft D.Ord.cmp (left_under D.Ord.cmp first.now (arc_value ours.now) theirs.now)) }
+        ensures { IfOk result (IsRemainder D.Ord.cmp (left_under D.Ord.cmp first.now (arc_value ours.now) theirs.now)) }
     {
         match theirs.get(first) {
             None => Ok(Some(Arc::try_clone(ours)?)),

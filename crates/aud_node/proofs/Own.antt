@@ -12,7 +12,7 @@ use Rattle.aud_know.specs.declared.item.Item.{Item}
 use Rattle.aud_know.specs.Items.{item_atoms}
 use Rattle.aud_know.specs.Known.{KnowledgeOf, norm_of}
 use Rattle.aud_node.specs.Logs.{Entry, own, atoms_in, state_of, IsWider}
-use Rattle.aud_node.specs.Meanings.{PassOf, mine, IsExact}
+use Rattle.aud_node.specs.Meanings.{PassOf, mine, SeesOwnOffers}
 use Rattle.aud_node.proofs.Fronts.{prefix_whole}
 
 own_one : (b : Bool) (x : Item Global) (xs ys : List (Item Global)) → (if b then x ∷ (xs ++ ys) else xs ++ ys) ≡ (if b then x ∷ xs else xs) ++ ys
@@ -102,7 +102,7 @@ mine_more old new item seat offers own_is =
     ap (take new.offers) entries ∙ take_all new.offers (mine old ++ item ∷ []) short
 
 -- a view that is the log has the pass's offers alone of its seat
-pub exact_whole : (old new : PassOf) (log : List Entry) → new.view ≡ log → new.seat ≡ old.seat → mine new ≡ mine old → own old.seat log ≡ mine old → IsExact new
+pub exact_whole : (old new : PassOf) (log : List Entry) → new.view ≡ log → new.seat ≡ old.seat → mine new ≡ mine old → own old.seat log ≡ mine old → SeesOwnOffers new
 exact_whole old new log view seat same whole = ap (λ s. own s new.view) seat ∙ ap (own old.seat) view ∙ whole ∙ sym same
 
 -- # Atoms

@@ -4,8 +4,8 @@ use Rattle.aud_node.specs.Logs.{Entry, own}
 use Rattle.aud_node.specs.Meanings.{PassOf}
 
 -- each number is how many of the log's entries are of the seat of its place
-abbrev pub AreCounts : List ℕ → List Entry → Type 0
-AreCounts counts log = (k : ℕ) → k < length counts → slice_index counts k ≡ length (own k log)
+abbrev pub AreSeatCounts : List ℕ → List Entry → Type 0
+AreSeatCounts counts log = (k : ℕ) → k < length counts → slice_index counts k ≡ length (own k log)
 
 -- each entry's seat has a count
 abbrev pub AreSeated : List ℕ → List Entry → Type 0

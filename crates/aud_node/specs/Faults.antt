@@ -3,7 +3,7 @@ use Rattle.std.specs.Prelude.{◌≡◌, ◌≢◌, ℕ, ◌<◌, ◌≤◌, Lis
 use Rattle.std.specs.declared.alloc.Global.{Global}
 use Rattle.aud_know.specs.declared.item.Item.{Item}
 use Rattle.aud_know.specs.Items.{IsOfPlan}
-use Rattle.aud_node.specs.Meanings.{NodeOf, PassOf, IsAt}
+use Rattle.aud_node.specs.Meanings.{NodeOf, PassOf, IsOfNode}
 use Rattle.aud_node.specs.declared.fault.StartFault.{StartFault}
 use Rattle.aud_node.specs.declared.fault.StartFault.TheVariants as start
 use Rattle.aud_node.specs.declared.fault.OfferFault.{OfferFault}
@@ -19,7 +19,7 @@ IsSeats seats = (1 ≤ seats) × (seats ≤ 32)
 
 -- the item is of the node's plan, and the pass of the node
 abbrev pub MayOffer : NodeOf → PassOf → Item Global → Type 0
-MayOffer n p item = IsOfPlan n.plan item × IsAt n p
+MayOffer n p item = IsOfPlan n.plan item × IsOfNode n p
 
 -- the fault of an offer: the plan is looked at first, then the node, and out of memory is reported only where neither is
 abbrev pub IsOfferFault : NodeOf → PassOf → Item Global → OfferFault → Type 0
@@ -30,11 +30,11 @@ IsOfferFault n p item offer.OutOfMemory = MayOffer n p item
 -- the fault of a reading
 abbrev pub IsReadFault : NodeOf → PassOf → ReadFault → Type 0
 IsReadFault n p read.WrongNode = p.number ≢ n.number
-IsReadFault n p read.OutOfMemory = IsAt n p
+IsReadFault n p read.OutOfMemory = IsOfNode n p
 
 -- both passes are of the node
 abbrev pub MayMeet : NodeOf → PassOf → PassOf → Type 0
-MayMeet n p q = IsAt n p × IsAt n q
+MayMeet n p q = IsOfNode n p × IsOfNode n q
 
 -- the fault of a meeting
 abbrev pub IsMeetFault : NodeOf → PassOf → PassOf → ReadFault → Type 0

@@ -64,8 +64,8 @@ abbrev pub mine : PassOf → List (Item Global)
 mine p = take p.offers (own p.seat p.view)
 
 -- the entries of the pass's seat in its view are its offers, each once, in order
-abbrev pub IsExact : PassOf → Type 0
-IsExact p = own p.seat p.view ≡ mine p
+abbrev pub SeesOwnOffers : PassOf → Type 0
+SeesOwnOffers p = own p.seat p.view ≡ mine p
 
 -- the same pass, whose view begins with the old one, and with the same offers
 abbrev pub GoesOn : PassOf → PassOf → Type 0
@@ -80,5 +80,5 @@ abbrev pub Agrees : List Entry → PassOf → Type 0
 Agrees log p = IsPrefix p.view log × (own p.seat log ≡ mine p)
 
 -- the pass is of the node
-abbrev pub IsAt : NodeOf → PassOf → Type 0
-IsAt n p = p.number ≡ n.number
+abbrev pub IsOfNode : NodeOf → PassOf → Type 0
+IsOfNode n p = p.number ≡ n.number

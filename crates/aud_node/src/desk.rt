@@ -4,7 +4,7 @@ ghost use Rattle.std.specs.Prelude.{◌≡◌, ◌+◌, ◌<◌, ◌^◌, ◌++�
 ghost use Rattle.std.specs.Arc.{arc_value};
 ghost use Rattle.aud_node.specs.Logs.{own, state_of, written_of, IsWider};
 ghost use Rattle.aud_node.specs.Meanings.{longer, mine, Agrees, GoesOn};
-ghost use Rattle.aud_node.specs.Counts.{AreCounts, AreSeated, IsCounted};
+ghost use Rattle.aud_node.specs.Counts.{AreSeatCounts, AreSeated, IsCounted};
 
 use crate::book::{Fleet, Front, Head};
 use crate::pass::Pass;
@@ -68,7 +68,7 @@ pub struct Desk<J: Fleet, R: Wait + Drop> {
     pub(crate) counts: Vec<u64>,
     ghost shown: { scribe.writer.desk.shown.value.front.log ≡ written_of log.items },
     ghost whole: { held.latest.front.log ≡ written_of log.items },
-    ghost counted: { AreCounts counts.items (written_of log.items) },
+    ghost counted: { AreSeatCounts counts.items (written_of log.items) },
     ghost seated: { AreSeated counts.items (written_of log.items) },
 }
 
@@ -227,11 +227,11 @@ fn note(log: &mut Vec<(u32, Arc<Item>)>, counts: &mut Vec<u64>, seat: u32, item:
     requires seat { seat < length counts.old.items }
     requires room { vec_len log.old < vec_capacity log.old }
     requires small { length log.old.items < 2 ^ 62 }
-    requires counted { AreCounts counts.old.items (written_of log.old.items) }
+    requires counted { AreSeatCounts counts.old.items (written_of log.old.items) }
     requires seated { AreSeated counts.old.items (written_of log.old.items) }
     ensures log { written_of log.new.items ≡ written_of log.old.items ++ (seat, arc_value item) ∷ [] }
     ensures len { length counts.new.items ≡ length counts.old.items }
-    ensures counted { AreCounts counts.new.items (written_of log.new.items) }
+    ensures counted { AreSeatCounts counts.new.items (written_of log.new.items) }
     ensures seated { AreSeated counts.new.items (written_of log.new.items) }
 {
     counts[seat as usize] += 1;

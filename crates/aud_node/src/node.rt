@@ -4,7 +4,7 @@ ghost use Rattle.std.specs.Prelude.{◌≡◌, ◌↔◌, ◌+◌, ◌<◌, ◌+
 ghost use Rattle.std.specs.Result.{IsErrOf};
 ghost use Rattle.aud_know.specs.Verdicts.{IsVerdict};
 ghost use Rattle.aud_node.specs.Logs.{state_of, upto, written_of, IsKnownIn, Offered, SaysNotOpaque, SaysOpaque};
-ghost use Rattle.aud_node.specs.Meanings.{first_pass, mine, node_of, unseen, Agrees, GoesOn, HasSeen, IsAt, IsExact};
+ghost use Rattle.aud_node.specs.Meanings.{first_pass, mine, node_of, unseen, Agrees, GoesOn, HasSeen, IsOfNode, SeesOwnOffers};
 ghost use Rattle.aud_node.specs.Faults.{IsSeats, IsOfferFault, IsReadFault, IsMeetFault, IsCloseFault, MayClose, MayMeet, MayOffer};
 
 use crate::book::{Fleet, Front, Head, open};
@@ -101,7 +101,7 @@ impl<J: Fleet, D: Drop> Node<J, D> {
         ensures verdict { IfOk result (λ v. IsVerdict (state_of self.now.plan pass.new.view) v) }
         ensures opaque { IfOk result (λ v. SaysOpaque (state_of self.now.plan pass.new.view) v) }
         ensures not_opaque { IfOk result (λ v. SaysNotOpaque (state_of self.now.plan pass.new.view) v) }
-        ensures read { OnOk result (IsAt self.now pass.old) }
+        ensures read { OnOk result (IsOfNode self.now pass.old) }
         ensures fault { IfErr result (λ e. IsReadFault self.now pass.old e) }
         ensures wrong { IsErrOf result ReadFault.WrongNode → pass.new ≡ pass.old }
     {
@@ -119,7 +119,7 @@ impl<J: Fleet, D: Drop> Node<J, D> {
     pub fn knows(&self, pass: &mut Pass<J>, prefix: &Prefix) -> Result<bool, ReadFault>
         ensures view { GoesOn pass.old pass.new }
         ensures knows { IfOk result (λ b. IsTrue b ↔ IsKnownIn self.now.plan pass.new.view prefix.now) }
-        ensures read { OnOk result (IsAt self.now pass.old) }
+        ensures read { OnOk result (IsOfNode self.now pass.old) }
         ensures fault { IfErr result (λ e. (e ≡ ReadFault.WrongNode) × IsReadFault self.now pass.old e) }
         ensures wrong { OnErr result (pass.new ≡ pass.old) }
     {
@@ -133,7 +133,7 @@ impl<J: Fleet, D: Drop> Node<J, D> {
     pub fn snapshot(&self, pass: &mut Pass<J>) -> Result<Packet, ReadFault>
         ensures view { GoesOn pass.old pass.new }
         ensures known { IfOk result (λ p. p.known.value ≡ state_of self.now.plan pass.new.view) }
-        ensures read { OnOk result (IsAt self.now pass.old) }
+        ensures read { OnOk result (IsOfNode self.now pass.old) }
         ensures fault { IfErr result (λ e. IsReadFault self.now pass.old e) }
         ensures wrong { IsErrOf result ReadFault.WrongNode → pass.new ≡ pass.old }
     {
@@ -191,7 +191,7 @@ impl<J: Fleet, S: Wait + Drop> Node<J, Desk<J, S>> {
     ) -> Result<(), (Item, OfferFault)>
         ensures view { OnOk result (Offered pass.old.view pass.new.view pass.old.seat item) }
         ensures mine { OnOk result (mine pass.new ≡ mine pass.old ++ item ∷ []) }
-        ensures own { OnOk result (IsExact pass.new) }
+        ensures own { OnOk result (SeesOwnOffers pass.new) }
         ensures offers { OnOk result (pass.new.offers ≡ pass.old.offers + 1) }
         ensures same { (pass.new.number ≡ pass.old.number) × (pass.new.seat ≡ pass.old.seat) }
         ensures taken { OnOk result (MayOffer self.now pass.old item) }
@@ -226,7 +226,7 @@ impl<J: Fleet, S: Wait + Drop> Node<J, Desk<J, S>> {
         ensures one { GoesOn one.old one.new }
         ensures other { GoesOn other.old other.new }
         ensures both { OnOk result (HasSeen one.new other.old × HasSeen other.new one.old) }
-        ensures own { OnOk result (IsExact one.new × IsExact other.new) }
+        ensures own { OnOk result (SeesOwnOffers one.new × SeesOwnOffers other.new) }
         ensures met { OnOk result (MayMeet self.now one.old other.old) }
         ensures fault { IfErr result (λ e. IsMeetFault self.now one.old other.old e) }
         ensures same { OnErr result ((one.new ≡ one.old) × (other.new ≡ other.old)) }

@@ -17,7 +17,7 @@ use Rattle.aud_order.specs.Kids.{AreKids}
 use Rattle.aud_cover.proofs.Steps.{no_decision}
 use Rattle.aud_cover.proofs.Distinct.{kids-rise}
 use Rattle.aud_cover.proofs.Opened.{begins-less, sorted-append, sorted-none, sorted-one, none_there, only_there}
-use Rattle.aud_split.specs.Tasks.{HasNoKids, IsTask, AreTasks, AreAdded}
+use Rattle.aud_split.specs.Tasks.{HasNoKids, IsTask, AreTasks, AreTasksAdded}
 
 abbrev Lists : Type 0
 Lists = List (List Decision)
@@ -76,7 +76,7 @@ module _ (objects : List Declared) (h : History) where
       go (d ∷ rest) is (inr both) (inl none) = let short = both.0 in absurd (omega arith)
       go (d ∷ rest) is ends (inr it) = absurd (last-no_kids p it d (longer-good p q d rest task.good is))
 
-  pub added-last : (p : List Decision) (depth : ℕ) (old new : Lists) → IsGood objects h p → IsLast depth p → new ≡ old ++ p ∷ [] → AreAdded objects h p depth old new
+  pub added-last : (p : List Decision) (depth : ℕ) (old new : Lists) → IsGood objects h p → IsLast depth p → new ≡ old ++ p ∷ [] → AreTasksAdded objects h p depth old new
   added-last p depth old new good last is = record {
     more = p ∷ [];
     grown = is;
@@ -147,7 +147,7 @@ module _ (objects : List Declared) (h : History) where
   }
 
   pub gathered-more : (p ks : List Decision) (less n : ℕ) (old mid new : Lists) → AreKids objects h p ks → n < length ks → AreGathered p ks less n old mid →
-      AreAdded objects h (p ++ get_or ks n no_decision ∷ []) less mid new → AreGathered p ks less (n + 1) old new
+      AreTasksAdded objects h (p ++ get_or ks n no_decision ∷ []) less mid new → AreGathered p ks less (n + 1) old new
   gathered-more p ks less n old mid new kids inside before added = record {
     more = before.more ++ added.more;
     grown = added.grown ∙ ap (λ l. l ++ added.more) before.grown ∙ append_assoc old before.more added.more;
@@ -186,7 +186,7 @@ module _ (objects : List Declared) (h : History) where
   some_kid p (d ∷ ks) good kids some none = none d (IsGood-push objects h p d good ((kids.each d).0 (0, omega arith, refl)))
 
   pub added-kids : (p ks : List Decision) (less depth n : ℕ) (old new : Lists) → IsGood objects h p → less + 1 ≡ depth → (ks ≡ [] → ⊥) → AreKids objects h p ks → length ks ≤ n →
-      AreGathered p ks less n old new → AreAdded objects h p depth old new
+      AreGathered p ks less n old new → AreTasksAdded objects h p depth old new
   added-kids p ks less depth n old new good one some kids past all = record {
     more = all.more;
     grown = all.grown;
@@ -211,7 +211,7 @@ module _ (objects : List Declared) (h : History) where
   -- # Of all
 
   -- all that is added to nothing
-  pub tasks-added : (p : List Decision) (depth : ℕ) (old new : Lists) → old ≡ [] → AreAdded objects h p depth old new → AreTasks objects h p depth new
+  pub tasks-added : (p : List Decision) (depth : ℕ) (old new : Lists) → old ≡ [] → AreTasksAdded objects h p depth old new → AreTasks objects h p depth new
   tasks-added p depth old new none added = subst (λ l. AreTasks objects h p depth l) (sym (added.grown ∙ ap (λ l. l ++ added.more) none)) added.tasks
 
   -- below a prefix that is not good is none

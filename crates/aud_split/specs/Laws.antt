@@ -26,12 +26,12 @@ TasksClose =
 
 -- the cover of the normal form has a beginning of a prefix exactly where an atom refutes one, and there is a witness in it
 -- exactly where an atom is a witness
-pub record AreKept (atoms : List KnownAtom) : Type 0 where
+pub record KeepsAtoms (atoms : List KnownAtom) : Type 0 where
   pub refuted : (t : List Decision) → IsRefutedBy atoms t ↔ IsCovered (norm_of atoms).cover t
   pub shown : HasShown atoms ↔ HasWitness (norm_of atoms)
 
 abbrev pub KnownIsKept : Type 0
-KnownIsKept = (atoms : List KnownAtom) → AreKept atoms
+KnownIsKept = (atoms : List KnownAtom) → KeepsAtoms atoms
 
 -- where the history of some of the facts was split and each task ended by what was taken, the verdict is one on facts that are
 -- not sealed; or these are all facts, and it says of the history what the tasks do

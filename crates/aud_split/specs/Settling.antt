@@ -10,7 +10,7 @@ use Rattle.aud_order.specs.Shapes.{ShapeOf}
 use Rattle.aud_know.specs.Norms.{refuted, shown}
 use Rattle.aud_know.specs.Known.{KnownAtom}
 use Rattle.aud_node.specs.Logs.{Entry, atoms_in}
-use Rattle.aud_node.specs.Meanings.{NodeOf, PassOf, IsAt, mine}
+use Rattle.aud_node.specs.Meanings.{NodeOf, PassOf, IsOfNode, mine}
 use Rattle.aud_node.proofs.Own.{atoms-append}
 use Rattle.aud_split.specs.Pools.{IsFindingOf, IsSettled, HasSearched}
 
@@ -49,5 +49,5 @@ searched_onward s p q r a b = record {
 }
 
 -- a later pass is of the same node
-pub still_at : (s : ShapeOf) (n : NodeOf) (p q : PassOf) → HasSearched s p q → IsAt n p → IsAt n q
+pub still_at : (s : ShapeOf) (n : NodeOf) (p q : PassOf) → HasSearched s p q → IsOfNode n p → IsOfNode n q
 still_at s n p q on at = on.number ∙ at

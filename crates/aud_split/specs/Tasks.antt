@@ -28,11 +28,11 @@ pub record AreTasks (objects : List Declared) (h : History) (p : List Decision) 
   pub rising : IsStrictlySortedBy (slice_cmp decision_cmp) list
 
 -- to a list are added exactly the tasks below p, each once, the least first
-pub record AreAdded (objects : List Declared) (h : History) (p : List Decision) (depth : ℕ) (old new : List (List Decision)) : Type 0 where
+pub record AreTasksAdded (objects : List Declared) (h : History) (p : List Decision) (depth : ℕ) (old new : List (List Decision)) : Type 0 where
   pub more : List (List Decision)
   pub grown : new ≡ old ++ more
   pub tasks : AreTasks objects h p depth more
 
 -- to a list are added exactly the tasks below the cursor's list, each once, the least first
 abbrev pub AddsTasks : CursorOf → ℕ → List (List Decision) → List (List Decision) → Type 0
-AddsTasks cursor depth old new = AreAdded (objects_of cursor.shape) (history_of cursor.shape) cursor.path depth old new
+AddsTasks cursor depth old new = AreTasksAdded (objects_of cursor.shape) (history_of cursor.shape) cursor.path depth old new

@@ -2,7 +2,7 @@
 
 ghost use Rattle.std.specs.Prelude.{◌≡◌};
 ghost use Rattle.aud_order.specs.Shapes.{plan_of};
-ghost use Rattle.aud_node.specs.Meanings.{IsAt};
+ghost use Rattle.aud_node.specs.Meanings.{IsOfNode};
 ghost use Rattle.aud_split.specs.Pools.{HasSearched, IsSettled};
 
 use aud_event::OutOfMemory;
@@ -32,13 +32,13 @@ impl<'a, H: Scene, J: Fleet, S: Wait + Drop> Work<Prefix, Pass<J>, Session<'a, H
     for Explorer<'a, H, J, S> {
     ghost use Rattle.std.specs.Prelude.{◌≡◌};
     ghost use Rattle.aud_order.specs.Shapes.{plan_of};
-    ghost use Rattle.aud_node.specs.Meanings.{IsAt};
+    ghost use Rattle.aud_node.specs.Meanings.{IsOfNode};
     ghost use Rattle.aud_split.specs.Pools.{HasSearched, IsSettled};
     ghost use Rattle.aud_split.specs.Settling.{settled_later, still_at, searched_itself, searched_onward};
 
     ghost fits = { λ w session. session ≡ w.shape.now.value };
 
-    ghost may_work = { λ w pass. IsAt w.node.now pass × (plan_of w.shape.now.value ≡ w.node.now.plan) };
+    ghost may_work = { λ w pass. IsOfNode w.node.now pass × (plan_of w.shape.now.value ≡ w.node.now.plan) };
 
     ghost done = { λ w pass task. IsSettled w.shape.now.value w.budget pass.view task };
 

@@ -131,7 +131,7 @@ pub fn run_pool_with<
     }
 }
 
-/// The same of a history that a scene names. Its workers alone share what they refute.
+/// Runs the pool over a history that a scene names. Its workers alone share what they refute.
 fn run_own<
     H: Scene + Send + Sync,
     J: Fleet + Send + Sync,

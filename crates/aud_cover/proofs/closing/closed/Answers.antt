@@ -10,7 +10,7 @@ use Rattle.aud_witness.specs.DecisionOrder.{decision_cmp}
 use Rattle.aud_order.specs.Shapes.{objects_of, history_of}
 use Rattle.aud_order.specs.Cursors.{CursorOf, IsCursorAfter}
 use Rattle.aud_cover.specs.Closings.{IsCovered}
-use Rattle.aud_cover.specs.Leading.{LeadsTo, ReportsClosed}
+use Rattle.aud_cover.specs.Leading.{LeadsIntoTrie, ReportsClosed}
 use Rattle.aud_cover.proofs.Beginnings.{marked-covered}
 use Rattle.aud_cover.proofs.Leads.{node-leads, nowhere-outside}
 use Rattle.aud_cover.proofs.Steps.{at-covered, at-bad, at-outside, IsClosedAt}
@@ -38,7 +38,7 @@ returns-in-Some-at g c =
     let node = c.in-Some-at.node.now in
     let found : IsCursorAfter shape p (Some c.in-Some.cursor) = subst (IsCursorAfter shape p) c.in-Some.is (subst (λ (l : List Decision). IsCursorAfter shape l c.in_ok-cursor.field-0) c.decisions-2.ensures c.in_ok-cursor.ensures) in
     let at : node_at decision_cmp p root ≡ Some node = (λ i. node_at decision_cmp (sym c.decisions-3.ensures i) c.trie.result.now) ∙ sym c.at.ensures ∙ ap option_copied c.in-Some-at.is in
-    let leads : LeadsTo cover p node = node-leads cover c.trie.result.now c.trie.ensures.good c.trie.ensures.lists p node at in
+    let leads : LeadsIntoTrie cover p node = node-leads cover c.trie.result.now c.trie.ensures.good c.trie.ensures.lists p node at in
     if_both c.closed_here.result (ReportsClosed c.in-Some.cursor node) (ReportsClosed c.in-Some.cursor node) (λ b. IsTrue b ↔ IsClosedAt cover (record { shape = shape; path = p }))
     (λ b reported _. subst (λ (w : CursorOf). ReportsClosed w node b) found.0 reported cover leads) c.closed_here.ensures.closed c.closed_here.ensures.closed
 

@@ -9,7 +9,7 @@ use Rattle.aud_witness.proofs.Good.{IsGood-push}
 use Rattle.aud_order.specs.Shapes.{objects_of, history_of}
 use Rattle.aud_order.specs.Cursors.{CursorOf}
 use Rattle.aud_order.specs.Kids.{AreKids}
-use Rattle.aud_cover.specs.Leading.{LeadsTo}
+use Rattle.aud_cover.specs.Leading.{LeadsIntoTrie}
 use Rattle.aud_cover.specs.Openings.{IsReached, AreAdded}
 use Rattle.aud_cover.proofs.Steps.{no_decision, IsGoodAt, kid-good, cursor-back, cursor_with}
 use Rattle.aud_cover.proofs.Opened.{added-covered, added-outside, added-full, added-kids, gathered-none, gathered-more, reached-kid}
@@ -71,7 +71,7 @@ loop-kid-preserved g t c =
     elim c.match-step.branch [
       | in-Some+in_ok-open_here-in-Some w ↦
           let found = sym c.step.ensures ∙ ap option_copied w.in-Some.is in
-          let reached_kid : (cover : List (List Decision)) → LeadsTo cover start.path c.args.node.now → IsReached (objects_of c.push.new.self.shape) (history_of c.push.new.self.shape) cover c.push.new.self.path =
+          let reached_kid : (cover : List (List Decision)) → LeadsIntoTrie cover start.path c.args.node.now → IsReached (objects_of c.push.new.self.shape) (history_of c.push.new.self.shape) cover c.push.new.self.path =
           λ cover leads. subst (λ (w : CursorOf). IsReached (objects_of w.shape) (history_of w.shape) cover w.path) (sym there) (reached-kid objects history cover start.path kid c.prefix-path.ensures.good (at-inner cover start.path c.args.node.now leads inner)) in
           record {
             same = cursor-back start c.loop-kid.cursor c.push.new.self c.match-step.cursor c.pop.new.self kid c.pop.result c.loop-kid.invariant.same

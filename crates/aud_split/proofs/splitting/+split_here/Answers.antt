@@ -5,7 +5,7 @@ use Rattle.aud_order.specs.Shapes.{objects_of, history_of}
 use Rattle.aud_order.specs.Cursors.{CursorOf}
 use Rattle.aud_order.specs.Kids.{AreKids}
 use Rattle.aud_cover.proofs.Steps.{no_decision, kid-good, cursor-back, cursor_with}
-use Rattle.aud_split.specs.Tasks.{AreAdded}
+use Rattle.aud_split.specs.Tasks.{AreTasksAdded}
 use Rattle.aud_split.proofs.Tasks.{IsLast, none_by_length, some_by_length, added-last, no_kids, gathered-none, gathered-more, added-kids}
 use Rattle.aud_split.proofs.splitting.+split_here.Goals as goal
 use Rattle.aud_split.proofs.splitting.+split_here.Goals.{then-depth-eq0-via-then-depth-eq0, then-depth-eq0-via-else-depth-eq0+then-full}
@@ -47,7 +47,7 @@ loop-kid-preserved g t c =
     let next = kid-good start c.loop-kid.cursor c.in_ok-kids.kids.items c.deref-kid-items.result.now c.loop-kid.kid-index c.in_ok-kids.ensures.kids c.deref-kid-items.ensures.value c.loop-kid-test.true c.loop-kid.invariant.same in
     let grown = c.in_ok-push.ensures.goes (c.in_ok-push.ensures.good.1 next) in
     let are = subst (λ (l : List Decision). AreKids (objects_of start.shape) (history_of start.shape) start.path l) (sym c.deref-kid-items.ensures.value) c.in_ok-kids.ensures.kids in
-    let added = subst (λ (w : CursorOf). AreAdded (objects_of w.shape) (history_of w.shape) w.path (c.args.depth - 1) c.loop-kid.list.items c.split_here.new.list.items)
+    let added = subst (λ (w : CursorOf). AreTasksAdded (objects_of w.shape) (history_of w.shape) w.path (c.args.depth - 1) c.loop-kid.list.items c.split_here.new.list.items)
     (grown ∙ ap (λ (w : CursorOf). cursor_with w kid) c.loop-kid.invariant.same) c.in_ok-split_here.ensures.added in record {
       same = cursor-back start c.loop-kid.cursor c.push.new.self c.split_here.new.cursor c.pop.new.self kid c.pop.result c.loop-kid.invariant.same
           grown c.in_ok-split_here.ensures.back c.pop.ensures.root c.pop.ensures.back;

@@ -3,7 +3,7 @@ use Rattle.std.proofs.Common.{sym, ◌∙◌, ap, subst}
 use Rattle.aud_witness.specs.declared.decision.Decision.{Decision}
 use Rattle.aud_order.specs.Shapes.{objects_of, history_of}
 use Rattle.aud_order.specs.Cursors.{CursorOf, IsCursorAfter}
-use Rattle.aud_split.specs.Tasks.{AreAdded, AreTasks}
+use Rattle.aud_split.specs.Tasks.{AreTasksAdded, AreTasks}
 use Rattle.aud_split.proofs.Tasks.{tasks-added, tasks-bad, bad-empty}
 use Rattle.aud_split.proofs.splitting.split.Goals as goal
 use Rattle.aud_split.proofs.splitting.split.Goals.{in-Some+in_ok-split_here, in_default}
@@ -16,7 +16,7 @@ returns-clause-tasks g c =
     elim c.match-branch-2.branch [
       | in-Some+in_ok-split_here w ↦
           let found : IsCursorAfter c.args.shape.now p (Some w.in-Some.cursor) = subst (IsCursorAfter c.args.shape.now p) w.in-Some.is (subst (λ (l : List Decision). IsCursorAfter c.args.shape.now l c.in_ok-cursor.field-0) c.decisions.ensures c.in_ok-cursor.ensures) in
-          let added = subst (λ (u : CursorOf). AreAdded (objects_of u.shape) (history_of u.shape) u.path c.args.depth c.new-list.result.items w.split_here.new.list.items) found.0 w.in_ok-split_here.ensures.added in
+          let added = subst (λ (u : CursorOf). AreTasksAdded (objects_of u.shape) (history_of u.shape) u.path c.args.depth c.new-list.result.items w.split_here.new.list.items) found.0 w.in_ok-split_here.ensures.added in
           subst (λ (l : List (List Decision)). AreTasks objects history p c.args.depth l) (ap (λ v. v.items) (sym w.list-is))
           (tasks-added objects history p c.args.depth c.new-list.result.items w.split_here.new.list.items c.new-list.ensures.items added)
       | in_default w ↦

@@ -7,7 +7,7 @@ use Rattle.std.specs.Map.{keys_of}
 use Rattle.std.specs.Arc.{arc_value}
 use Rattle.aud_lattice.specs.declared.trie.Trie.TheVariants.{Fork, outs-Fork, outs-Member}
 use Rattle.aud_lattice.specs.declared.trie.Trie.{Trie, out-Trie}
-use Rattle.aud_lattice.specs.Walks.{leads, nothing, but, after, child, starts, nodes_of, node_of, IsTrie, IsLive, IsLeft}
+use Rattle.aud_lattice.specs.Walks.{leads, nothing, but, after, child, starts, nodes_of, node_of, IsTrie, IsLive, IsRemainder}
 use Rattle.aud_lattice.specs.Sets.{either}
 use Rattle.aud_lattice.proofs.Tries.{any_by, pointwise, found_kids, child_size, good_child, live_child, fork_good_at, fork_ordered, fork_set_good, found_node, gone_node, sorted_nodes, empty_good, empty_walk}
 use Rattle.base_values.proofs.Results.{on_ok, if_both}
@@ -23,7 +23,7 @@ leave-returns-in-None-clause-left g t c =
     let x = c.args.first.now in
     let f = leads R (arc_value c.args.node.now) in
     let there = leads R (Fork c.args.theirs.now) in
-    let is : but f (after x there) ≡ nothing = subst (IsLeft {A = g.row.A.Denot} R (but f (after x there))) c.in-None.is c.in_ok-left.ensures in
+    let is : but f (after x there) ≡ nothing = subst (IsRemainder {A = g.row.A.Denot} R (but f (after x there))) c.in-None.is c.in_ok-left.ensures in
     λ i. either ((sym (starts_nothing R x) ∙ ap (starts R x) (sym is) ∙ starts_but R g.met.D.Key.exact x f there) i) (leads R (Fork c.args.all.now))
 
 pub leave-returns-in-Some-clause-good : goal.leave-returns-in-Some-clause-good
@@ -32,7 +32,7 @@ leave-returns-in-Some-clause-good g t c =
     let x = c.args.first.now in
     let f = leads R (arc_value c.args.node.now) in
     let there = leads R (Fork c.args.theirs.now) in
-    let is : IsLeft R (but f (after x there)) (Some c.in-Some.node) = subst (IsLeft R (but f (after x there))) c.in-Some.is c.in_ok-left.ensures in
+    let is : IsRemainder R (but f (after x there)) (Some c.in-Some.node) = subst (IsRemainder R (but f (after x there))) c.in-Some.is c.in_ok-left.ensures in
     on_ok c.set.result _ _
     (λ kids. fork_set_good R g.met.D.Ord.total g.met.D.Key.exact c.args.all.now c.set.new.next x (arc_value c.in-Some.node) c.set.ensures.ordered kids c.requires.into is.0 is.1)
     c.set.ensures.ok
@@ -48,7 +48,7 @@ leave-returns-in-Some-clause-left g t c =
     let x = c.args.first.now in
     let f = leads R (arc_value c.args.node.now) in
     let there = leads R (Fork c.args.theirs.now) in
-    let is : IsLeft R (but f (after x there)) (Some c.in-Some.node) = subst (IsLeft R (but f (after x there))) c.in-Some.is c.in_ok-left.ensures in
+    let is : IsRemainder R (but f (after x there)) (Some c.in-Some.node) = subst (IsRemainder R (but f (after x there))) c.in-Some.is c.in_ok-left.ensures in
     on_ok c.set.result _ _
     (λ kids.
     set_leads R g.met.D.Ord.total g.met.D.Key.exact c.args.all.now c.set.new.next x (arc_value c.in-Some.node) kids c.requires.absent
