@@ -53,8 +53,8 @@ fn last_of<A: Allocator + Copy>(shape: &Shape<A>, prefix: &[Decision]) -> u32 {
     }
 }
 
-/// How much room the memo of a search has, in bytes, of what there is for all of them, and as much the clauses: all is for one search where
-/// nobody else searches.
+/// How many bytes the memo of a search may take: half of the search's share; the clauses have the other half. One search has all where nobody
+/// else searches.
 fn room_of<J: Scene, A: Allocator + Copy>(
     shared: Option<&Shared<J, A>>,
     is_sharing: bool,
@@ -68,7 +68,7 @@ fn room_of<J: Scene, A: Allocator + Copy>(
 /// Where the prefix is empty, clause learning may take as long as a search of at least so many prefixes.
 const LEAST: u64 = 1 << 16;
 
-/// The same where the prefix is not empty: mostly clauses were learned of all orders before.
+/// As many where the prefix is not empty: clauses were mostly learned of all orders by then.
 const LEAST_BELOW: u64 = 1 << 18;
 
 /// How many prefixes clause learning may at least take as long as.

@@ -27,6 +27,6 @@ IsOfFacts facts (item.Finding g) = ⊥
 IsOfFacts facts (item.Known k) = k.value ≡ knowing_facts facts
 
 -- the pass offered one item more: what is known of the facts of the node of that number, of so many nodes
-abbrev pub HasOffered : FactsOf → ℕ → ℕ → PassOf → PassOf → Type 0
-HasOffered facts nodes number old new =
+abbrev pub HasOfferedShare : FactsOf → ℕ → ℕ → PassOf → PassOf → Type 0
+HasOfferedShare facts nodes number old new =
     (i : Item Global) × ((mine new ≡ mine old ++ i ∷ []) × IsOfFacts (record { plan = facts.plan; facts = share_of nodes number facts.facts }) i)

@@ -4,7 +4,7 @@ use Rattle.aud_report.specs.Lines.{line_of}
 use Rattle.aud_report.specs.declared.said.Said.{Said}
 use Rattle.cli_input.specs.Inputs.{input_read}
 use Rattle.cli_lines.specs.Line.{InputSays}
-use Rattle.cli_lines.specs.Outcomes.{Nothing, RunOutcome, Seen, ended_by}
+use Rattle.cli_lines.specs.Outcomes.{NothingSaid, RunOutcome, DeviceSeen, ended_by}
 use Rattle.cli_lines.specs.declared.ended.Cause.{Cause}
 use Rattle.cli_lines.specs.declared.ended.Cause.TheVariants.{Input, Memory, Output, Thread}
 use Rattle.cli_lines.specs.declared.ended.Ended.{Ended}
@@ -28,6 +28,6 @@ IsOfAudit Thread = ⊤
 
 -- what a run leaves that ends so, as one of `check`, `decide` or `verify` does; where a thread was not to be had, nothing
 -- went out
-abbrev pub AuditOutcome : (Said → Type 0) → Seen → Seen → Ended → Type 0
-AuditOutcome May before after (ended.Failed Thread) = Nothing 0 before after
+abbrev pub AuditOutcome : (Said → Type 0) → DeviceSeen → DeviceSeen → Ended → Type 0
+AuditOutcome May before after (ended.Failed Thread) = NothingSaid 0 before after
 AuditOutcome May before after e = RunOutcome May before after e

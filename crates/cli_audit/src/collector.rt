@@ -1,8 +1,8 @@
 //! What a node's first seat does: it offers facts, and takes in what other nodes post.
 
 ghost use Rattle.std.specs.Prelude.{◌≡◌, ◌<◌, false, OnOk};
-ghost use Rattle.aud_node.specs.Meanings.{IsAt};
-ghost use Rattle.cli_audit.specs.Doings.{HasOffered};
+ghost use Rattle.aud_node.specs.Meanings.{IsOfNode};
+ghost use Rattle.cli_audit.specs.Doings.{HasOfferedShare};
 ghost use Rattle.cli_audit.specs.Seats.{IsSameSeat};
 
 use aud_event::OutOfMemory;
@@ -41,11 +41,11 @@ fn offer_share<J: Fleet, S: Wait + Drop, R: Wait>(
     facts: &Facts,
     nodes: usize,
 ) -> Result<(), OutOfMemory>
-    requires at { IsAt node.now pass.old }
+    requires at { IsOfNode node.now pass.old }
     requires plan { facts.now.plan ≡ node.now.plan }
     requires some { 0 < nodes }
     ensures seat { IsSameSeat pass.old pass.new }
-    ensures offered { OnOk result (HasOffered facts.now nodes node.now.number pass.old pass.new) }
+    ensures offered { OnOk result (HasOfferedShare facts.now nodes node.now.number pass.old pass.new) }
 {
     let share = facts.share(nodes, node.number() as usize)?;
     let known = Arc::new(alloc, Knowledge::of_facts(alloc, share)?)?;
@@ -66,12 +66,12 @@ impl<J: Fleet> Collector<J> {
         facts: &Facts,
         nodes: usize,
     )
-        requires at { IsAt node.now self.old.pass }
+        requires at { IsOfNode node.now self.old.pass }
         requires plan { facts.now.plan ≡ node.now.plan }
         requires some { 0 < nodes }
         ensures seat { IsSameSeat self.old.pass self.new.pass }
         ensures failed { self.new.failed ≡ false → self.old.failed ≡ false }
-        ensures offered { self.new.failed ≡ false → HasOffered facts.now nodes node.now.number self.old.pass self.new.pass }
+        ensures offered { self.new.failed ≡ false → HasOfferedShare facts.now nodes node.now.number self.old.pass self.new.pass }
     {
         if offer_share(rt, alloc, node, &mut self.pass, facts, nodes).is_err() {
             self.failed = true;
@@ -86,7 +86,7 @@ impl<J: Fleet> Collector<J> {
         node: &Running<J, S>,
         inbox: &Receiver<Packet>,
     )
-        requires at { IsAt node.now self.old.pass }
+        requires at { IsOfNode node.now self.old.pass }
         ensures seat { IsSameSeat self.old.pass self.new.pass }
         ensures failed { self.new.failed ≡ false → self.old.failed ≡ false }
     {
@@ -97,7 +97,7 @@ impl<J: Fleet> Collector<J> {
 
     /// What the node knows, as the collector sees it.
     fn seen<S: Wait + Drop>(&mut self, node: &Running<J, S>) -> Result<Packet, OutOfMemory>
-        requires at { IsAt node.now self.old.pass }
+        requires at { IsOfNode node.now self.old.pass }
         ensures { IsSameSeat self.old.pass self.new.pass }
     {
         match node.snapshot(&mut self.pass) {
@@ -113,7 +113,7 @@ impl<J: Fleet> Collector<J> {
         node: &Running<J, S>,
         facts: &Facts,
     ) -> Result<bool, OutOfMemory>
-        requires at { IsAt node.now self.old.pass }
+        requires at { IsOfNode node.now self.old.pass }
         ensures { IsSameSeat self.old.pass self.new.pass }
     {
         let packet = self.seen(node)?;
@@ -126,7 +126,7 @@ impl<J: Fleet> Collector<J> {
         node: &Running<J, S>,
         facts: &Facts,
     ) -> Result<bool, OutOfMemory>
-        requires at { IsAt node.now self.old.pass }
+        requires at { IsOfNode node.now self.old.pass }
         ensures { IsSameSeat self.old.pass self.new.pass }
     {
         let packet = self.seen(node)?;

@@ -2,7 +2,7 @@
 
 ghost use Rattle.std.specs.Prelude.{◌≡◌, ◌<◌, ◌≤◌, true, false, IfOk, OnOk, vec_len};
 ghost use Rattle.aud_node.specs.Logs.{state_of};
-ghost use Rattle.aud_node.specs.Meanings.{IsAt};
+ghost use Rattle.aud_node.specs.Meanings.{IsOfNode};
 ghost use Rattle.aud_split.specs.Pools.{MayRun};
 ghost use Rattle.aud_gossip.specs.Deltas.{joined};
 ghost use Rattle.aud_gossip.specs.Receiving.{GoesFurther};
@@ -117,7 +117,7 @@ fn post_from<J: Fleet, S: Wait + Drop, R: Wait>(
     pass: &mut Pass<J>,
     outbox: &mut Outbox,
 ) -> Result<(), OutOfMemory>
-    requires at { IsAt node.now pass.old }
+    requires at { IsOfNode node.now pass.old }
     requires taken { IsTakenOf node.now.plan outbox.old.taken }
     ensures further { GoesFurther pass.old pass.new }
     ensures taken { IsTakenOf node.now.plan outbox.new.taken }

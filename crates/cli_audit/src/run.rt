@@ -32,7 +32,7 @@ use std::thread::Threads;
 /// The budget of few tasks where the words give none, when they are searched first.
 const SOON: u64 = 256;
 
-/// The budget of the tasks that are left open then, when they are searched again.
+/// The budget of the tasks that are left open after the search by few prefixes, when they are searched again.
 const AGAIN: u64 = 1 << 20;
 
 /// Their budget when they are searched for the last time.

@@ -94,7 +94,7 @@ pub fn read_input(alloc: Global, text: &[u8]) -> Result<Input, InputFault>
     }
 }
 
-/// The same of a text that is let go once it is read.
+/// The plan and the facts that a text says, which is let go once it is read.
 pub fn take_input(alloc: Global, text: Vec<u8>) -> Result<Input, InputFault>
     ensures { MatchResult result (λ input. input_read text.items ≡ Ok input)
         (λ e. (e ≡ InputFault.OutOfMemory) ⊎ (input_read text.items ≡ Err e)) }

@@ -5,7 +5,7 @@ use Rattle.std.proofs.lemmas.List.Elements.{All-head, All-tail, All-cons, All-ni
 use Rattle.aud_text.specs.declared.fault.TextFault.{TextFault}
 use Rattle.aud_text.specs.Lines.{Filled, lines_of, put_first, filled_from, filled_lines}
 use Rattle.aud_cert.specs.declared.fault.CertTextFault.{CertTextFault}
-use Rattle.aud_cert.specs.LineText.{Line, line_read}
+use Rattle.aud_cert.specs.LineText.{OwnCertLine, line_read}
 use Rattle.aud_cert.specs.CertText.{at_line, with_line, lines_read, headed, lines_headed, header_read, cert_read}
 
 abbrev IsUpTo : ℕ → Filled → Type 0
@@ -16,13 +16,13 @@ numbers all n before m [] room = All-nil (IsUpTo m)
 numbers all n before m ([] ∷ ls) room = numbers all (n + 1) (before + 1) m ls (omega arith)
 numbers all n before m ((b ∷ bs) ∷ ls) room = All-cons (IsUpTo m) _ _ (omega arith) (numbers all (n + 1) (before + length (b ∷ bs) + 1) m ls (omega arith))
 
-abbrev pub refusal : CertTextFault → Result (List Line) CertTextFault
+abbrev pub refusal : CertTextFault → Result (List OwnCertLine) CertTextFault
 refusal f = Err f
 
 at-line : (m n : ℕ) (x : TextFault) (e : CertTextFault) → n ≤ m → refusal (at_line n x) ≡ refusal e → e.line ≤ m
 at-line m n x e low is = let same : at_line n x ≡ e = cc in let number : n ≡ e.line = ap (λ (f : CertTextFault). f.line) same in omega arith
 
-by-line : (m : ℕ) (f : Filled) (e : CertTextFault) → f.number ≤ m → (r : Result Line TextFault) (more : Result (List Line) CertTextFault) → (more ≡ refusal e → e.line ≤ m) →
+by-line : (m : ℕ) (f : Filled) (e : CertTextFault) → f.number ≤ m → (r : Result OwnCertLine TextFault) (more : Result (List OwnCertLine) CertTextFault) → (more ≡ refusal e → e.line ≤ m) →
     with_line f.number r more ≡ refusal e → e.line ≤ m
 by-line m f e here (Err x) more later is = at-line m f.number x e here is
 by-line m f e here (Ok line) (Err x) later is = later is

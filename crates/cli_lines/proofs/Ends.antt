@@ -7,7 +7,7 @@ use Rattle.aud_report.specs.declared.said.Said.TheVariants as said
 use Rattle.cli_lines.specs.declared.ended.Cause.{Cause}
 use Rattle.cli_lines.specs.declared.ended.Ended.{Ended}
 use Rattle.cli_lines.specs.declared.ended.Ended.TheVariants as ended
-use Rattle.cli_lines.specs.Outcomes.{Seen, Whole, RunOutcome, verdict_ends, ended_by}
+use Rattle.cli_lines.specs.Outcomes.{DeviceSeen, Whole, RunOutcome, verdict_ends, ended_by}
 
 verdict-ends : {X : Type 0} (v : Verdict X) (cause : Cause) → verdict_ends v ≡ ended.Failed cause → ⊥
 verdict-ends (verdict.Opaque order) cause is = absurd (cc)
@@ -32,7 +32,7 @@ line-ends (said.Refuted lines) cause is = absurd (cc)
 line-ends (said.RefutationLineRefused line) cause is = absurd (cc)
 
 -- a run that said a whole line has left what a run leaves that ends so
-pub whole-outcome : (May : Said → Type 0) (before after : Seen) (e : Ended) → Whole May before after e → RunOutcome May before after e
+pub whole-outcome : (May : Said → Type 0) (before after : DeviceSeen) (e : Ended) → Whole May before after e → RunOutcome May before after e
 whole-outcome May before after ended.Opaque whole = whole
 whole-outcome May before after ended.NotOpaque whole = whole
 whole-outcome May before after ended.Unfinished whole = whole

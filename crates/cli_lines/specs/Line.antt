@@ -17,7 +17,7 @@ use Rattle.aud_text.specs.Lines.{lines_of}
 use Rattle.aud_text.specs.declared.fault.TextFault.{TextFault}
 use Rattle.aud_text.specs.declared.fault.TextFault.TheVariants as text_fault
 use Rattle.cert_accept.specs.Acceptance.{IsAccepted, elsewhere}
-use Rattle.aud_cert.specs.LineText.{Line as CertLineOf}
+use Rattle.aud_cert.specs.LineText.{OwnCertLine as CertLineOf}
 use Rattle.aud_cert.specs.CertText.{cert_read}
 use Rattle.aud_cert.specs.declared.fault.CertTextFault.{CertTextFault}
 use Rattle.aud_report.specs.declared.said.Said.{Said}

@@ -68,13 +68,13 @@ IsOfReading Output = ⊥
 IsOfReading Thread = ⊥
 
 -- what is seen of the devices at one moment: how often the source and the sink failed so far, and what the sink holds
-pub record Seen : Type 0 where
+pub record DeviceSeen : Type 0 where
   pub source_failures : ℕ
   pub sink_failures : ℕ
   pub held : List ℕ
 
 -- one line went out that may be said, no device failed, and the run ends as the line says
-pub record Whole (May : Said → Type 0) (before after : Seen) (e : Ended) : Type 0 where
+pub record Whole (May : Said → Type 0) (before after : DeviceSeen) (e : Ended) : Type 0 where
   pub said : Said
   pub may : May said
   pub ends : ended_by said ≡ e
@@ -83,7 +83,7 @@ pub record Whole (May : Said → Type 0) (before after : Seen) (e : Ended) : Typ
   pub wrote : after.sink_failures ≡ before.sink_failures
 
 -- the sink failed, and a beginning of a line went out that may be said
-pub record Cut (May : Said → Type 0) (before after : Seen) : Type 0 where
+pub record Cut (May : Said → Type 0) (before after : DeviceSeen) : Type 0 where
   pub said : Said
   pub may : May said
   pub written : BeginsOnly before.held after.held (line_of said)
@@ -91,19 +91,19 @@ pub record Cut (May : Said → Type 0) (before after : Seen) : Type 0 where
   pub wrote : after.sink_failures ≡ before.sink_failures + 1
 
 -- nothing went out, and the source failed so often
-pub record Nothing (failures : ℕ) (before after : Seen) : Type 0 where
+pub record NothingSaid (failures : ℕ) (before after : DeviceSeen) : Type 0 where
   pub written : after.held ≡ before.held
   pub read : after.source_failures ≡ before.source_failures + failures
   pub wrote : after.sink_failures ≡ before.sink_failures
 
-abbrev pub CutBy : Cause → (Said → Type 0) → Seen → Seen → Type 0
-CutBy Memory May before after = Nothing 0 before after
-CutBy Input May before after = Nothing 1 before after
+abbrev pub CutBy : Cause → (Said → Type 0) → DeviceSeen → DeviceSeen → Type 0
+CutBy Memory May before after = NothingSaid 0 before after
+CutBy Input May before after = NothingSaid 1 before after
 CutBy Output May before after = Cut May before after
 CutBy Thread May before after = ⊥
 
 -- what a run leaves that ends so, where these are the things that it may say
-abbrev pub RunOutcome : (Said → Type 0) → Seen → Seen → Ended → Type 0
+abbrev pub RunOutcome : (Said → Type 0) → DeviceSeen → DeviceSeen → Ended → Type 0
 RunOutcome May before after ended.Opaque = Whole May before after ended.Opaque
 RunOutcome May before after ended.NotOpaque = Whole May before after ended.NotOpaque
 RunOutcome May before after ended.Unfinished = Whole May before after ended.Unfinished

@@ -41,7 +41,7 @@ pub enum Ended {
     NotOpaque,
     /// The search ended before it knew.
     Unfinished,
-    /// The input, the history, the order or the certificate is refused.
+    /// The input, the history, the order, the certificate or the refutation is refused.
     Refused,
     Failed(Cause),
 }

@@ -47,7 +47,7 @@ fn has_key(alloc: Global, evidence: Evidence, line: &[u8]) -> Result<bool, OutOf
     }
 }
 
-/// The same for a certificate, with no JSON value of a line that says a fact of the plan: no fact has that key.
+/// Whether the line begins a certificate, with no JSON value of a line that says a fact of the plan: no fact has that key.
 fn begins_certificate(alloc: Global, plan: Option<&Plan>, line: &[u8]) -> Result<bool, OutOfMemory>
     ensures { IfOk result (λ yes. yes ≡ begins Evidence.Certificate line.now) }
 {

@@ -164,8 +164,8 @@ pub fn answer_text(alloc: Global, job: &Job, text: Vec<u8>) -> Result<(Vec<u8>, 
     Ok((line, end_of(&said)))
 }
 
-/// Reads all that the source has left, and writes the line that the job says of it, and after it the certificate, if that is asked
-/// for.
+/// Reads all that the source has left, and writes the line that the job says of it, and after it the certificate or the refutation, if
+/// that is asked for.
 ///
 /// Where it fails a beginning of that went out, and what was read stays read. It takes memory by the size of the text; a search takes
 /// up to about 1 GiB more, and a certificate as much as it is long.

@@ -294,7 +294,7 @@ fn check_alone<'a>(alloc: Global) -> Result<Command<'a>, AllocError>
     bare_command(alloc).subcommand(check)
 }
 
-/// The same with `decide`.
+/// The command line with `check` and `decide`.
 fn check_and_decide<'a>(alloc: Global) -> Result<Command<'a>, AllocError>
     ensures { IfOk result (λ c. app_of c ≡ with_subcommand (with_subcommand bare_app check_app.top) decide_app.top) }
 {
@@ -302,14 +302,14 @@ fn check_and_decide<'a>(alloc: Global) -> Result<Command<'a>, AllocError>
     check_alone(alloc)?.subcommand(decide)
 }
 
-/// The same with `verify`.
+/// The command line up to `verify`.
 fn up_to_verify<'a>(alloc: Global) -> Result<Command<'a>, AllocError>
     ensures { IfOk result (λ c. app_of c ≡ verified_app) }
 {
     check_and_decide(alloc)?.subcommand(verify_command(alloc))
 }
 
-/// The same with `refute`.
+/// The command line up to `refute`.
 fn up_to_refute<'a>(alloc: Global) -> Result<Command<'a>, AllocError>
     ensures { IfOk result (λ c. app_of c ≡ with_subcommand verified_app refute_app.top) }
 {

@@ -110,7 +110,7 @@ const TAKEN: [Taken; 6] = [
     (BOTH_REFUTED, (14, 1, false)),
 ];
 
-/// The same of a run in one log.
+/// The steps and their sizes for a run in one log.
 const TAKEN_OF_ONE_LOG: [Taken; 3] = [
     (ALL, (13, 0, false)),
     (REFUTED, (13, 1, false)),

@@ -140,7 +140,7 @@ fn searched<J: Fleet + Send + Sync, R: Threads + Wait + Sync>(
     Some(is_as_said(rt, alloc, node, keeper, end, gate, row))
 }
 
-/// The same of a pool in which so many are to meet.
+/// Whether a pool answers as the row says in which so many workers are to meet.
 fn is_searched<R: Threads + Wait + Sync>(
     rt: &R,
     alloc: Global,

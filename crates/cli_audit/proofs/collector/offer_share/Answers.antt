@@ -4,7 +4,7 @@ use Rattle.aud_facts.specs.Shares.{share_of}
 use Rattle.aud_know.specs.Known.{knowing_facts}
 use Rattle.aud_know.specs.declared.item.Item.TheVariants as item
 use Rattle.aud_node.specs.Meanings.{mine}
-use Rattle.cli_audit.specs.Doings.{HasOffered}
+use Rattle.cli_audit.specs.Doings.{HasOfferedShare}
 use Rattle.cli_audit.proofs.collector.offer_share.Goals.{in-Ok, in-Err-default-OutOfMemory}
 use Rattle.cli_audit.proofs.collector.offer_share.Goals as goal
 
@@ -19,7 +19,7 @@ returns-clause-offered g c = elim c.match-offer.branch [
       let of_share : FactsOf → Type 0 = λ f. c.in_ok-known.known.value ≡ knowing_facts f in
       let of_number : ℕ → Type 0 = λ n. of_share (record { plan = c.args.facts.now.plan; facts = share_of c.args.nodes n c.args.facts.now.facts }) in
       let is = subst of_number number (subst of_share share (shared ∙ known)) in
-      subst (λ r. OnOk r (HasOffered c.args.facts.now c.args.nodes c.args.node.now.number c.args.pass.now c.offer.new.pass)) (sym w.result-is) (item.Known c.in_ok-known.known, (offered, is))
+      subst (λ r. OnOk r (HasOfferedShare c.args.facts.now c.args.nodes c.args.node.now.number c.args.pass.now c.offer.new.pass)) (sym w.result-is) (item.Known c.in_ok-known.known, (offered, is))
   | in-Err-default-OutOfMemory w ↦
-      subst (λ r. OnOk r (HasOffered c.args.facts.now c.args.nodes c.args.node.now.number c.args.pass.now c.offer.new.pass)) (sym w.result-is) tt
+      subst (λ r. OnOk r (HasOfferedShare c.args.facts.now c.args.nodes c.args.node.now.number c.args.pass.now c.offer.new.pass)) (sym w.result-is) tt
 ]
