@@ -103,7 +103,7 @@ fn remembers<J: Scene>(
     Ok(is_first && tells(alloc, shape, &shared, &[("none", 1)], wanted)?)
 }
 
-/// The same of nine counters.
+/// Whether searches of nine counters remember as `remembers` asks.
 fn counters_remember(alloc: Global, budget: u64, wanted: Told) -> Result<bool, Unread> {
     let shape = shape_of(alloc, Input::Nine)?;
     remembers::<Brand>(alloc, &shape, budget, wanted)

@@ -193,73 +193,68 @@ fn passed_over(alloc: Global, adder: u32) -> Result<bool, OutOfMemory> {
     is_refuted(alloc, ObjKind::Queue, &events, &atoms, steps)
 }
 
-#[cfg(test)]
-mod tests {
-    use super::*;
+const TAKE: Take = Take {
+    taker: 2,
+    object: 0,
+    number: 0,
+};
 
-    const TAKE: Take = Take {
-        taker: 2,
-        object: 0,
-        number: 0,
-    };
+#[test]
+fn a_lost_count_is_refuted(rt: HostRuntime) {
+    assert!(rt; lost_count(rt.alloc(), 0) == Ok(true));
+    assert!(rt; lost_count(rt.alloc(), 1) == Ok(false));
+}
 
-    #[test]
-    fn a_lost_count_is_refuted(rt: HostRuntime) {
-        assert!(rt; lost_count(rt.alloc(), 0) == Ok(true));
-        assert!(rt; lost_count(rt.alloc(), 1) == Ok(false));
-    }
+#[test]
+fn a_torn_count_is_refuted(rt: HostRuntime) {
+    assert!(rt; torn_count(rt.alloc(), 2) == Ok(true));
+    assert!(rt; torn_count(rt.alloc(), 1) == Ok(false));
+}
 
-    #[test]
-    fn a_torn_count_is_refuted(rt: HostRuntime) {
-        assert!(rt; torn_count(rt.alloc(), 2) == Ok(true));
-        assert!(rt; torn_count(rt.alloc(), 1) == Ok(false));
-    }
+#[test]
+fn a_lost_element_is_refuted(rt: HostRuntime) {
+    assert!(rt; lost_element(rt.alloc(), false) == Ok(true));
+    assert!(rt; lost_element(rt.alloc(), true) == Ok(false));
+}
 
-    #[test]
-    fn a_lost_element_is_refuted(rt: HostRuntime) {
-        assert!(rt; lost_element(rt.alloc(), false) == Ok(true));
-        assert!(rt; lost_element(rt.alloc(), true) == Ok(false));
-    }
+#[test]
+fn what_nobody_added_is_refuted(rt: HostRuntime) -> Result<(), OutOfMemory> {
+    let item = Atom::Item(TAKE, 1, 0);
+    let steps = at_once(rt.alloc(), QueueLaw::Items(TAKE))?;
+    assert!(rt; after_two(rt.alloc(), Answer::Int(7), steps, item) == Ok(true));
+    let steps = at_once(rt.alloc(), QueueLaw::Items(TAKE))?;
+    assert!(rt; after_two(rt.alloc(), Answer::Int(5), steps, item) == Ok(false));
+    Ok(())
+}
 
-    #[test]
-    fn what_nobody_added_is_refuted(rt: HostRuntime) -> Result<(), OutOfMemory> {
-        let item = Atom::Item(TAKE, 1, 0);
-        let steps = at_once(rt.alloc(), QueueLaw::Items(TAKE))?;
-        assert!(rt; after_two(rt.alloc(), Answer::Int(7), steps, item) == Ok(true));
-        let steps = at_once(rt.alloc(), QueueLaw::Items(TAKE))?;
-        assert!(rt; after_two(rt.alloc(), Answer::Int(5), steps, item) == Ok(false));
-        Ok(())
-    }
+#[test]
+fn an_item_at_another_place_is_refuted(rt: HostRuntime) -> Result<(), OutOfMemory> {
+    let alloc = rt.alloc();
+    let second = Atom::Item(TAKE, 1, 1);
+    let steps = by_two(alloc, QueueLaw::Items(TAKE), QueueLaw::Place(TAKE, 1, 1))?;
+    assert!(rt; after_two(alloc, Answer::Int(6), steps, second) == Ok(true));
+    let first = Atom::Item(TAKE, 1, 0);
+    let steps = by_two(alloc, QueueLaw::Items(TAKE), QueueLaw::Place(TAKE, 1, 0))?;
+    assert!(rt; after_two(alloc, Answer::Int(5), steps, first) == Ok(false));
+    Ok(())
+}
 
-    #[test]
-    fn an_item_at_another_place_is_refuted(rt: HostRuntime) -> Result<(), OutOfMemory> {
-        let alloc = rt.alloc();
-        let second = Atom::Item(TAKE, 1, 1);
-        let steps = by_two(alloc, QueueLaw::Items(TAKE), QueueLaw::Place(TAKE, 1, 1))?;
-        assert!(rt; after_two(alloc, Answer::Int(6), steps, second) == Ok(true));
-        let first = Atom::Item(TAKE, 1, 0);
-        let steps = by_two(alloc, QueueLaw::Items(TAKE), QueueLaw::Place(TAKE, 1, 0))?;
-        assert!(rt; after_two(alloc, Answer::Int(5), steps, first) == Ok(false));
-        Ok(())
-    }
+#[test]
+fn a_queue_that_was_filled_is_refuted(rt: HostRuntime) -> Result<(), OutOfMemory> {
+    let alloc = rt.alloc();
+    let item = Atom::Item(TAKE, 1, 0);
+    let steps = at_once(alloc, QueueLaw::Empty(2, 0, 0))?;
+    assert!(rt; after_two(alloc, Answer::Empty, steps, item) == Ok(true));
+    let front = FrontItem { adder: 1, value: 5 };
+    let steps = at_once(alloc, QueueLaw::Left(2, 0, 0, front))?;
+    assert!(rt; after_two(alloc, Answer::Empty, steps, item) == Ok(true));
+    let steps = at_once(alloc, QueueLaw::Empty(2, 0, 0))?;
+    assert!(rt; after_two(alloc, Answer::Int(5), steps, item) == Ok(false));
+    Ok(())
+}
 
-    #[test]
-    fn a_queue_that_was_filled_is_refuted(rt: HostRuntime) -> Result<(), OutOfMemory> {
-        let alloc = rt.alloc();
-        let item = Atom::Item(TAKE, 1, 0);
-        let steps = at_once(alloc, QueueLaw::Empty(2, 0, 0))?;
-        assert!(rt; after_two(alloc, Answer::Empty, steps, item) == Ok(true));
-        let front = FrontItem { adder: 1, value: 5 };
-        let steps = at_once(alloc, QueueLaw::Left(2, 0, 0, front))?;
-        assert!(rt; after_two(alloc, Answer::Empty, steps, item) == Ok(true));
-        let steps = at_once(alloc, QueueLaw::Empty(2, 0, 0))?;
-        assert!(rt; after_two(alloc, Answer::Int(5), steps, item) == Ok(false));
-        Ok(())
-    }
-
-    #[test]
-    fn an_item_that_was_passed_over_is_refuted(rt: HostRuntime) {
-        assert!(rt; passed_over(rt.alloc(), 1) == Ok(true));
-        assert!(rt; passed_over(rt.alloc(), 2) == Ok(false));
-    }
+#[test]
+fn an_item_that_was_passed_over_is_refuted(rt: HostRuntime) {
+    assert!(rt; passed_over(rt.alloc(), 1) == Ok(true));
+    assert!(rt; passed_over(rt.alloc(), 2) == Ok(false));
 }
