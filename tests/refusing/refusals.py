@@ -1,5 +1,5 @@
-"""The calls that may answer want of memory: the public functions of the crates, and those of the traits that they implement. Of each
-`mutants/planted` makes a body that always answers so."""
+"""The calls that may answer want of memory: the public functions of the crates, and those of the traits that they implement, but those that err by
+another fault alone. Of each `mutants/planted` makes a body that always answers so."""
 import collections
 import glob
 import os
@@ -109,6 +109,14 @@ def inputs_of(head):
     return [(name, kind or name) for name, _, kind in pairs]
 
 
+def errs_by_another(lines, place):
+    """Whether the comment above the function says that it errs by one fault alone: the contract refuses want of memory then."""
+    first = place
+    while first and lines[first - 1].lstrip().startswith(("///", "#[")):
+        first -= 1
+    return re.search(r"errs by `\w+` alone", re.sub(r"\s*\n\s*///\s*", " ", "\n".join(lines[first:place])))
+
+
 def of_file(path, names):
     """The calls of the file that may answer want of memory, of those names that the crate gives out."""
     lines = read(path).split("\n")
@@ -122,7 +130,7 @@ def of_file(path, names):
             owner = trait = None
         found = re.match(r" *(pub )?fn (\w+)", line)
         body = body_of(lines, place) if found else None
-        if body is None or owner == "declared" or not (found[1] or trait):
+        if body is None or owner == "declared" or not (found[1] or trait) or errs_by_another(lines, place):
             continue
         if not (owner in names or owner and owner.islower() or names.get(found[2]) == os.path.basename(path)[:-3]):
             continue
