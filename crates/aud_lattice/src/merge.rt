@@ -239,7 +239,7 @@ pub fn without<T: Key + Dup, A: Allocator + Clone>(
     }
 }
 
-// The same by a look-up for each item. The tree itself, if all is left.
+// The items of the one tree that the other has not, by a look-up for each item. The tree itself, if all are left.
 fn sifted<T: Key + Dup, A: Allocator + Clone>(
     alloc: &A,
     xs: &Link<T, A>,
@@ -256,7 +256,7 @@ fn sifted<T: Key + Dup, A: Allocator + Clone>(
     }
 }
 
-// The same, as a list.
+// The items of the one tree that the other has not, as a list.
 fn left_over<T: Key + Dup, A: Allocator + Clone>(
     alloc: &A,
     xs: &Link<T, A>,

@@ -92,7 +92,8 @@ pub fn node<T: Dup, A: Allocator + Clone>(
     Ok(Some(tree))
 }
 
-/// The same where one side may be too heavy, as after a light tree was joined to it: the tree is turned to the other side then.
+/// A tree of a middle item and two sides of which one may be too heavy, as after a light tree was joined to it: the tree is turned to the
+/// other side then.
 pub fn balanced<T: Dup, A: Allocator + Clone>(
     alloc: &A,
     left: Link<T, A>,
@@ -137,7 +138,7 @@ fn to_right<T: Dup, A: Allocator + Clone>(
     }
 }
 
-// The same where of the heavy side's own sides the one next to the light side is not the lighter one: it goes in two parts.
+// A tree turned to the right where of the heavy left side the inner side is not the lighter one: that one goes in two parts.
 fn parted_right<T: Dup, A: Allocator + Clone>(
     alloc: &A,
     outer: &Link<T, A>,
@@ -186,7 +187,7 @@ fn to_left<T: Dup, A: Allocator + Clone>(
     }
 }
 
-// The same in two parts.
+// A tree turned to the left where of the heavy right side the inner side goes in two parts.
 fn parted_left<T: Dup, A: Allocator + Clone>(
     alloc: &A,
     left: Link<T, A>,

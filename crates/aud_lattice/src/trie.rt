@@ -42,7 +42,7 @@ fn set<D: Key + Dup, A: Allocator + Copy>(
     Ok(())
 }
 
-// The same nodes, shared.
+// The nodes, shared.
 fn shared_nodes<D: Key + Dup, A: Allocator + Copy>(
     nodes: &BTreeMap<D, Arc<Trie<D, A>, A>, A>,
     alloc: &A,
@@ -70,7 +70,7 @@ fn nodes_now<'a, D: Key + Dup, A: Allocator + Copy>(
     }
 }
 
-// The same, to be changed.
+// The nodes that there are now, to be changed.
 fn own_nodes<D: Key + Dup, A: Allocator + Copy>(
     ours: &BTreeMap<D, Arc<Trie<D, A>, A>, A>,
     all: Option<BTreeMap<D, Arc<Trie<D, A>, A>, A>>,
