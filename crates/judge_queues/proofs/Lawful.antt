@@ -25,7 +25,7 @@ use Rattle.search_model.specs.Quantities.{net_of}
 use Rattle.judge_sums.specs.Laws.{ComesTo}
 use Rattle.judge_sums.specs.Sums.{total}
 use Rattle.search_model.specs.Blocks.{added, added_of, takes_value}
-use Rattle.judge_queues.specs.Laws.{IsQueue, AsksIn, IsTaken, NoItem, AreNoSources, IsStuck}
+use Rattle.judge_queues.specs.Laws.{IsQueue, AsksIn, IsTaken, NoItem, AreNoAdders, IsStuck}
 use Rattle.judge_queues.proofs.Running.{added-length}
 use Rattle.judge_queues.proofs.Adders.{added_before, adder-place, adder-stands, added-through}
 use Rattle.judge_queues.proofs.Placing.{item-found, place-found, own-found, empty-found, empty-at}
@@ -91,7 +91,7 @@ module _ (f : KnownFactsOf) (c : List Literal) where
 
   module _ (fine : IsWellFormed f.history) (within : IsWithinLimits f.plan f.history) where
     -- one of the additions that are listed is what is taken
-    pub valid-items : (take : Take) (v : ℤ) (e : ℕ) → IsQueue f take.object → IsTaken f take v e → NoItem f c take take.taker v e (row_of f.history take.taker).block.executions → AreNoSources f c take v → IsValid f c
+    pub valid-items : (take : Take) (v : ℤ) (e : ℕ) → IsQueue f take.object → IsTaken f take v e → NoItem f c take take.taker v e (row_of f.history take.taker).block.executions → AreNoAdders f c take v → IsValid f c
     valid-items take v e is_queue taken own listed =
         valid-unless f c (λ p shown broken.
         let (d, (declared, opens)) = is_queue in

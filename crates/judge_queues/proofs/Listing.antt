@@ -16,7 +16,7 @@ use Rattle.judge_clauses.specs.Clauses.{KnownFactsOf, says, Unless}
 use Rattle.search_model.specs.Queues.{is_addition, adds}
 use Rattle.judge_clauses.specs.Touching.{mentions}
 use Rattle.search_model.specs.Blocks.{item, added, brings, is_addition_of, gives, takes_value}
-use Rattle.judge_queues.specs.Laws.{NoItem, IsNoSource, IsNoTaker}
+use Rattle.judge_queues.specs.Laws.{NoItem, IsNoAdder, IsNoTaker}
 use Rattle.judge_queues.proofs.Running.{first-length, added-length}
 use Rattle.search_model.proofs.Lists.{get-right}
 
@@ -67,7 +67,7 @@ adds-few x (e ∷ es) = let rest = adds-few x es in go (nat_eq e.object x && is_
     go false rest = omega (arith, rest)
 
 -- a row's additions
-pub listed-from : (f : KnownFactsOf) (c : List Literal) (taken : Take) (v : ℤ) (row : RowOf) (limit : ℕ) → limit ≡ length row.block.executions → NoItem f c taken row.tx v limit row.block.executions → IsNoSource f c taken v row
+pub listed-from : (f : KnownFactsOf) (c : List Literal) (taken : Take) (v : ℤ) (row : RowOf) (limit : ℕ) → limit ≡ length row.block.executions → NoItem f c taken row.tx v limit row.block.executions → IsNoAdder f c taken v row
 listed-from f c taken v row limit all none i at p shown broken kept front =
     let size = added-length taken.object row.block.executions in
     let few = adds-few taken.object row.block.executions in
@@ -89,7 +89,7 @@ takes_value-untouched x v (e ∷ es) none =
     ap (λ b. (b && gives v e.op e.answer) || takes_value x v es) other ∙ takes_value-untouched x v es rest
 
 -- a row that does not touch the queue is listed, and no taker
-pub listed-untouched : (f : KnownFactsOf) (c : List Literal) (taken : Take) (v : ℤ) (row : RowOf) → mentions taken.object row.block.executions ≡ false → IsNoSource f c taken v row
+pub listed-untouched : (f : KnownFactsOf) (c : List Literal) (taken : Take) (v : ℤ) (row : RowOf) → mentions taken.object row.block.executions ≡ false → IsNoAdder f c taken v row
 listed-untouched f c taken v row none i at = absurd (let nothing : None ≡ Some v = sym (ap (λ l. slice_get l i) (added-untouched taken.object row.block.executions none)) ∙ at in cc)
 
 pub no_taker-untouched : (f : KnownFactsOf) (c : List Literal) (x : ℕ) (v : ℤ) (t : ℕ) (row : RowOf) → mentions x row.block.executions ≡ false → IsNoTaker f c x v t row

@@ -31,14 +31,14 @@ abbrev pub NoItem : KnownFactsOf → List Literal → Take → ℕ → ℤ → �
 NoItem f c take a v limit es = (i : ℕ) → i < limit → slice_get (added take.object es) i ≡ Some v → Unless f c (λ p. says f.history p (Item take a i) ≡ false)
 
 -- where the row commits and stands before the taker, none of its additions of the value is what is taken
-abbrev pub IsNoSource : KnownFactsOf → List Literal → Take → ℤ → RowOf → Type 0
-IsNoSource f c take v row =
+abbrev pub IsNoAdder : KnownFactsOf → List Literal → Take → ℤ → RowOf → Type 0
+IsNoAdder f c take v row =
     (i : ℕ) → slice_get (added take.object row.block.executions) i ≡ Some v →
     Unless f c (λ p. is_kept_in p row.tx ≡ true → stands_before p row.tx take.taker ≡ true → says f.history p (Item take row.tx i) ≡ false)
 
 -- of each row that commits and stands before the taker, none of its additions of the value is what is taken
-abbrev pub AreNoSources : KnownFactsOf → List Literal → Take → ℤ → Type 0
-AreNoSources f c take v = (k : ℕ) (row : RowOf) → slice_get (table_of f.history) k ≡ Some row → IsNoSource f c take v row
+abbrev pub AreNoAdders : KnownFactsOf → List Literal → Take → ℤ → Type 0
+AreNoAdders f c take v = (k : ℕ) (row : RowOf) → slice_get (table_of f.history) k ≡ Some row → IsNoAdder f c take v row
 
 -- a transaction does not commit, or does not stand before the other one
 abbrev pub NeverAdds : KnownFactsOf → ℕ → ℕ → Type 0

@@ -5,4 +5,4 @@ use Rattle.judge_queues.proofs.items.is_none_item.Given as goal
 
 abbrev pub invariant-loop-execution : goal.invariant-loop-execution
 invariant-loop-execution g l =
-    (l.number ≡ adds l.source.take.object (take l.execution-index l.executions)) × (NoItem l.facts l.clause l.source.take l.source.adder l.source.value l.number l.executions)
+    (l.number ≡ adds l.candidate.take.object (take l.execution-index l.executions)) × (NoItem l.facts l.clause l.candidate.take l.candidate.adder l.candidate.value l.number l.executions)

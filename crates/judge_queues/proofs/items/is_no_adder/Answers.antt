@@ -4,7 +4,7 @@ use Rattle.std.proofs.lemmas.Int.{to_z-of_z}
 use Rattle.aud_object.specs.Blocks.{BlockOf}
 use Rattle.judge_queues.specs.Laws.{NoItem}
 use Rattle.judge_queues.proofs.Listing.{listed-from}
-use Rattle.judge_queues.proofs.items.is_no_source.Goals as goal
+use Rattle.judge_queues.proofs.items.is_no_adder.Goals as goal
 
 pub returns : goal.returns
 returns g c = λ so.
