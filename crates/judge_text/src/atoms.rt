@@ -2,7 +2,7 @@
 
 use crate::fields::Fields;
 use aud_event::OutOfMemory;
-use judge_clauses::{Atom, Literal};
+use judge_clauses::{Atom, Literal, Read};
 use search_model::Cell;
 use std::alloc::Global;
 use std::collections::BTreeMap;
@@ -23,6 +23,18 @@ fn number_of(cell: Cell) -> i64 {
     match cell {
         Cell::Whole => 0,
         Cell::Element(number) | Cell::Key(number) => number,
+    }
+}
+
+/// What stands for an atom of what a read sees, of this case: the second number is that of the source, if there is one.
+fn sign_of_read(case: u8, read: Read, second: u32) -> Sign {
+    Sign {
+        case,
+        first: read.reader,
+        second,
+        object: read.object,
+        number: 0,
+        cell: number_of(read.cell),
     }
 }
 
@@ -47,21 +59,8 @@ fn sign_of(atom: Atom) -> Sign {
             first,
             ..none
         },
-        Atom::Source(read, second) => Sign {
-            case: 2,
-            first: read.reader,
-            second,
-            object: read.object,
-            cell: number_of(read.cell),
-            ..none
-        },
-        Atom::Opening(read) => Sign {
-            case: 3,
-            first: read.reader,
-            object: read.object,
-            cell: number_of(read.cell),
-            ..none
-        },
+        Atom::Source(read, second) => sign_of_read(2, read, second),
+        Atom::Opening(read) => sign_of_read(3, read, 0),
         Atom::Item(take, second, addition) => Sign {
             case: 4,
             first: take.taker,

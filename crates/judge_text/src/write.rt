@@ -3,7 +3,7 @@
 use aud_event::{OutOfMemory, Plan};
 use itoa::{Buffer, Integer};
 use judge_clauses::{Atom, Literal, Read, Reason, Refutation, Step, Take};
-use judge_laws::{CellLaw, ObjectLaw, QueueLaw, SumLaw};
+use judge_laws::{CellLaw, FrontItem, ObjectLaw, QueueLaw, SumLaw};
 use search_model::Cell;
 use std::alloc::{Allocator, Global};
 
@@ -65,6 +65,25 @@ fn take(text: &mut Vec<u8>, plan: &Plan, take: Take) -> Result<(), OutOfMemory> 
     number(text, take.number)
 }
 
+/// A comma, the take, and the addition of the adder that is what is taken.
+fn item(
+    text: &mut Vec<u8>,
+    plan: &Plan,
+    taken: Take,
+    adder: u32,
+    addition: u32,
+) -> Result<(), OutOfMemory> {
+    take(text, plan, taken)?;
+    number(text, adder)?;
+    number(text, addition)
+}
+
+/// A comma, and the adder and the value of the item in front.
+fn front(text: &mut Vec<u8>, front: FrontItem) -> Result<(), OutOfMemory> {
+    number(text, front.adder)?;
+    number(text, front.value)
+}
+
 /// What comes before an atom that is not so.
 fn sign(text: &mut Vec<u8>, holds: bool) -> Result<(), OutOfMemory> {
     if holds {
@@ -105,9 +124,7 @@ fn atom(text: &mut Vec<u8>, plan: &Plan, atom: Atom, holds: bool) -> Result<(), 
         Atom::Item(taken, adder, addition) => {
             sign(text, holds)?;
             text_of(text, "\"takes\"")?;
-            take(text, plan, taken)?;
-            number(text, adder)?;
-            number(text, addition)?;
+            item(text, plan, taken, adder, addition)?;
         }
     }
     text_of(text, "]")
@@ -212,15 +229,11 @@ fn queue_law(text: &mut Vec<u8>, plan: &Plan, law: QueueLaw) -> Result<(), OutOf
         }
         QueueLaw::ItemStands(taken, adder, addition) => {
             text_of(text, "\"item\"")?;
-            take(text, plan, taken)?;
-            number(text, adder)?;
-            number(text, addition)
+            item(text, plan, taken, adder, addition)
         }
         QueueLaw::Place(taken, adder, addition) => {
             text_of(text, "\"place\"")?;
-            take(text, plan, taken)?;
-            number(text, adder)?;
-            number(text, addition)
+            item(text, plan, taken, adder, addition)
         }
         QueueLaw::Empty(taker, of, place) => {
             text_of(text, "\"empty\"")?;
@@ -228,21 +241,17 @@ fn queue_law(text: &mut Vec<u8>, plan: &Plan, law: QueueLaw) -> Result<(), OutOf
             object(text, plan, of)?;
             number(text, place)
         }
-        QueueLaw::Gone(taken, adder, addition, front) => {
+        QueueLaw::Gone(taken, adder, addition, in_front) => {
             text_of(text, "\"gone\"")?;
-            take(text, plan, taken)?;
-            number(text, adder)?;
-            number(text, addition)?;
-            number(text, front.adder)?;
-            number(text, front.value)
+            item(text, plan, taken, adder, addition)?;
+            front(text, in_front)
         }
-        QueueLaw::Left(taker, of, place, front) => {
+        QueueLaw::Left(taker, of, place, in_front) => {
             text_of(text, "\"left\"")?;
             number(text, taker)?;
             object(text, plan, of)?;
             number(text, place)?;
-            number(text, front.adder)?;
-            number(text, front.value)
+            front(text, in_front)
         }
     }
 }
