@@ -111,7 +111,7 @@ impl<A: Allocator + Copy> Index<A> {
         self.slots.len().saturating_mul(SLOT)
     }
 
-    /// Twice as many slots, if there is memory for them.
+    /// Has so many slots, with what stands in the old ones, if there is memory for them.
     fn grow_to(&mut self, count: usize) -> Result<(), OutOfMemory> {
         let mut slots = vec![in self.alloc; FREE; count]?;
         for slot in &self.slots {

@@ -1,5 +1,5 @@
-//! What a search remembers of the prefixes that it refuted: which transactions were placed, and the states of all objects.
-//! After two prefixes of which these are the same, the same shows.
+//! What a search remembers: which transactions refuted prefixes placed and the states of all objects that they left, and to which states the
+//! blocks of transactions lead. Of two good prefixes that placed the same transactions and left the same states, both are refuted or neither.
 
 ghost use Rattle.std.specs.Prelude.{◌≡◌, ◌<◌, [], Some, List, IsTrue, IfSome, IfOk, MatchOption, length, slice_get};
 ghost use Rattle.aud_witness.specs.declared.decision.Decision.{Decision};

@@ -140,11 +140,11 @@ fn probe_of(digest: u64, word: u64, rows: usize) -> Probe
 }
 
 /// The place of the slot that is looked at in the step.
-fn place_at(configuration: Probe, step: usize) -> usize {
+fn place_at(probe: Probe, step: usize) -> usize {
     if step < NEAR {
-        configuration.near ^ step
+        probe.near ^ step
     } else {
-        configuration.far ^ step
+        probe.far ^ step
     }
 }
 
@@ -262,20 +262,20 @@ impl<J: Scene, A: Allocator + Copy> Shared<J, A> {
     }
 
     /// What stands where a step looks.
-    fn at(&self, configuration: Probe, step: usize) -> Option<&RefutedEntry<J, A>> {
-        let place = place_at(configuration, step);
+    fn at(&self, probe: Probe, step: usize) -> Option<&RefutedEntry<J, A>> {
+        let place = place_at(probe, step);
         self.part(place)?.slot(place)?.get()
     }
 
     /// Whether a refuted prefix is known that places the rows that the word marks, and leaves the states.
-    fn has(&self, configuration: Probe, states: &Store<A>) -> bool
-        ensures { IsTrue result → IsRefutedAtWord J.shape states.now.now configuration.word }
+    fn has(&self, probe: Probe, states: &Store<A>) -> bool
+        ensures { IsTrue result → IsRefutedAtWord J.shape states.now.now probe.word }
     {
         for step in 0..LOOKS {
-            let Some(known) = self.at(configuration, step) else {
+            let Some(known) = self.at(probe, step) else {
                 return false;
             };
-            if known.is_of(configuration.word, states) {
+            if known.is_of(probe.word, states) {
                 return true;
             }
         }
@@ -312,10 +312,10 @@ impl<J: Scene, A: Allocator + Copy> Shared<J, A> {
     }
 
     /// Puts the refuted prefix where a search looks for it, if there is a free slot and memory for it.
-    fn put(&self, configuration: Probe, entry: RefutedEntry<J, A>) -> bool {
+    fn put(&self, probe: Probe, entry: RefutedEntry<J, A>) -> bool {
         let mut left = entry;
         for step in 0..LOOKS {
-            let place = place_at(configuration, step);
+            let place = place_at(probe, step);
             let Some(part) = self.part(place) else {
                 return false;
             };
@@ -335,18 +335,18 @@ impl<J: Scene, A: Allocator + Copy> Shared<J, A> {
 
     /// Has all threads know of the refuted prefix, which places the rows that the word marks, if there is a free slot and memory for
     /// it.
-    fn keep_at(&self, configuration: Probe, states: &Arc<Store<A>, A>) -> bool
-        requires { IsRefutedAtWord J.shape states.now.value.now configuration.word }
+    fn keep_at(&self, probe: Probe, states: &Arc<Store<A>, A>) -> bool
+        requires { IsRefutedAtWord J.shape states.now.value.now probe.word }
     {
         let Ok(states) = Arc::try_clone(states) else {
             return false;
         };
         let entry = RefutedEntry {
-            word: configuration.word,
+            word: probe.word,
             states,
             scene: PhantomData,
         };
-        self.put(configuration, entry)
+        self.put(probe, entry)
     }
 
     /// Has all threads know of the refuted prefix, if there is room and memory for it. Room is taken for its states where they stand
@@ -357,15 +357,15 @@ impl<J: Scene, A: Allocator + Copy> Shared<J, A> {
         let Some(word) = word_of(placed, None) else {
             return false;
         };
-        let configuration = probe_of(digest, word, placed.len());
+        let probe = probe_of(digest, word, placed.len());
         if Arc::strong_count(states) > 1 {
-            return self.keep_at(configuration, states);
+            return self.keep_at(probe, states);
         }
         let size = size_of_shared(states) as u64;
         if !self.take(size) {
             return false;
         }
-        let is_kept = self.keep_at(configuration, states);
+        let is_kept = self.keep_at(probe, states);
         if !is_kept {
             self.give_back(size);
         }
