@@ -11,7 +11,7 @@ use Rattle.aud_witness.specs.declared.decision.Decision.{Decision}
 use Rattle.aud_witness.specs.contracts.decision.DecisionOrd.TheImpl.Laws as laws
 use Rattle.aud_witness.specs.contracts.decision.DecisionPartialEq.TheImpl as decision_equality
 use Rattle.aud_witness.specs.DecisionOrder.{decision_cmp, decisions_total, prefix_exact}
-use Rattle.cert_earlier.specs.Places.{sum_of}
+use Rattle.cert_earlier.specs.PrefixKeys.{sum_of}
 
 abbrev pub lists_eq : List Decision → List Decision → Bool
 lists_eq = eq_by_cmp (slice_cmp decision_cmp)

@@ -2,5 +2,5 @@ pub mod Beginnings
 pub mod Landings
 pub mod Moves
 pub mod OfShapes
-pub mod Places
+pub mod PrefixKeys
 pub mod Resting

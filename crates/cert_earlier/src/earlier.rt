@@ -9,7 +9,7 @@ ghost use Rattle.cert_earlier.specs.declared.landing.Landing.{Landing};
 
 use crate::landing::Landing;
 use crate::moving::is_same;
-use crate::place::Place;
+use crate::prefix_key::PrefixKey;
 use aud_event::OutOfMemory;
 use aud_order::Shape;
 use aud_witness::Decision;
@@ -27,7 +27,7 @@ pub(crate) struct Noted {
 }
 
 /// For each beginning what was noted after it.
-type Beginnings<'c, A> = HashMap<Place<'c>, Vec<Noted, A>, BuildHasherDefault<FoldHasher>, A>;
+type Beginnings<'c, A> = HashMap<PrefixKey<'c>, Vec<Noted, A>, BuildHasherDefault<FoldHasher>, A>;
 
 /// A set of prefixes, seen as a list of them: those that begin alike stand together, as the decisions after that beginning.
 /// The beginnings stand side by side in an arena of their own, so that they are compared near each other. Where some of the prefixes
@@ -82,8 +82,8 @@ fn note<'c, A: Allocator + Copy>(
     ensures noted { OnOk result (IsNotedBeside beginnings.old beginnings.new beginning.entry.now one.decision) }
     ensures alone { IsNotedAlone beginnings.old beginnings.new beginning.entry.now one }
 {
-    let place = Place::of(beginning);
-    if let Some(noted) = beginnings.get_mut(&place) {
+    let key = PrefixKey::of(beginning);
+    if let Some(noted) = beginnings.get_mut(&key) {
         if !is_among(noted, one.decision) {
             noted.push(one)?;
         }
@@ -92,7 +92,7 @@ fn note<'c, A: Allocator + Copy>(
     let own = arena.try_alloc_slice_copy(beginning)?;
     let mut noted = Vec::new(alloc);
     noted.push(one)?;
-    let _ = beginnings.insert(Place::of(own), noted)?;
+    let _ = beginnings.insert(PrefixKey::of(own), noted)?;
     Ok(())
 }
 
@@ -143,7 +143,7 @@ impl<'c, A: Allocator + Copy> Earlier<'c, A> {
     pub(crate) fn after(&self, list: &'c [Decision]) -> &[Noted]
         ensures { (d : Decision) → Contains (decisions_of result.now) d ↔ Contains self.now.prefixes (list.entry.now ++ d ∷ []) }
     {
-        match self.beginnings.get(&Place::of(list)) {
+        match self.beginnings.get(&PrefixKey::of(list)) {
             Some(noted) => noted.as_slice(),
             None => &[],
         }
@@ -171,7 +171,7 @@ impl<'c, A: Allocator + Copy> Earlier<'c, A> {
         ensures { IfSome result (λ l. Contains self.now.prefixes prefix.entry.now × IsLandingOf self.now.shape prefix.entry.now l.now) }
     {
         let (last, list) = prefix.split_last()?;
-        let noted = self.beginnings.get(&Place::of(list))?;
+        let noted = self.beginnings.get(&PrefixKey::of(list))?;
         let one = find(noted, *last)?;
         landing_at(&self.landings, one.landing)
     }

@@ -1,11 +1,12 @@
 #![tactic(auto)]
-//! The prefixes of lines that were accepted, where they lead, and which other prefixes they refute: those of a line by its kids, by a
-//! silent transaction, or by the same place.
+//! The prefixes of lines that were accepted, where they lead, and whether they refute another prefix: as it is not full and all its kids are
+//! among them, as it is among them with a good decision of a silent transaction after it, or as one of them places the same transactions and
+//! leaves the same states.
 
 mod earlier;
 mod landing;
 mod moving;
-mod place;
+mod prefix_key;
 mod resting;
 
 pub use earlier::Earlier;

@@ -1,4 +1,5 @@
-//! Whether a prefix is refuted by earlier lines: by its kids, by a silent transaction, or by a prefix that leads to the same place.
+//! Whether a prefix is refuted by earlier lines: by its kids, by a silent transaction, or by a prefix that leads to the same transactions and
+//! states.
 
 ghost use Rattle.std.specs.Prelude.{◌≡◌, ◌↔◌, Some, IfOk, OnOk, IsTrue};
 ghost use Rattle.aud_order.specs.Silent.{silent_fate};

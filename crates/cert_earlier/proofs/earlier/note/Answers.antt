@@ -13,8 +13,8 @@ returns-in_ok-push-clause-noted g c =
     let was = c.in-Some.noted.now in
     let new = c.push.new.self in
     updated old (c.get_mut.follows.lender new) p new was.items c.args.one.decision
-    (written old (c.get_mut.follows.lender new) p c.of-place.result was new c.of-place.ensures c.in-Some.ensures.value (c.get_mut.follows.holds new).3)
-    (found old p c.of-place.result was c.of-place.ensures c.in-Some.ensures.value)
+    (written old (c.get_mut.follows.lender new) p c.of-key.result was new c.of-key.ensures c.in-Some.ensures.value (c.get_mut.follows.holds new).3)
+    (found old p c.of-key.result was c.of-key.ensures c.in-Some.ensures.value)
     (pushed-decision was.items new.items c.args.one c.in_ok-push.ensures.items)
 
 pub returns-else-not-is_among-clause-noted : goal.returns-else-not-is_among-clause-noted
@@ -23,8 +23,8 @@ returns-else-not-is_among-clause-noted g c =
     let p = c.args.beginning.now in
     let was = c.in-Some.noted.now in
     updated old (c.get_mut.follows.lender was) p was was.items c.args.one.decision
-    (written old (c.get_mut.follows.lender was) p c.of-place.result was was c.of-place.ensures c.in-Some.ensures.value (c.get_mut.follows.holds was).3)
-    (found old p c.of-place.result was c.of-place.ensures c.in-Some.ensures.value)
+    (written old (c.get_mut.follows.lender was) p c.of-key.result was was c.of-key.ensures c.in-Some.ensures.value (c.get_mut.follows.holds was).3)
+    (found old p c.of-key.result was c.of-key.ensures c.in-Some.ensures.value)
     (there-before (decisions_of was.items) c.args.one.decision
     (subst (λ (l : List Noted). Contains (decisions_of l) c.args.one.decision) c.deref.ensures.value (c.is_among.ensures.0 c.if-not-is_among.false)))
 
@@ -36,7 +36,7 @@ returns-clause-noted g c =
     let one : now.items ≡ [] ++ c.args.one ∷ [] = c.in_ok-push-2.ensures.items ∙ ap (λ (l : List Noted). l ++ c.args.one ∷ []) c.new-noted.ensures.items in
     updated old c.insert.new.self p now [] c.args.one.decision
     (entered old c.get_mut.follows.lender-at-none c.insert.new.self p c.of.result now (c.of.ensures ∙ c.in_ok-own.ensures) c.get_mut.follows.holds-at-none c.in_ok-insert.ensures.updates)
-    (not-found old p c.of-place.result c.of-place.ensures c.in_default.ensures.value) (pushed-decision [] now.items c.args.one one)
+    (not-found old p c.of-key.result c.of-key.ensures c.in_default.ensures.value) (pushed-decision [] now.items c.args.one one)
 
 pub returns-in_err-push-clause-alone : goal.returns-in_err-push-clause-alone
 returns-in_err-push-clause-alone g c =
@@ -45,8 +45,8 @@ returns-in_err-push-clause-alone g c =
     let was = c.in-Some.noted.now in
     let new = c.push.new.self in
     updated-alone old (c.get_mut.follows.lender new) p new was.items c.args.one
-    (written old (c.get_mut.follows.lender new) p c.of-place.result was new c.of-place.ensures c.in-Some.ensures.value (c.get_mut.follows.holds new).3)
-    (found old p c.of-place.result was c.of-place.ensures c.in-Some.ensures.value) (λ m there. inl (subst (λ (l : List Noted). Contains l m) c.in_err-push.ensures.items there))
+    (written old (c.get_mut.follows.lender new) p c.of-key.result was new c.of-key.ensures c.in-Some.ensures.value (c.get_mut.follows.holds new).3)
+    (found old p c.of-key.result was c.of-key.ensures c.in-Some.ensures.value) (λ m there. inl (subst (λ (l : List Noted). Contains l m) c.in_err-push.ensures.items there))
 
 pub returns-in_ok-push-clause-alone : goal.returns-in_ok-push-clause-alone
 returns-in_ok-push-clause-alone g c =
@@ -55,8 +55,8 @@ returns-in_ok-push-clause-alone g c =
     let was = c.in-Some.noted.now in
     let new = c.push.new.self in
     updated-alone old (c.get_mut.follows.lender new) p new was.items c.args.one
-    (written old (c.get_mut.follows.lender new) p c.of-place.result was new c.of-place.ensures c.in-Some.ensures.value (c.get_mut.follows.holds new).3)
-    (found old p c.of-place.result was c.of-place.ensures c.in-Some.ensures.value) (pushed was.items new.items c.args.one c.in_ok-push.ensures.items)
+    (written old (c.get_mut.follows.lender new) p c.of-key.result was new c.of-key.ensures c.in-Some.ensures.value (c.get_mut.follows.holds new).3)
+    (found old p c.of-key.result was c.of-key.ensures c.in-Some.ensures.value) (pushed was.items new.items c.args.one c.in_ok-push.ensures.items)
 
 pub returns-else-not-is_among-clause-alone : goal.returns-else-not-is_among-clause-alone
 returns-else-not-is_among-clause-alone g c =
@@ -64,8 +64,8 @@ returns-else-not-is_among-clause-alone g c =
     let p = c.args.beginning.now in
     let was = c.in-Some.noted.now in
     updated-alone old (c.get_mut.follows.lender was) p was was.items c.args.one
-    (written old (c.get_mut.follows.lender was) p c.of-place.result was was c.of-place.ensures c.in-Some.ensures.value (c.get_mut.follows.holds was).3)
-    (found old p c.of-place.result was c.of-place.ensures c.in-Some.ensures.value) (λ m there. inl there)
+    (written old (c.get_mut.follows.lender was) p c.of-key.result was was c.of-key.ensures c.in-Some.ensures.value (c.get_mut.follows.holds was).3)
+    (found old p c.of-key.result was c.of-key.ensures c.in-Some.ensures.value) (λ m there. inl there)
 
 pub returns-clause-alone : goal.returns-clause-alone
 returns-clause-alone g c =
@@ -75,4 +75,4 @@ returns-clause-alone g c =
     let one : now.items ≡ [] ++ c.args.one ∷ [] = c.in_ok-push-2.ensures.items ∙ ap (λ (l : List Noted). l ++ c.args.one ∷ []) c.new-noted.ensures.items in
     updated-alone old c.insert.new.self p now [] c.args.one
     (entered old c.get_mut.follows.lender-at-none c.insert.new.self p c.of.result now (c.of.ensures ∙ c.in_ok-own.ensures) c.get_mut.follows.holds-at-none c.in_ok-insert.ensures.updates)
-    (not-found old p c.of-place.result c.of-place.ensures c.in_default.ensures.value) (pushed [] now.items c.args.one one)
+    (not-found old p c.of-key.result c.of-key.ensures c.in_default.ensures.value) (pushed [] now.items c.args.one one)

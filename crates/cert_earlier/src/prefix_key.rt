@@ -6,7 +6,7 @@ ghost use Rattle.std.specs.Cmp.Lexicographic.{slice_cmp, lists_total};
 ghost use Rattle.std.specs.Cmp.{eq_by_cmp_equiv, partial_equiv_from_equiv};
 ghost use Rattle.std.specs.Ordering.{eq_by_cmp};
 ghost use Rattle.aud_witness.specs.DecisionOrder.{decision_cmp, decisions_total};
-ghost use Rattle.cert_earlier.specs.Places.{number_of, stirred, sum_of, sum_input, same_sum};
+ghost use Rattle.cert_earlier.specs.PrefixKeys.{number_of, stirred, sum_of, sum_input, same_sum};
 
 use aud_witness::{Decision, Fate};
 use std::hash::{Hash, Hasher};
@@ -14,15 +14,15 @@ use std::marker::Model;
 
 /// A prefix, beside the number that it is hashed by, which is made once.
 #[derive(Drop)]
-pub(crate) struct Place<'a> {
+pub(crate) struct PrefixKey<'a> {
     list: &'a [Decision],
     sum: u64,
 }
 
-impl<'a> Model for Place<'a> {
+impl<'a> Model for PrefixKey<'a> {
     ghost use Rattle.std.specs.Prelude.{◌≡◌, List};
     ghost use Rattle.aud_witness.specs.declared.decision.Decision.{Decision};
-    ghost use Rattle.cert_earlier.specs.Places.{sum_of};
+    ghost use Rattle.cert_earlier.specs.PrefixKeys.{sum_of};
 
     ghost Value = { List Decision };
 
@@ -67,33 +67,33 @@ fn are_same(a: &[Decision], b: &[Decision]) -> bool
     a == b
 }
 
-impl<'a> Place<'a> {
+impl<'a> PrefixKey<'a> {
     /// The prefix of the decisions.
-    pub(crate) fn of(list: &'a [Decision]) -> Place<'a>
+    pub(crate) fn of(list: &'a [Decision]) -> PrefixKey<'a>
         ensures { result ≡ list.entry.now }
     {
-        Place {
+        PrefixKey {
             list,
             sum: sum_of(list),
         }
     }
 }
 
-impl<'a> Eq for Place<'a> {
+impl<'a> Eq for PrefixKey<'a> {
     ghost laws = { eq_by_cmp_equiv (lists_total decisions_total) };
 }
 
-impl<'a> PartialEq for Place<'a> {
+impl<'a> PartialEq for PrefixKey<'a> {
     ghost eq = { eq_by_cmp (slice_cmp decision_cmp) };
 
     ghost laws = { partial_equiv_from_equiv (eq_by_cmp_equiv (lists_total decisions_total)) };
 
-    fn eq(&self, other: &Place<'a>) -> bool {
+    fn eq(&self, other: &PrefixKey<'a>) -> bool {
         self.sum == other.sum && are_same(self.list, other.list)
     }
 }
 
-impl<'a> Hash for Place<'a> {
+impl<'a> Hash for PrefixKey<'a> {
     ghost hash_input = { sum_input };
 
     ghost respects_eq = { same_sum };

@@ -1,6 +1,6 @@
 use Rattle.std.proofs.Common.{◌∙◌}
 use Rattle.cert_earlier.proofs.Keys.{as-seen, sums-differ, tells-same}
-use Rattle.cert_earlier.proofs.place.PlacePartialEq.eq.Goals as goal
+use Rattle.cert_earlier.proofs.prefix_key.PrefixKeyPartialEq.eq.Goals as goal
 
 pub returns-then-self-other : goal.returns-then-self-other
 returns-then-self-other c =
