@@ -1,4 +1,4 @@
-//! What lies under the ink lock: the writer, the log, and how many offers each seat has made.
+//! What lies under the writer's lock: the writer, the log, and how many offers each seat has made.
 
 ghost use Rattle.std.specs.Prelude.{◌≡◌, ◌+◌, ◌<◌, ◌^◌, ◌++◌, ◌∷◌, [], length, All, vec_len, vec_capacity, IfOk, IfErr, OnErr, OnOk, true};
 ghost use Rattle.std.specs.Arc.{arc_value};
@@ -21,11 +21,11 @@ use std::sync::{Arc, Wait};
 const MOST: usize = 1 << 40;
 
 /// The writer of the pair.
-pub type Ink<J> = Writer<Published, Published, (), Named<J>>;
+pub type PublishedWriter<J> = Writer<Published, Published, (), Named<J>>;
 
 /// The writer, with the handle by which its drop waits for the readers.
 pub struct Scribe<J: Fleet, R: Wait + Drop> {
-    writer: Ink<J>,
+    writer: PublishedWriter<J>,
     rt: R,
 }
 
@@ -58,7 +58,7 @@ impl<J: Fleet, R: Wait + Drop> Scribe<J, R> {
     }
 }
 
-/// What lies under the ink lock: the writer, what it published last, the offers in the order of their publishes, and how
+/// What lies under the writer's lock: the writer, what it published last, the offers in the order of their publishes, and how
 /// many of them each seat has made.
 #[derive(Drop)]
 pub struct Desk<J: Fleet, R: Wait + Drop> {
@@ -97,9 +97,9 @@ fn extend<R: Wait>(rt: &R, head: &Head, front: &Front, seat: u32, item: &Arc<Ite
 // Publishes the value in place of all that was published, if the writer's queue has room for it or grows.
 fn shown<R: Wait, J: Fleet>(
     rt: &R,
-    mut writer: Ink<J>,
+    mut writer: PublishedWriter<J>,
     next: Published,
-) -> (Ink<J>, Result<(), AllocError>)
+) -> (PublishedWriter<J>, Result<(), AllocError>)
     requires named { next.front.book ≡ J.book next.front.number }
     requires planned { next.known.value.plan ≡ J.plan next.front.number }
     ensures { OnOk result.1 (result.0.desk.shown.value.front ≡ next.front) }

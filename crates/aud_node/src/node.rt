@@ -60,7 +60,7 @@ struct Home<J: Fleet> {
     ghost planned: { plan.value ≡ J.plan head.number },
 }
 
-/// A node whose desk lies under the ink lock. Contracts see its number, its plan and how many seats it has.
+/// A node whose desk lies under the writer's lock. Contracts see its number, its plan and how many seats it has.
 #[derive(Drop)]
 pub struct Node<J: Fleet, D: Drop> {
     home: Home<J>,
@@ -180,7 +180,7 @@ impl<J: Fleet, S: Wait + Drop> Node<J, Desk<J, S>> {
         Ok((node, passes))
     }
 
-    /// Offers an item. It waits for the ink lock and for readers. On a fault nothing is published, and the item is handed
+    /// Offers an item. It waits for the writer's lock and for readers. On a fault nothing is published, and the item is handed
     /// back.
     pub fn offer<R: Wait>(
         &self,
@@ -216,7 +216,7 @@ impl<J: Fleet, S: Wait + Drop> Node<J, Desk<J, S>> {
         }
     }
 
-    /// Each of the two views then begins with both old ones. It waits for the ink lock.
+    /// Each of the two views then begins with both old ones. It waits for the writer's lock.
     pub fn meet<R: Wait>(
         &self,
         rt: &R,
