@@ -39,14 +39,14 @@ const HALF: usize = BOUND / 2;
 /// Clause learning of some seconds.
 const SHORT: Effort = Effort {
     conflicts: 60_000,
-    looks: 1 << 32,
+    work: 1 << 32,
     bytes: HALF,
 };
 
 /// Clause learning of some minutes.
 pub const LONG: Effort = Effort {
     conflicts: 2_000_000,
-    looks: 1 << 38,
+    work: 1 << 38,
     bytes: HALF,
 };
 

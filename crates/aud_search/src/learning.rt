@@ -18,14 +18,14 @@ use search_engine::{Solved, solve};
 use search_prefix::Decided;
 use std::alloc::{Allocator, Global};
 
-/// So many looks take about as long as a search takes for a prefix, where many transactions run at once.
-const LOOKS_OF_A_PREFIX: u64 = 1 << 16;
+/// So much work of the engine takes about as long as a search takes for a prefix, where many transactions run at once.
+const WORK_OF_A_PREFIX: u64 = 1 << 16;
 
 /// Clause learning that takes about as long as a search of so many prefixes.
 pub(crate) fn effort_of(prefixes: u64, bytes: usize) -> Effort {
     Effort {
         conflicts: prefixes,
-        looks: prefixes.saturating_mul(LOOKS_OF_A_PREFIX),
+        work: prefixes.saturating_mul(WORK_OF_A_PREFIX),
         bytes,
     }
 }

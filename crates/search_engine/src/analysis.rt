@@ -2,8 +2,8 @@
 
 use crate::explanation::{Contribution, View, explain, explain_conflict};
 use crate::heap::{Heap, bump};
-use crate::items::{at, fill, neg, set, var};
 use crate::known::{Antecedent, Assigned, Conflict, UNKNOWN};
+use crate::literals::{at, fill, neg, set, var};
 use aud_event::OutOfMemory;
 use std::alloc::{Allocator, Global};
 
@@ -14,7 +14,7 @@ pub(crate) struct Analysis<A: Allocator + Copy = Global> {
     pub todo: Vec<u32, A>,
     /// The clause. Its first literal is to hold where the others fail.
     pub clause: Vec<u32, A>,
-    /// The literals whose antecedents had a part, and those that hold in any case and had.
+    /// The literals that were replaced by their antecedents, and those antecedents that hold in any case.
     pub used: Vec<u32, A>,
     pub sure: Vec<u32, A>,
     /// The variables that were met, and whether each one was.
@@ -228,7 +228,7 @@ fn shorten<A: Allocator + Copy>(
     Ok(())
 }
 
-/// Puts a literal of the highest level after the first one, and gives that level, to which the search goes back.
+/// Puts a literal of the highest level of the others after the first one, and gives that level, from which on the clause forces the first.
 fn order_clause(clause: &mut [u32], states: &[Assigned]) -> u32 {
     let mut best: usize = 1;
     let mut level = 0;
@@ -260,8 +260,8 @@ fn forget_met(is_met: &mut [bool], met: &[usize]) {
     }
 }
 
-/// Learns a clause from a conflict at the level, of whose literals `todo` are those that hold. It gives the level to which the search goes
-/// back.
+/// Learns a clause from a conflict at the level, of whose literals `todo` are those that hold. It gives the level from which on the clause
+/// forces its first literal.
 pub(crate) fn learn<A: Allocator + Copy>(
     analysis: &mut Analysis<A>,
     heap: &mut Heap<A>,

@@ -1,24 +1,21 @@
 //! Between a source and its reader nobody writes.
 
 use crate::cells::{
-    CellOf, CellUse, Cells, NO_CELL, NO_PART, NO_READER, NO_SOURCE, NO_WRITER, ReadsFrom, Writer,
+    CellOf, CellUse, Cells, Marks, NO_CELL, NO_FEED, NO_MARKS, NO_READER, NO_SOURCE, NO_USE,
+    NO_WRITER, Writer,
 };
-use crate::items::{FALSE, NONE, TRUE, at, neg, short};
 use crate::known::{Antecedent, Conflict, Known, assign, value};
+use crate::literals::{FALSE, NONE, TRUE, at, neg, short};
 use crate::spans::{Span, before, span_of};
 use search_model::{Need, meets};
 use std::alloc::Allocator;
 
-/// The literal that the other row stands before the source's writer, or that never holds, if it is the opening.
-fn before_source<A: Allocator + Copy>(
-    cells: &Cells<A>,
-    spans: &[Span],
-    writer: u32,
-    row: usize,
-) -> u32 {
-    match cells.writers.get(writer as usize) {
-        Some(found) => before(spans, row, found.row),
-        None => FALSE,
+/// The literal that the other row stands before that one, or that never holds, if that one is none, as of the opening.
+fn before_row(spans: &[Span], other: usize, row: u32) -> u32 {
+    if row == NONE {
+        FALSE
+    } else {
+        before(spans, other, row as usize)
     }
 }
 
@@ -36,7 +33,7 @@ pub(crate) fn clause_of<A: Allocator + Copy>(
     if other.row == reader || found.writer == writer {
         return [TRUE; 4];
     }
-    let last = before_source(cells, spans, found.writer, other.row);
+    let last = before_row(spans, other.row, found.row);
     let stands = before(spans, other.row, reader);
     [neg(found.literal), neg(other.commits), neg(stands), last]
 }
@@ -56,17 +53,15 @@ fn forced_by(values: &[i8], clause: &[u32]) -> u32 {
     open
 }
 
-/// Looks at the clause of the source and the other writer.
-fn look<A: Allocator + Copy>(
+/// Follows the clause of the source and the other writer.
+fn follow<A: Allocator + Copy>(
     known: &mut Known<A>,
-    cells: &Cells<A>,
-    spans: &[Span],
     source: u32,
     writer: u32,
+    clause: &[u32; 4],
 ) -> Option<Conflict> {
-    known.looks = known.looks.wrapping_add(1);
-    let clause = clause_of(cells, spans, source, writer);
-    let forced = forced_by(&known.values, &clause);
+    known.work = known.work.wrapping_add(1);
+    let forced = forced_by(&known.values, clause);
     if forced == FALSE {
         return Some(Conflict::Between(source, writer));
     }
@@ -74,6 +69,18 @@ fn look<A: Allocator + Copy>(
         assign(known, forced, Antecedent::Between(source, writer));
     }
     None
+}
+
+/// Looks at the clause of the source and the other writer.
+fn look_at<A: Allocator + Copy>(
+    known: &mut Known<A>,
+    cells: &Cells<A>,
+    spans: &[Span],
+    source: u32,
+    writer: u32,
+) -> Option<Conflict> {
+    let clause = clause_of(cells, spans, source, writer);
+    follow(known, source, writer, &clause)
 }
 
 /// The writers that are looked at for a source: those between two numbers, back to where all ended before a stamp.
@@ -104,7 +111,7 @@ fn window_of<A: Allocator + Copy>(cells: &Cells<A>, spans: &[Span], source: u32)
 
 /// The source holds: no other writer stands between. Those are looked at from the last one on that began before the reader ended, as
 /// long as one may end after the source began.
-pub(crate) fn judge_source<A: Allocator + Copy>(
+pub(crate) fn propagate_source<A: Allocator + Copy>(
     known: &mut Known<A>,
     cells: &Cells<A>,
     spans: &[Span],
@@ -118,7 +125,7 @@ pub(crate) fn judge_source<A: Allocator + Copy>(
             break;
         }
         if !meets(window.need, writer.value) {
-            let conflict = look(known, cells, spans, source, short(number));
+            let conflict = look_at(known, cells, spans, source, short(number));
             if conflict.is_some() {
                 return conflict;
             }
@@ -145,35 +152,33 @@ fn writers_before(writers: &[Writer], cell: CellOf, row: usize) -> usize {
     low
 }
 
-/// Whether the source fails.
-fn fails(values: &[i8], sources: &[ReadsFrom], source: u32) -> bool {
-    let literal = at(sources, source as usize, NO_SOURCE).literal;
-    value(values, literal) == -1
-}
-
-/// Whether the reader may have read from the writer, by the value.
-fn may_read<A: Allocator + Copy>(cells: &Cells<A>, reader: u32, writer: u32) -> bool {
-    let need = at(&cells.readers, reader as usize, NO_READER).need;
-    meets(need, at(&cells.writers, writer as usize, NO_WRITER).value)
-}
-
 /// Looks at the sources of the reader that do not fail, beside the writer.
-fn judge_reader<A: Allocator + Copy>(
+fn propagate_reader<A: Allocator + Copy>(
     known: &mut Known<A>,
     cells: &Cells<A>,
     spans: &[Span],
     reader: u32,
     writer: u32,
 ) -> Option<Conflict> {
-    if may_read(cells, reader, writer) {
+    let found = at(&cells.readers, reader as usize, NO_READER);
+    let other = at(&cells.writers, writer as usize, NO_WRITER);
+    let commits = value(&known.values, other.commits);
+    if commits == -1 || other.row == found.row || meets(found.need, other.value) {
         return None;
     }
-    let found = at(&cells.readers, reader as usize, NO_READER);
-    for source in found.sources..found.sources_end {
-        if fails(&known.values, &cells.sources, short(source)) {
+    let stands = before(spans, other.row, found.row);
+    if value(&known.values, stands) == -1 {
+        return None;
+    }
+    for number in found.sources..found.sources_end {
+        let source = at(&cells.sources, number, NO_SOURCE);
+        let holds = value(&known.values, source.literal);
+        if holds == -1 || (holds == 0 && commits == 0) {
             continue;
         }
-        let conflict = look(known, cells, spans, short(source), writer);
+        let last = before_row(spans, other.row, source.row);
+        let clause = [neg(source.literal), neg(other.commits), neg(stands), last];
+        let conflict = follow(known, short(number), writer, &clause);
         if conflict.is_some() {
             return conflict;
         }
@@ -181,45 +186,43 @@ fn judge_reader<A: Allocator + Copy>(
     None
 }
 
-/// Looks at the source beside the other writer, if it does not fail.
-fn look_open<A: Allocator + Copy>(
-    known: &mut Known<A>,
-    cells: &Cells<A>,
-    spans: &[Span],
-    source: u32,
-    other: u32,
-) -> Option<Conflict> {
-    let found = at(&cells.sources, source as usize, NO_SOURCE);
-    if value(&known.values, found.literal) == -1 || may_read(cells, found.reader, other) {
-        return None;
-    }
-    look(known, cells, spans, source, other)
-}
-
-/// Looks at those that the one writer is a source of, beside the other writer.
-fn judge_writers<A: Allocator + Copy>(
+/// Looks at those that read from the one writer, beside the other writer.
+fn propagate_writers<A: Allocator + Copy>(
     known: &mut Known<A>,
     cells: &Cells<A>,
     spans: &[Span],
     writer: u32,
     other: u32,
 ) -> Option<Conflict> {
-    let mut source = at(&cells.writers, writer as usize, NO_WRITER).source;
-    for _ in 0..cells.sources.len() {
-        if source == NONE {
-            break;
+    let one = at(&cells.writers, writer as usize, NO_WRITER);
+    let two = at(&cells.writers, other as usize, NO_WRITER);
+    let commits = value(&known.values, two.commits);
+    if commits == -1 {
+        return None;
+    }
+    let last = before(spans, two.row, one.row);
+    for place in one.feeds..one.feeds_end {
+        let feed = at(&cells.feeds, place as usize, NO_FEED);
+        let holds = value(&known.values, feed.literal);
+        if holds == -1 || (holds == 0 && commits == 0) {
+            continue;
         }
-        let conflict = look_open(known, cells, spans, source, other);
+        let reader = at(&cells.readers, feed.reader as usize, NO_READER);
+        if reader.row == two.row || meets(reader.need, two.value) {
+            continue;
+        }
+        let stands = before(spans, two.row, reader.row);
+        let clause = [neg(feed.literal), neg(two.commits), neg(stands), last];
+        let conflict = follow(known, feed.source, other, &clause);
         if conflict.is_some() {
             return conflict;
         }
-        source = at(&cells.sources, source as usize, NO_SOURCE).next;
     }
     None
 }
 
 /// The one row stands before the other: looks at a cell that both touch.
-fn judge_parts<A: Allocator + Copy>(
+fn propagate_uses<A: Allocator + Copy>(
     known: &mut Known<A>,
     cells: &Cells<A>,
     spans: &[Span],
@@ -230,37 +233,46 @@ fn judge_parts<A: Allocator + Copy>(
         return None;
     }
     if other.reader != NONE {
-        let conflict = judge_reader(known, cells, spans, other.reader, one.writer);
+        let conflict = propagate_reader(known, cells, spans, other.reader, one.writer);
         if conflict.is_some() {
             return conflict;
         }
     }
     if other.writer != NONE {
-        return judge_writers(known, cells, spans, one.writer, other.writer);
+        return propagate_writers(known, cells, spans, one.writer, other.writer);
     }
     None
 }
 
+/// Whether the one row may write a cell that the other touches.
+fn may_meet(marks: &[Marks], row: usize, other: usize) -> bool {
+    let mine = at(marks, row, NO_MARKS);
+    mine.writes & at(marks, other, NO_MARKS).touches != 0
+}
+
 /// The one row stands before the other: looks at the cells that both touch.
-pub(crate) fn judge_pair<A: Allocator + Copy>(
+pub(crate) fn propagate_pair<A: Allocator + Copy>(
     known: &mut Known<A>,
     cells: &Cells<A>,
     spans: &[Span],
     row: usize,
     other: usize,
 ) -> Option<Conflict> {
+    if !may_meet(&cells.marks, row, other) {
+        return None;
+    }
     let mut one = at(&cells.starts, row, 0);
     let one_end = at(&cells.starts, row.wrapping_add(1), 0);
     let mut two = at(&cells.starts, other, 0);
     let two_end = at(&cells.starts, other.wrapping_add(1), 0);
-    for _ in 0..cells.parts.len().saturating_mul(2) {
+    for _ in 0..cells.uses.len().saturating_mul(2) {
         if one >= one_end || two >= two_end {
             break;
         }
-        let mine = at(&cells.parts, one, NO_PART);
-        let theirs = at(&cells.parts, two, NO_PART);
+        let mine = at(&cells.uses, one, NO_USE);
+        let theirs = at(&cells.uses, two, NO_USE);
         if mine.cell == theirs.cell {
-            let conflict = judge_parts(known, cells, spans, mine, theirs);
+            let conflict = propagate_uses(known, cells, spans, mine, theirs);
             if conflict.is_some() {
                 return conflict;
             }
@@ -284,13 +296,13 @@ pub(crate) fn check_commits<A: Allocator + Copy>(
 ) -> Option<Conflict> {
     let from = at(&cells.starts, row, 0);
     let to = at(&cells.starts, row.wrapping_add(1), 0);
-    for part in crate::items::between(&cells.parts, from, to) {
-        if part.writer == NONE {
+    for cell_use in crate::literals::range(&cells.uses, from, to) {
+        if cell_use.writer == NONE {
             continue;
         }
-        let cell = at(&cells.cells, part.cell as usize, NO_CELL);
+        let cell = at(&cells.cells, cell_use.cell as usize, NO_CELL);
         for reader in cell.readers..cell.readers_end {
-            let conflict = judge_reader(known, cells, spans, short(reader), part.writer);
+            let conflict = propagate_reader(known, cells, spans, short(reader), cell_use.writer);
             if conflict.is_some() {
                 return conflict;
             }

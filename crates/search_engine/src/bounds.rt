@@ -1,50 +1,65 @@
 //! What the bounds of sums force.
 
-use crate::items::{FALSE, at, neg, set, short, var};
 use crate::known::{Antecedent, Conflict, Known, assign, value};
-use crate::sums::{NO_SUM, NO_TERM, Sum, Sums, Term};
+use crate::literals::{FALSE, at, neg, range, set, short, var};
+use crate::sums::{NO_SLACK, NO_SUM, NO_TERM, Slack, Sums, Term};
 use std::alloc::Allocator;
 
-/// The sum is to be looked at, if it is near its bounds and does not wait yet.
-fn wake<A: Allocator>(sum: &mut Sum, waiting: &mut Vec<u32, A>, number: u32) {
-    let below = sum.wanted.saturating_sub(sum.low);
-    let above = sum.high.saturating_sub(sum.wanted);
-    if !sum.waits && (below < sum.most || above < sum.most) && waiting.push(number).is_ok() {
-        sum.waits = true;
+/// The sum is to be looked at, if it does not wait yet.
+fn wake<A: Allocator>(slack: &mut Slack, waiting: &mut Vec<u32, A>, number: u32) {
+    if !slack.waits && waiting.push(number).is_ok() {
+        slack.waits = true;
     }
 }
 
-/// One more of the term's literals holds, or fails, and with it, maybe, the term.
-fn note(term: &mut Term, sum: &mut Sum, holds: bool) {
-    if holds {
-        term.holding = term.holding.wrapping_add(1);
-        if term.holding == 2 && term.failing == 0 {
-            if term.gain > 0 {
-                sum.low = sum.low.wrapping_add(term.gain);
+/// One more of the term's literals holds. True where that may force something.
+fn note_holding(term: &mut Term, slack: &mut Slack) -> bool {
+    term.holding = term.holding.wrapping_add(1);
+    if term.failing > 0 {
+        return false;
+    }
+    let is_whole = term.holding == 2;
+    if term.gain > 0 {
+        if is_whole {
+            slack.below = slack.below.wrapping_sub(term.gain);
+        }
+        slack.below < if is_whole { slack.most } else { term.gain }
+    } else {
+        if is_whole {
+            slack.above = slack.above.wrapping_add(term.gain);
+        }
+        slack.above
+            < if is_whole {
+                slack.most
             } else {
-                sum.high = sum.high.wrapping_add(term.gain);
+                term.gain.wrapping_neg()
             }
-        }
-        return;
-    }
-    term.failing = term.failing.wrapping_add(1);
-    if term.failing == 1 {
-        if term.gain > 0 {
-            sum.high = sum.high.wrapping_sub(term.gain);
-        } else {
-            sum.low = sum.low.wrapping_sub(term.gain);
-        }
     }
 }
 
-/// Takes that back.
-fn forget(term: &mut Term, sum: &mut Sum, holds: bool) {
+/// One more of the term's literals fails. True where that may force something.
+fn note_failing(term: &mut Term, slack: &mut Slack) -> bool {
+    term.failing = term.failing.wrapping_add(1);
+    if term.failing > 1 {
+        return false;
+    }
+    if term.gain > 0 {
+        slack.above = slack.above.wrapping_sub(term.gain);
+        slack.above < slack.most
+    } else {
+        slack.below = slack.below.wrapping_add(term.gain);
+        slack.below < slack.most
+    }
+}
+
+/// Takes back that one of the term's literals holds, or fails.
+fn forget(term: &mut Term, slack: &mut Slack, holds: bool) {
     if holds {
         if term.holding == 2 && term.failing == 0 {
             if term.gain > 0 {
-                sum.low = sum.low.wrapping_sub(term.gain);
+                slack.below = slack.below.wrapping_add(term.gain);
             } else {
-                sum.high = sum.high.wrapping_sub(term.gain);
+                slack.above = slack.above.wrapping_sub(term.gain);
             }
         }
         term.holding = term.holding.wrapping_sub(1);
@@ -53,9 +68,9 @@ fn forget(term: &mut Term, sum: &mut Sum, holds: bool) {
     term.failing = term.failing.wrapping_sub(1);
     if term.failing == 0 {
         if term.gain > 0 {
-            sum.high = sum.high.wrapping_add(term.gain);
+            slack.above = slack.above.wrapping_add(term.gain);
         } else {
-            sum.low = sum.low.wrapping_add(term.gain);
+            slack.below = slack.below.wrapping_sub(term.gain);
         }
     }
 }
@@ -68,31 +83,34 @@ pub(crate) fn count_terms<A: Allocator + Copy>(
 ) -> usize {
     let from = at(&sums.starts, var(literal), 0);
     let to = at(&sums.starts, var(literal).wrapping_add(1), 0);
-    for place in from..to {
-        let used = at(&sums.uses, place, 0);
-        let holds = (used & 1) == (literal & 1);
-        let Some(term) = sums.terms.get_mut((used >> 1) as usize) else {
+    for used in range(&sums.occurrences, from as usize, to as usize) {
+        let holds = (*used & 1) == (literal & 1);
+        let Some(term) = sums.terms.get_mut((*used >> 1) as usize) else {
             continue;
         };
-        let Some(sum) = sums.sums.get_mut(term.sum as usize) else {
+        let Some(slack) = sums.slacks.get_mut(term.sum as usize) else {
             continue;
         };
-        if is_new {
-            note(term, sum, holds);
-            wake(sum, &mut sums.waiting, term.sum);
+        if !is_new {
+            forget(term, slack, holds);
+            continue;
+        }
+        let forces = if holds {
+            note_holding(term, slack)
         } else {
-            forget(term, sum, holds);
+            note_failing(term, slack)
+        };
+        if forces {
+            wake(slack, &mut sums.waiting, term.sum);
         }
     }
-    to.saturating_sub(from)
+    to.saturating_sub(from) as usize
 }
 
 /// The sum is looked at where its guard comes to hold.
 pub(crate) fn wake_guarded<A: Allocator + Copy>(sums: &mut Sums<A>, number: u32) {
-    if let Some(sum) = sums.sums.get_mut(number as usize) {
-        if !sum.waits && sums.waiting.push(number).is_ok() {
-            sum.waits = true;
-        }
+    if let Some(slack) = sums.slacks.get_mut(number as usize) {
+        wake(slack, &mut sums.waiting, number);
     }
 }
 
@@ -109,14 +127,14 @@ fn only_open(values: &[i8], literals: [u32; 2]) -> u32 {
 }
 
 /// Forces what the term has to be: out, where it would take the sum past a bound, or in, where it is needed.
-fn force<A: Allocator + Copy>(known: &mut Known<A>, term: &Term, sum: &Sum, number: u32) {
+fn force<A: Allocator + Copy>(known: &mut Known<A>, term: &Term, slack: Slack, number: u32) {
     let gain = term.gain;
+    let change = gain.saturating_abs();
+    let (is_past, is_short) = (change > slack.below, change > slack.above);
     let (is_out, is_in) = if gain > 0 {
-        let least = sum.high.wrapping_sub(gain);
-        (sum.low.wrapping_add(gain) > sum.wanted, least < sum.wanted)
+        (is_past, is_short)
     } else {
-        let most = sum.low.wrapping_sub(gain);
-        (sum.high.wrapping_add(gain) < sum.wanted, most > sum.wanted)
+        (is_short, is_past)
     };
     let low = Antecedent::Low(number);
     let high = Antecedent::High(number);
@@ -135,7 +153,7 @@ fn force<A: Allocator + Copy>(known: &mut Known<A>, term: &Term, sum: &Sum, numb
 }
 
 /// Looks at the sum: whether it can be what is wanted, and what that forces.
-fn judge_sum<A: Allocator + Copy>(
+fn propagate_sum<A: Allocator + Copy>(
     known: &mut Known<A>,
     sums: &Sums<A>,
     number: u32,
@@ -145,8 +163,9 @@ fn judge_sum<A: Allocator + Copy>(
     if guard == -1 {
         return None;
     }
-    let is_low = sum.low > sum.wanted;
-    if is_low || sum.high < sum.wanted {
+    let slack = at(&sums.slacks, number as usize, NO_SLACK);
+    let is_low = slack.below < 0;
+    if is_low || slack.above < 0 {
         if guard == 0 {
             let antecedent = if is_low {
                 Antecedent::Low(number)
@@ -158,39 +177,37 @@ fn judge_sum<A: Allocator + Copy>(
         }
         return Some(Conflict::Sum(number, is_low));
     }
-    let is_far = sum.wanted.wrapping_sub(sum.low) >= sum.most;
-    if guard == 0 || (is_far && sum.high.wrapping_sub(sum.wanted) >= sum.most) {
+    if guard == 0 || (slack.below >= slack.most && slack.above >= slack.most) {
         return None;
     }
-    for place in sum.from..sum.to {
-        let term = at(&sums.terms, place, NO_TERM);
+    for term in range(&sums.terms, sum.from, sum.to) {
         if term.failing == 0 && term.holding < 2 {
-            force(known, &term, &sum, number);
+            force(known, term, slack, number);
         }
     }
-    known.looks = known
-        .looks
+    known.work = known
+        .work
         .wrapping_add(sum.to.saturating_sub(sum.from) as u64);
     None
 }
 
 /// Looks at the last sum that waits, if one does.
-pub(crate) fn judge_waiting<A: Allocator + Copy>(
+pub(crate) fn propagate_waiting<A: Allocator + Copy>(
     known: &mut Known<A>,
     sums: &mut Sums<A>,
 ) -> Option<Conflict> {
     let number = sums.waiting.pop()?;
-    if let Some(sum) = sums.sums.get_mut(number as usize) {
-        sum.waits = false;
+    if let Some(slack) = sums.slacks.get_mut(number as usize) {
+        slack.waits = false;
     }
-    judge_sum(known, sums, number)
+    propagate_sum(known, sums, number)
 }
 
 /// No sum waits any longer.
 pub(crate) fn clear_waiting<A: Allocator + Copy>(sums: &mut Sums<A>) {
     for number in sums.waiting.iter() {
-        if let Some(sum) = sums.sums.get_mut(*number as usize) {
-            sum.waits = false;
+        if let Some(slack) = sums.slacks.get_mut(*number as usize) {
+            slack.waits = false;
         }
     }
     sums.waiting.clear();

@@ -1,8 +1,8 @@
 //! Who stands before whom: with each pair all that follow from it.
 
-use crate::items::{at, set, short};
 use crate::known::{Antecedent, Conflict, Known, assign, value};
-use crate::spans::{Span, before};
+use crate::literals::{at, set, short};
+use crate::spans::{Span, before_by, span_of};
 use aud_event::OutOfMemory;
 use std::alloc::{Allocator, Global};
 
@@ -30,6 +30,12 @@ fn set_bit(bits: &mut [u64], from: usize, row: usize, to: bool) {
     let word = at(bits, place, 0);
     let bit = 1u64 << (row % 64);
     set(bits, place, if to { word | bit } else { word & !bit });
+}
+
+/// Sets the bits in the word.
+fn add_bits(bits: &mut [u64], place: usize, more: u64) {
+    let word = at(bits, place, 0);
+    set(bits, place, word | more);
 }
 
 /// Whether the one row is known to stand before the other.
@@ -96,6 +102,48 @@ fn fresh_in(bits: &[u64], words: usize, rows: (usize, usize), word: usize) -> u6
     (wanted | bit_in(one, word)) & !known
 }
 
+/// The row stands before the rows of the bits in that word. `through` are the two rows of the pair that this follows from.
+fn join_word<A: Allocator + Copy>(
+    known: &mut Known<A>,
+    closure: &mut Closure<A>,
+    spans: &[Span],
+    row: usize,
+    through: (usize, usize),
+    (word, bits): (usize, u64),
+) -> Option<Conflict> {
+    let (from, to) = through;
+    let found = span_of(spans, row);
+    let mut fresh = bits;
+    for _ in 0..64 {
+        if fresh == 0 {
+            break;
+        }
+        let other = word
+            .wrapping_mul(64)
+            .wrapping_add(fresh.trailing_zeros() as usize);
+        let literal = before_by(spans, found, row, other);
+        match value(&known.values, literal) {
+            0 => assign(known, literal, Antecedent::Circle(short(from), short(to))),
+            1 => {}
+            _ => {
+                let place = row.wrapping_mul(closure.words).wrapping_add(word);
+                add_bits(&mut closure.after, place, bits ^ fresh);
+                return Some(Conflict::Circle(row, from, to, other));
+            }
+        }
+        fresh &= fresh.wrapping_sub(1);
+        set_bit(
+            &mut closure.before,
+            other.wrapping_mul(closure.words),
+            row,
+            true,
+        );
+    }
+    let place = row.wrapping_mul(closure.words).wrapping_add(word);
+    add_bits(&mut closure.after, place, bits);
+    None
+}
+
 /// The row stands before the other, and before all that this one does: `through` are the two rows of the pair that all follows from.
 fn join<A: Allocator + Copy>(
     known: &mut Known<A>,
@@ -105,28 +153,16 @@ fn join<A: Allocator + Copy>(
     through: (usize, usize),
 ) -> Option<Conflict> {
     let words = closure.words;
-    let (from, to) = through;
     for word in 0..words {
-        let mut fresh = fresh_in(&closure.after, words, (to, row), word);
-        for _ in 0..64 {
-            if fresh == 0 {
-                break;
+        let fresh = fresh_in(&closure.after, words, (through.1, row), word);
+        if fresh != 0 {
+            let conflict = join_word(known, closure, spans, row, through, (word, fresh));
+            if conflict.is_some() {
+                return conflict;
             }
-            let other = word
-                .wrapping_mul(64)
-                .wrapping_add(fresh.trailing_zeros() as usize);
-            fresh &= fresh.wrapping_sub(1);
-            let literal = before(spans, row, other);
-            match value(&known.values, literal) {
-                0 => assign(known, literal, Antecedent::Circle(short(from), short(to))),
-                1 => {}
-                _ => return Some(Conflict::Circle(row, from, to, other)),
-            }
-            set_bit(&mut closure.after, row.wrapping_mul(words), other, true);
-            set_bit(&mut closure.before, other.wrapping_mul(words), row, true);
         }
     }
-    known.looks = known.looks.wrapping_add(words as u64);
+    known.work = known.work.wrapping_add(words as u64);
     None
 }
 

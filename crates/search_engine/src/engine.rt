@@ -1,7 +1,7 @@
 //! The engine.
 
-use crate::draft::Role;
-use crate::items::{FALSE, NONE, at, fill, neg, set, short};
+use crate::encoding::Role;
+use crate::literals::{FALSE, NONE, at, fill, neg, set, short};
 use crate::orders::{block, decisions_of, first_bad, order_of};
 use crate::problem::{Allowance, Problem};
 use crate::reading::{Encoded, read};
@@ -26,33 +26,34 @@ pub enum Solved<A: Allocator + Copy = Global> {
     Unknown,
 }
 
-/// How far the engine goes: it ends with any of these. A look is a unit of its work, and the bytes are those that it holds.
+/// How far the engine goes: it ends with any of these. A unit of work is a look at a clause or a term, and the bytes are those that it
+/// holds.
 #[derive(Clone, Copy)]
 pub struct Effort {
     pub conflicts: u64,
-    pub looks: u64,
+    pub work: u64,
     pub bytes: usize,
 }
 
-/// An order by an instant, near which orders are sought: which part of twenty of its time each transaction took effect after, how many
+/// An order by an instant, near which orders are sought: after how many twentieths of its time each transaction took effect, how many
 /// places one may stand away, and whether there may be such orders.
 #[derive(Clone, Copy)]
 struct Near {
-    part: u64,
+    twentieths: u64,
     reach: usize,
     is_open: bool,
 }
 
-/// Orders near the instants after so many of twenty parts of each time, by up to so many places; there may be such.
-fn nearby(part: u64, reach: usize) -> Near {
+/// Orders near the instants after so many twentieths of each time, by up to so many places; there may be such.
+fn nearby(twentieths: u64, reach: usize) -> Near {
     Near {
-        part,
+        twentieths,
         reach,
         is_open: true,
     }
 }
 
-/// How many hundred conflicts the restarts of a search are given: 1, 1, 2, 1, 1, 2, 4 and so on (Luby, Sinclair and Zuckerman, Optimal
+/// How many units of conflicts the restarts of a search are given: 1, 1, 2, 1, 1, 2, 4 and so on (Luby, Sinclair and Zuckerman, Optimal
 /// speedup of Las Vegas algorithms, 1993; by Knuth's two counters).
 #[derive(Clone, Copy)]
 struct Luby {
@@ -86,10 +87,10 @@ struct Ranked {
 fn sort_rows<A: Allocator + Copy>(
     ranked: &mut Vec<Ranked, A>,
     spans: &[Span],
-    part: u64,
+    twentieths: u64,
 ) -> Result<(), OutOfMemory> {
     for (row, found) in spans.iter().enumerate() {
-        let key = instant(*found, part);
+        let key = instant(*found, twentieths);
         ranked.push(Ranked { key, row })?;
     }
     ranked.sort_unstable();
@@ -100,26 +101,16 @@ fn sort_rows<A: Allocator + Copy>(
 fn ranks_of<A: Allocator + Copy>(
     alloc: A,
     spans: &[Span],
-    part: u64,
+    twentieths: u64,
 ) -> Result<Vec<usize, A>, OutOfMemory> {
     let mut ranked = Vec::new(alloc);
-    sort_rows(&mut ranked, spans, part)?;
+    sort_rows(&mut ranked, spans, twentieths)?;
     let mut ranks = Vec::new(alloc);
     fill(&mut ranks, spans.len(), 0)?;
     for (rank, found) in ranked.iter().enumerate() {
         set(&mut ranks, found.row, rank);
     }
     Ok(ranks)
-}
-
-/// Tries pairs first as the ranks say.
-fn rank_phases(roles: &[Role], ranks: &[usize], phases: &mut [bool]) {
-    for variable in 1..roles.len() {
-        if let Role::Precedence(row, other) = roles[variable] {
-            let one = at(ranks, row as usize, 0);
-            set(phases, variable, one < at(ranks, other as usize, 0));
-        }
-    }
 }
 
 /// The literal of the pair that stands so far apart, as the ranks say, if both ended; or the one that never holds.
@@ -147,10 +138,9 @@ fn assume_near<A: Allocator + Copy>(
     reach: usize,
 ) -> Result<(), OutOfMemory> {
     let spans = &solver.problem.spans[..];
-    let variables = &mut solver.problem.variables;
-    rank_phases(&variables.roles, ranks, &mut variables.phases);
+    let variables = &solver.problem.variables;
     for variable in 1..variables.roles.len() {
-        if at(&variables.decided, variable, false) {
+        if at(&variables.choices, variable, false) {
             let role = at(&variables.roles, variable, Role::Nothing);
             let literal = far_literal(role, spans, ranks, variable, reach);
             if literal != FALSE {
@@ -197,7 +187,7 @@ fn try_order<A: Allocator + Copy>(
     if block(alloc, solver, order, place)? {
         Ok(Tried::Blocked)
     } else {
-        Ok(Tried::Nothing)
+        Ok(Tried::NoOrder)
     }
 }
 
@@ -216,7 +206,84 @@ fn try_found<A: Allocator + Copy>(
 enum Tried<A: Allocator + Copy> {
     Good(Vec<Decision, A>),
     Blocked,
-    Nothing,
+    NoOrder,
+}
+
+/// The restarts of a search: plain ones, whose lengths are in units of so many conflicts, and ones near the orders of instants by turns.
+#[derive(Clone, Copy)]
+struct Schedule {
+    nears: [Near; 4],
+    turn: usize,
+    luby: Luby,
+    unit: u64,
+    restart: u64,
+}
+
+/// The restarts for so many rows, from the first one on.
+fn schedule_for(rows: usize) -> Schedule {
+    Schedule {
+        nears: [
+            nearby(19, 6),
+            nearby(10, 12),
+            nearby(19, 10),
+            nearby(15, 12),
+        ],
+        turn: 0,
+        luby: Luby { index: 1, share: 1 },
+        unit: (rows as u64 / 8).max(100),
+        restart: 0,
+    }
+}
+
+/// Assumes what the next restart does, and gives how many conflicts it may take, and the instant that it is near, if it is near one.
+fn begin_restart<A: Allocator + Copy>(
+    alloc: A,
+    schedule: &mut Schedule,
+    solver: &mut Solver<A>,
+) -> Result<(u64, Option<usize>), OutOfMemory> {
+    let restart = schedule.restart;
+    schedule.restart = restart.wrapping_add(1);
+    solver.tries_best = restart % 2 == 0;
+    solver.assumed.clear();
+    let share = schedule.luby.share;
+    schedule.luby = next_share(schedule.luby);
+    if restart < 6 || restart % 2 == 1 {
+        return Ok((share.saturating_mul(schedule.unit), None));
+    }
+    let Some(place) = next_near(&schedule.nears, schedule.turn) else {
+        return Ok((share.saturating_mul(schedule.unit), None));
+    };
+    schedule.turn = place;
+    let found = schedule.nears[place % 4];
+    let ranks = ranks_of(alloc, &solver.problem.spans, found.twentieths)?;
+    backjump(solver, 0);
+    assume_near(solver, &ranks, found.reach)?;
+    Ok((restart.saturating_mul(100).saturating_add(300), Some(place)))
+}
+
+/// Searches within the effort, by at most so many conflicts more.
+fn search_on<A: Allocator + Copy>(
+    solver: &mut Solver<A>,
+    effort: Effort,
+    budget: u64,
+) -> Result<Found, OutOfMemory> {
+    let conflicts = solver
+        .conflicts
+        .saturating_add(budget)
+        .min(effort.conflicts);
+    let limits = Limits {
+        conflicts,
+        work: effort.work,
+        bytes: effort.bytes,
+    };
+    search(solver, limits)
+}
+
+/// Whether the effort is spent.
+fn is_over<A: Allocator + Copy>(solver: &Solver<A>, effort: Effort) -> bool {
+    solver.conflicts >= effort.conflicts
+        || solver.known.work >= effort.work
+        || bytes_held(solver) > effort.bytes
 }
 
 /// Searches by restarts, plainly and near the orders of instants by turns. None where there is no order.
@@ -226,58 +293,24 @@ fn search_by_restarts<A: Allocator + Copy>(
     solver: &mut Solver<A>,
     effort: Effort,
 ) -> Result<Option<Solved<A>>, OutOfMemory> {
-    let mut nears = [
-        nearby(19, 6),
-        nearby(10, 12),
-        nearby(19, 10),
-        nearby(15, 12),
-    ];
     let rows = solver.problem.spans.len();
-    let mut turn = 0;
-    let mut luby = Luby { index: 1, share: 1 };
-    let unit = (rows as u64 / 8).max(100);
-    for restart in 0..u64::MAX {
-        let mut used = None;
-        let mut budget = luby.share.saturating_mul(unit);
-        luby = next_share(luby);
-        solver.assumed.clear();
-        if restart >= 6 && restart % 2 == 0 {
-            used = next_near(&nears, turn);
-        }
-        if let Some(place) = used {
-            turn = place;
-            let found = nears[place % 4];
-            let ranks = ranks_of(alloc, &solver.problem.spans, found.part)?;
-            backjump(solver, 0);
-            assume_near(solver, &ranks, found.reach)?;
-            budget = restart.saturating_mul(100).saturating_add(300);
-        }
-        let conflicts = solver
-            .conflicts
-            .saturating_add(budget)
-            .min(effort.conflicts);
-        let limits = Limits {
-            conflicts,
-            looks: effort.looks,
-            bytes: effort.bytes,
-        };
-        solver.tries_best = restart % 2 == 0;
-        match search(solver, limits)? {
-            Found::Nothing => return Ok(None),
+    let mut schedule = schedule_for(rows);
+    for _ in 0..u64::MAX {
+        let (budget, near) = begin_restart(alloc, &mut schedule, solver)?;
+        match search_on(solver, effort, budget)? {
+            Found::NoOrder => return Ok(None),
             Found::All => match try_found(alloc, shape, solver)? {
                 Tried::Good(decisions) => return Ok(Some(Solved::Order(decisions))),
                 Tried::Blocked => {}
-                Tried::Nothing => return Ok(None),
+                Tried::NoOrder => return Ok(None),
             },
             Found::NotAssumed => {
-                if let Some(place) = used {
-                    widen(&mut nears, place, rows);
+                if let Some(place) = near {
+                    widen(&mut schedule.nears, place, rows);
                 }
             }
             Found::Spent => {
-                let is_past = solver.known.looks >= effort.looks;
-                let is_full = bytes_held(solver) > effort.bytes;
-                if solver.conflicts >= effort.conflicts || is_past || is_full {
+                if is_over(solver, effort) {
                     return Ok(Some(Solved::Unknown));
                 }
             }
@@ -296,7 +329,7 @@ fn refuted<A: Allocator + Copy>(alloc: A, solver: &Solver<A>) -> Result<Solved<A
 }
 
 /// The law that the transaction breaks which contradicts itself on the cell.
-fn law_of_block<A: Allocator + Copy>(
+fn law_of_clash<A: Allocator + Copy>(
     shape: &Shape<A>,
     tx: u32,
     object: u16,
@@ -357,14 +390,14 @@ fn search_once<A: Allocator + Copy>(
     logs: bool,
 ) -> Result<Option<Solved<A>>, OutOfMemory> {
     let allowance = Allowance {
-        looks: 0,
-        most: effort.looks,
+        work: 0,
+        most: effort.work,
         bytes: effort.bytes,
     };
     match read(alloc, shape, allowance)? {
         Encoded::Problem(problem) => search_problem(alloc, shape, problem, effort, logs),
-        Encoded::Block(tx, object, cell) => {
-            let law = law_of_block(shape, tx, object, cell);
+        Encoded::Clash(tx, object, cell) => {
+            let law = law_of_clash(shape, tx, object, cell);
             Ok(Some(refuted_by(alloc, law)?))
         }
         Encoded::Large => Ok(Some(Solved::Unknown)),

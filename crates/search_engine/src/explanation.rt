@@ -2,9 +2,9 @@
 
 use crate::betweens::clause_of;
 use crate::cells::Cells;
-use crate::draft::{LITERALS, Origin, Role};
-use crate::items::{FALSE, NONE, TRUE, at, between, neg, var};
+use crate::encoding::{LITERALS, Origin, Role};
 use crate::known::{Antecedent, Assigned, Conflict, Known, UNKNOWN, place_if, value};
+use crate::literals::{FALSE, NONE, TRUE, at, neg, range, var};
 use crate::spans::{Span, before};
 use crate::sums::{NO_SUM, NO_TERM, Sum, Sums, Term};
 use aud_event::OutOfMemory;
@@ -24,7 +24,7 @@ pub(crate) struct View<'a, A: Allocator + Copy> {
     pub terms: &'a [Term],
 }
 
-/// A term that contributes to a forced bound: when it came to, by how much, and its number.
+/// A term that contributes to a forced bound: since which place of the trail it does, by how much, and its number.
 #[derive(Clone, Copy, PartialEq, Eq, PartialOrd, Ord)]
 pub(crate) struct Contribution {
     place: u32,
@@ -32,7 +32,7 @@ pub(crate) struct Contribution {
     term: usize,
 }
 
-/// The literals that follow from a clause in which all others fail: these, as they hold.
+/// Adds the opposites of the clause's literals other than the forced one. They hold.
 fn add_others<A: Allocator + Copy>(
     literals: &[u32],
     forced: u32,
@@ -50,7 +50,7 @@ fn add_others<A: Allocator + Copy>(
 pub(crate) fn literals_of(arena: &[u32], clause: u32) -> &[u32] {
     let place = clause as usize;
     let from = place.wrapping_add(LITERALS);
-    between(arena, from, from.wrapping_add(at(arena, place, 0) as usize))
+    range(arena, from, from.wrapping_add(at(arena, place, 0) as usize))
 }
 
 /// The two rows of a literal of a pair, the one that stands before first.
@@ -86,7 +86,7 @@ fn add_circle<A: Allocator + Copy>(
 }
 
 /// Whether the term was known to hold or to fail before that place.
-fn is_decided(values: &[i8], states: &[Assigned], term: &Term, limit: u32) -> bool {
+fn is_known(values: &[i8], states: &[Assigned], term: &Term, limit: u32) -> bool {
     let [first, second] = term.literals;
     let fails = place_if(values, states, first, -1).min(place_if(values, states, second, -1));
     let holds = place_if(values, states, first, 1).max(place_if(values, states, second, 1));
@@ -126,7 +126,22 @@ fn add_contribution<A: Allocator + Copy>(
     Ok(())
 }
 
-/// What the contributions have to add up to so that the bound is crossed, the forced literal's term aside; and those that may.
+/// Adds the literal of the term beside that one, unless it holds in any case.
+fn add_partner<A: Allocator + Copy>(
+    literals: [u32; 2],
+    one: u32,
+    out: &mut Vec<u32, A>,
+) -> Result<(), OutOfMemory> {
+    let [first, second] = literals;
+    let other = if first == one { second } else { first };
+    if other != TRUE {
+        out.push(other)?;
+    }
+    Ok(())
+}
+
+/// Finds the terms that contribute to the bound before the limit, the forced literal's own term aside, whose other literal is added. It gives
+/// what the contributions have to add up to so that the bound is crossed.
 fn find_contributions<A: Allocator + Copy>(
     view: &View<'_, A>,
     sum: &Sum,
@@ -148,15 +163,11 @@ fn find_contributions<A: Allocator + Copy>(
         }
         let wanted = if rises { neg(forced) } else { forced };
         let is_own = !is_found && term.literals.contains(&wanted);
-        if is_own && !is_decided(view.values, view.states, &term, limit) {
+        if is_own && !is_known(view.values, view.states, &term, limit) {
             is_found = true;
             lacks = lacks.wrapping_sub(gain.wrapping_abs());
             if rises {
-                let [first, second] = term.literals;
-                let other = if first == wanted { second } else { first };
-                if other != TRUE {
-                    out.push(other)?;
-                }
+                add_partner(term.literals, wanted, out)?;
             }
             continue;
         }

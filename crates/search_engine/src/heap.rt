@@ -1,6 +1,7 @@
-//! The variables that are to be decided, those first that had a part in the last conflicts.
+//! The variables whose values may be chosen, those first that the last conflicts were about (VSIDS, by Moskewicz and others: Chaff,
+//! engineering an efficient SAT solver, 2001).
 
-use crate::items::{NONE, at, fill, set, short};
+use crate::literals::{NONE, at, fill, set, short};
 use aud_event::OutOfMemory;
 use std::alloc::{Allocator, Global};
 
@@ -8,7 +9,7 @@ use std::alloc::{Allocator, Global};
 #[derive(Drop)]
 pub(crate) struct Heap<A: Allocator + Copy = Global> {
     pub weights: Vec<f64, A>,
-    /// What a part in a conflict weighs now.
+    /// What a conflict weighs now.
     pub step: f64,
     heap: Vec<u32, A>,
     count: usize,
@@ -137,7 +138,7 @@ fn scale<A: Allocator + Copy>(heap: &mut Heap<A>) {
     heap.step *= 1e-100;
 }
 
-/// The variable had a part in a conflict.
+/// A conflict was about the variable.
 pub(crate) fn bump<A: Allocator + Copy>(heap: &mut Heap<A>, variable: usize) {
     let now = at(&heap.weights, variable, 0.0) + heap.step;
     set(&mut heap.weights, variable, now);

@@ -1,13 +1,13 @@
 //! What is assigned: which literals hold, since when and why.
 
-use crate::items::{FALSE, NONE, TRUE, at, fill, neg, set, short, var};
+use crate::literals::{FALSE, NONE, TRUE, at, fill, neg, set, short, var};
 use aud_event::OutOfMemory;
 use std::alloc::{Allocator, Global};
 
 /// Why a literal holds.
 #[derive(Clone, Copy)]
 pub(crate) enum Antecedent {
-    /// It was decided.
+    /// It was chosen.
     Choice,
     Clause(u32),
     /// The one row stands before the other.
@@ -51,13 +51,13 @@ pub(crate) struct Known<A: Allocator + Copy = Global> {
     pub states: Vec<Assigned, A>,
     pub trail: Vec<u32, A>,
     pub count: usize,
-    /// How many of them were looked at by clauses, and by the rest.
+    /// How many of them were followed by clauses, and by the rest.
     pub seen: usize,
-    pub judged: usize,
+    pub propagated: usize,
     /// Where each level begins.
     pub levels: Vec<usize, A>,
     /// The work that was done.
-    pub looks: u64,
+    pub work: u64,
 }
 
 impl<A: Allocator + Copy> Known<A> {
@@ -69,9 +69,9 @@ impl<A: Allocator + Copy> Known<A> {
             trail: Vec::new(alloc),
             count: 0,
             seen: 0,
-            judged: 0,
+            propagated: 0,
             levels: Vec::new(alloc),
-            looks: 0,
+            work: 0,
         }
     }
 }

@@ -5,14 +5,15 @@
 mod analysis;
 mod betweens;
 mod bounds;
+mod cell_index;
 mod cells;
 mod closure;
-mod draft;
+mod encoding;
 mod engine;
 mod explanation;
 mod heap;
-mod items;
 mod known;
+mod literals;
 mod log;
 mod orders;
 mod problem;
@@ -23,6 +24,6 @@ mod refuted;
 mod solver;
 mod spans;
 mod sums;
-mod visits;
+mod watches;
 
 pub use engine::{Effort, Solved, solve};

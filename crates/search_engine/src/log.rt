@@ -1,10 +1,10 @@
 //! The steps of a search, as they are found: clauses, and what each one follows from.
 
 use crate::analysis::Analysis;
-use crate::draft::{CAUSE, Origin, STEP};
+use crate::encoding::{ORIGIN, Origin, STEP};
 use crate::explanation::{Contribution, View, explain, literals_of, pair_of};
-use crate::items::{NONE, at, between, fill, neg, set, short, var};
 use crate::known::{Antecedent, Conflict, UNKNOWN};
+use crate::literals::{NONE, at, fill, neg, range, set, short, var};
 use crate::sums::NO_SUM;
 use aud_event::OutOfMemory;
 use std::alloc::{Allocator, Global};
@@ -131,7 +131,7 @@ fn step_of_clause<A: Allocator + Copy>(
     clause: u32,
 ) -> Result<u32, OutOfMemory> {
     let place = clause as usize;
-    let origin = at(view.arena, place.wrapping_add(CAUSE), NONE);
+    let origin = at(view.arena, place.wrapping_add(ORIGIN), NONE);
     if origin == NONE {
         return Ok(at(view.arena, place.wrapping_add(STEP), NONE));
     }
@@ -146,7 +146,7 @@ fn step_of_clause<A: Allocator + Copy>(
 }
 
 /// Why the literals force this one, where no clause does.
-fn cause_of<A: Allocator + Copy>(
+fn origin_of<A: Allocator + Copy>(
     view: &View<'_, A>,
     literal: u32,
     antecedent: Antecedent,
@@ -165,7 +165,7 @@ fn cause_of<A: Allocator + Copy>(
 /// Whether the step has these literals.
 fn is_step<A: Allocator + Copy>(steps: &StepLog<A>, number: u32, literals: &[u32]) -> bool {
     match steps.steps.get(number as usize) {
-        Some(step) => *between(&steps.literals, step.from, step.to) == *literals,
+        Some(step) => *range(&steps.literals, step.from, step.to) == *literals,
         None => false,
     }
 }
@@ -207,14 +207,14 @@ fn step_of<A: Allocator + Copy>(
     if is_step(&log.steps, known, &log.clause) {
         return Ok(known);
     }
-    let why = Why::Origin(cause_of(view, literal, antecedent));
+    let why = Why::Origin(origin_of(view, literal, antecedent));
     let number = add_step(&mut log.steps, &log.clause, why)?;
     set(&mut log.forced, var(literal), number);
     Ok(number)
 }
 
 /// Why the conflict cannot be, if it is of no clause.
-fn cause_of_conflict<A: Allocator + Copy>(view: &View<'_, A>, conflict: Conflict) -> Origin {
+fn origin_of_conflict<A: Allocator + Copy>(view: &View<'_, A>, conflict: Conflict) -> Origin {
     match conflict {
         Conflict::Clause(_) => Origin::Tried,
         Conflict::Circle(row, from, to, other) => {
@@ -239,7 +239,7 @@ pub(crate) fn log_conflict<A: Allocator + Copy>(
     log.clause.clear();
     log.clause.extend_from_slice(literals)?;
     turn_all(&mut log.clause);
-    let why = Why::Origin(cause_of_conflict(view, conflict));
+    let why = Why::Origin(origin_of_conflict(view, conflict));
     log.last = add_step(&mut log.steps, &log.clause, why)?;
     Ok(())
 }

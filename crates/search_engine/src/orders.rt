@@ -1,12 +1,12 @@
 //! Orders that a search found, and their trial.
 
 use crate::closure::is_before;
-use crate::draft::{LITERALS, Origin, add_clause};
-use crate::items::{FALSE, NONE, TRUE, at, neg, set, short};
+use crate::encoding::{LITERALS, Origin, add_clause};
 use crate::known::{Antecedent, assign, value};
+use crate::literals::{FALSE, NONE, TRUE, at, neg, set, short};
 use crate::solver::{Solver, backjump};
 use crate::spans::{Span, before, instant, span_of};
-use crate::visits::watch_both;
+use crate::watches::watch_both;
 use aud_event::OutOfMemory;
 use aud_order::{Cursor, Shape};
 use aud_witness::{Decision, Fate};
@@ -38,7 +38,7 @@ fn count_before<A: Allocator + Copy>(
     for row in 0..solver.problem.spans.len() {
         let mut count: u32 = 0;
         let from = row.wrapping_mul(words);
-        for word in crate::items::between(&solver.closure.before, from, from.wrapping_add(words)) {
+        for word in crate::literals::range(&solver.closure.before, from, from.wrapping_add(words)) {
             count = count.wrapping_add(word.count_ones());
         }
         counts.push(count)?;
@@ -47,7 +47,7 @@ fn count_before<A: Allocator + Copy>(
 }
 
 /// One less stands before each of those that the row stands before.
-fn let_go(counts: &mut [u32], after: &[u64], words: usize, row: usize) {
+fn release(counts: &mut [u32], after: &[u64], words: usize, row: usize) {
     set(counts, row, NONE);
     for other in 0..counts.len() {
         if is_before(after, words, row, other) {
@@ -68,7 +68,7 @@ pub(crate) fn order_of<A: Allocator + Copy>(
     let mut order = Vec::new(alloc);
     for _ in 0..spans.len() {
         let row = first_free(spans, &counts);
-        let_go(
+        release(
             &mut counts,
             &solver.closure.after,
             solver.closure.words,
@@ -132,7 +132,7 @@ fn deny_before<A: Allocator + Copy>(
 ) -> Result<(), OutOfMemory> {
     let spans = &solver.problem.spans[..];
     let mut last = NONE as usize;
-    for row in crate::items::between(order, 0, place.saturating_add(1)) {
+    for row in crate::literals::range(order, 0, place.saturating_add(1)) {
         let commits = span_of(spans, *row).commits;
         let is_last = at(order, place, 0) == *row;
         if is_last || value(&solver.known.values, commits) == 1 {

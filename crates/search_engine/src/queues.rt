@@ -1,10 +1,10 @@
 //! Queues: which addition is taken, how many are taken and added before, and what was added before is taken before.
 
-use crate::draft::{Clauses, Origin, Role, Variables, add_clause, add_variable, ask};
-use crate::items::{FALSE, NONE, TRUE, at, between, neg, set, short};
+use crate::encoding::{Clauses, Origin, Role, Variables, add_clause, add_variable, ask};
+use crate::literals::{FALSE, NONE, TRUE, at, neg, range, set, short};
 use crate::problem::{Problem, is_large, spend};
 use crate::spans::{Span, before, instant, span_of};
-use crate::sums::{Concurrent, Sums, add_terms, end_sum, find_concurrent, sum_ended};
+use crate::sums::{Concurrent, add_all_terms, add_terms, end_sum, find_concurrent, sum_ended};
 use aud_event::OutOfMemory;
 use std::alloc::{Allocator, Global};
 
@@ -116,7 +116,7 @@ struct QueueUse<A: Allocator + Copy = Global> {
     added: Vec<Added, A>,
 }
 
-/// Who adds and who takes each value, by what ended before each row.
+/// For each row how many those take that had ended before it, less how many they add, and both together.
 #[derive(Drop)]
 struct EndedTotals<A: Allocator + Copy = Global> {
     takes: Vec<i64, A>,
@@ -264,7 +264,7 @@ fn list_added<A: Allocator + Copy>(
         }
         let takers = place_of(&queue.takers, value, false);
         let takers_end = place_of(&queue.takers, value, true);
-        let found_takers = between(&queue.takers, takers, takers_end);
+        let found_takers = range(&queue.takers, takers, takers_end);
         last = Added {
             place: found.place,
             value,
@@ -307,7 +307,7 @@ fn add_gone<A: Allocator + Copy>(
     clause.push(neg(guard))?;
     clause.push(neg(commits))?;
     let mut last = usize::MAX;
-    for taker in between(&queue.takers, added.takers, added.takers_end) {
+    for taker in range(&queue.takers, added.takers, added.takers_end) {
         if taker.place != asked.place && taker.place != last {
             last = taker.place;
             let row = at(&queue.rows, taker.place, 0);
@@ -315,7 +315,7 @@ fn add_gone<A: Allocator + Copy>(
         }
     }
     for literal in clause.iter() {
-        ask(&mut variables.decided, *literal);
+        ask(&mut variables.choices, *literal);
     }
     add_clause(clauses, Origin::Gone(number), &clause)
 }
@@ -330,8 +330,48 @@ fn takes_value(ops: &[PlacedOp], value: i64) -> bool {
     false
 }
 
-/// What was added before the item of the row at that place, or before the queue is empty, is taken before. Values that are surely taken
-/// before are let go for all rows that follow.
+/// The next of the values after the known one, which are in the order of their rows, that not surely is taken before the stamp; or their
+/// number. Those between go out of the list for all rows that follow.
+fn next_added(added: &mut [Added], known: usize, began: u32) -> usize {
+    for _ in 0..added.len() {
+        let place = at(added, known, NOT_ADDED).next;
+        let found = at(added, place, NOT_ADDED);
+        if place >= added.len() || found.taken >= began {
+            return place;
+        }
+        if let Some(before) = added.get_mut(known) {
+            before.next = found.next;
+        }
+    }
+    added.len()
+}
+
+/// The value that another row added before the item is taken before: the law, and its clause.
+fn add_one_gone<A: Allocator + Copy>(
+    alloc: A,
+    queue: &QueueUse<A>,
+    problem: &mut Problem<A>,
+    asked: Demand,
+    added: Added,
+    ahead: u32,
+    guard: u32,
+    item: u32,
+) -> Result<(), OutOfMemory> {
+    let number = short(problem.items.gone.len());
+    problem.items.gone.push(GoneOf {
+        take: asked.take,
+        item,
+        row: at(&queue.rows, added.place, 0),
+        value: added.value,
+    })?;
+    let (variables, clauses) = (&mut problem.variables, &mut problem.clauses);
+    let spans = &problem.spans[..];
+    add_gone(
+        alloc, queue, variables, clauses, spans, asked, added, ahead, guard, number,
+    )
+}
+
+/// What was added before the item of the row at that place, or before the queue is empty, is taken before.
 fn add_all_gone<A: Allocator + Copy>(
     alloc: A,
     queue: &mut QueueUse<A>,
@@ -342,46 +382,25 @@ fn add_all_gone<A: Allocator + Copy>(
     guard: u32,
     item: u32,
 ) -> Result<(), OutOfMemory> {
-    let spans = &problem.spans[..];
-    let began = span_of(spans, asked.take.row).first;
+    let began = span_of(&problem.spans, asked.take.row).first;
     let row = at(&queue.rows, adder, 0);
-    let last = span_of(spans, row).last;
-    let count = queue.added.len();
+    let last = span_of(&problem.spans, row).last;
     let mut known = 0;
-    for _ in 0..count {
+    for _ in 0..queue.added.len() {
         spend(&mut problem.allowance, 1);
-        let place = at(&queue.added, known, NOT_ADDED).next;
-        let found = at(&queue.added, place, NOT_ADDED);
-        if place >= count {
+        known = next_added(&mut queue.added, known, began);
+        let Some(found) = queue.added.get(known) else {
+            break;
+        };
+        let (found, other) = (*found, at(&queue.rows, found.place, 0));
+        if span_of(&problem.spans, other).first > last {
             break;
         }
-        if found.taken < began {
-            if let Some(before) = queue.added.get_mut(known) {
-                before.next = found.next;
-            }
-            continue;
-        }
-        known = place;
-        let other = at(&queue.rows, found.place, 0);
-        if span_of(spans, other).first > last {
-            break;
-        }
-        let ahead = before(spans, other, row);
+        let ahead = before(&problem.spans, other, row);
         let is_own = found.place == asked.place || found.place == adder;
-        if is_own || ahead == FALSE || takes_value(own, found.value) {
-            continue;
+        if !is_own && ahead != FALSE && !takes_value(own, found.value) {
+            add_one_gone(alloc, queue, problem, asked, found, ahead, guard, item)?;
         }
-        let number = short(problem.items.gone.len());
-        problem.items.gone.push(GoneOf {
-            take: asked.take,
-            item,
-            row: other,
-            value: found.value,
-        })?;
-        let (variables, clauses) = (&mut problem.variables, &mut problem.clauses);
-        add_gone(
-            alloc, queue, variables, clauses, spans, asked, found, ahead, guard, number,
-        )?;
     }
     Ok(())
 }
@@ -421,12 +440,75 @@ fn find_items<A: Allocator + Copy>(
     }
     let from = place_of(&queue.adders, value, false);
     let to = place_of(&queue.adders, value, true);
-    for held in between(&queue.adders, from, to) {
+    for held in range(&queue.adders, from, to) {
         if held.place != asked.place && may_be_taken(&queue.rows, spans, held.place, asked.place) {
             found.push(*held)?;
         }
     }
     Ok(())
+}
+
+/// An addition that is taken stands before the taker, and commits.
+fn add_stands<A: Allocator + Copy>(
+    problem: &mut Problem<A>,
+    row: usize,
+    taker: usize,
+    literal: u32,
+    item: u32,
+) -> Result<(), OutOfMemory> {
+    let stands = before(&problem.spans, row, taker);
+    let commits = span_of(&problem.spans, row).commits;
+    ask(&mut problem.variables.choices, stands);
+    let origin = Origin::ItemStands(item);
+    add_clause(&mut problem.clauses, origin, &[neg(literal), stands])?;
+    add_clause(&mut problem.clauses, origin, &[neg(literal), commits])
+}
+
+/// As many are taken before the row at the first place as are added before that at the second, less what is wanted, where the literal
+/// holds.
+fn add_place<A: Allocator + Copy>(
+    queue: &QueueUse<A>,
+    ended: &EndedTotals<A>,
+    concurrent: &Concurrent<A>,
+    problem: &mut Problem<A>,
+    (place, adder): (usize, usize),
+    wanted: i64,
+    literal: u32,
+    item: u32,
+) -> Result<(), OutOfMemory> {
+    let (takes, adds) = (at(&ended.takes, place, 0), at(&ended.adds, adder, 0));
+    let wanted = wanted.wrapping_sub(takes).wrapping_sub(adds);
+    let from = problem.sums.terms.len();
+    add_all_terms(problem, concurrent, &queue.rows, &queue.takes, place)?;
+    let (sums, choices) = (&mut problem.sums, &mut problem.variables.choices);
+    add_terms(
+        sums,
+        choices,
+        &problem.spans,
+        concurrent,
+        &queue.rows,
+        &queue.adds,
+        adder,
+        place,
+    )?;
+    end_sum(sums, from, literal, wanted, Origin::Place(item))
+}
+
+/// As many are taken before the row at the place as are added, less what is wanted, where the literal holds.
+fn add_own_place<A: Allocator + Copy>(
+    queue: &QueueUse<A>,
+    ended: &EndedTotals<A>,
+    concurrent: &Concurrent<A>,
+    problem: &mut Problem<A>,
+    place: usize,
+    wanted: i64,
+    literal: u32,
+    origin: Origin,
+) -> Result<(), OutOfMemory> {
+    let wanted = wanted.wrapping_sub(at(&ended.both, place, 0));
+    let from = problem.sums.terms.len();
+    add_all_terms(problem, concurrent, &queue.rows, &queue.both, place)?;
+    end_sum(&mut problem.sums, from, literal, wanted, origin)
 }
 
 /// An addition that is taken stands before the taker, commits, and as many are taken before as were added before it.
@@ -440,60 +522,20 @@ fn add_item<A: Allocator + Copy>(
     literal: u32,
     item: u32,
 ) -> Result<(), OutOfMemory> {
-    let spans = &problem.spans[..];
-    let (sums, decided) = (&mut problem.sums, &mut problem.variables.decided);
-    let clauses = &mut problem.clauses;
-    let rows = &queue.rows[..];
+    let wanted = i64::from(held.index).wrapping_sub(asked.taken);
     let (place, adder) = (asked.place, held.place);
-    let from = sums.terms.len();
-    let mut wanted = i64::from(held.index).wrapping_sub(asked.taken);
     if adder == place {
-        wanted = wanted.wrapping_sub(at(&ended.both, place, 0));
-        add_terms(
-            sums,
-            decided,
-            spans,
-            concurrent,
-            rows,
-            &queue.both,
-            place,
-            usize::MAX,
-        )?;
-        return end_sum(sums, from, literal, wanted, Origin::Place(item));
+        let origin = Origin::Place(item);
+        return add_own_place(
+            queue, ended, concurrent, problem, place, wanted, literal, origin,
+        );
     }
-    let row = at(rows, adder, 0);
-    let stands = before(spans, row, asked.take.row);
-    ask(decided, stands);
-    let origin = Origin::ItemStands(item);
-    add_clause(clauses, origin, &[neg(literal), stands])?;
-    add_clause(
-        clauses,
-        origin,
-        &[neg(literal), span_of(spans, row).commits],
-    )?;
-    wanted = wanted.wrapping_sub(at(&ended.takes, place, 0));
-    wanted = wanted.wrapping_sub(at(&ended.adds, adder, 0));
-    add_terms(
-        sums,
-        decided,
-        spans,
-        concurrent,
-        rows,
-        &queue.takes,
-        place,
-        usize::MAX,
-    )?;
-    add_terms(
-        sums,
-        decided,
-        spans,
-        concurrent,
-        rows,
-        &queue.adds,
-        adder,
-        place,
-    )?;
-    end_sum(sums, from, literal, wanted, Origin::Place(item))
+    let row = at(&queue.rows, adder, 0);
+    add_stands(problem, row, asked.take.row, literal, item)?;
+    let places = (place, adder);
+    add_place(
+        queue, ended, concurrent, problem, places, wanted, literal, item,
+    )
 }
 
 /// Which of the additions is tried first: the first that took effect before the taker did.
@@ -555,26 +597,33 @@ fn add_empty<A: Allocator + Copy>(
     own: &[PlacedOp],
     asked: Demand,
 ) -> Result<(), OutOfMemory> {
-    let spans = &problem.spans[..];
-    let (sums, decided) = (&mut problem.sums, &mut problem.variables.decided);
-    let from = sums.terms.len();
     let place = asked.place;
     let wanted = asked.added.wrapping_sub(asked.taken);
-    let wanted = wanted.wrapping_sub(at(&ended.both, place, 0));
-    let both = &queue.both[..];
-    add_terms(
-        sums,
-        decided,
-        spans,
-        concurrent,
-        &queue.rows,
-        both,
-        place,
-        usize::MAX,
-    )?;
     let origin = Origin::Empty(short(asked.take.row), asked.take.object, asked.number);
-    end_sum(sums, from, TRUE, wanted, origin)?;
+    add_own_place(
+        queue, ended, concurrent, problem, place, wanted, TRUE, origin,
+    )?;
     add_all_gone(alloc, queue, problem, own, asked, place, TRUE, NONE)
+}
+
+/// What the operation asks, before which its row took and added so many. A take goes by the number of takes before it.
+fn demand_of(rows: &[usize], found: PlacedOp, object: u16, (taken, added): (i64, i64)) -> Demand {
+    let number = if found.op == QueueOp::SeesEmpty {
+        found.number
+    } else {
+        (taken & 0xffff_ffff) as u32
+    };
+    Demand {
+        take: TakeOf {
+            row: at(rows, found.place, 0),
+            object,
+            number,
+        },
+        number: found.number,
+        place: found.place,
+        taken,
+        added,
+    }
 }
 
 /// Adds what the operations of one row ask.
@@ -592,24 +641,7 @@ fn add_row<A: Allocator + Copy>(
         if is_large(problem) {
             break;
         }
-        let row = at(&queue.rows, found.place, 0);
-        let is_empty = found.op == QueueOp::SeesEmpty;
-        let number = if is_empty {
-            found.number
-        } else {
-            (taken & 0xffff_ffff) as u32
-        };
-        let asked = Demand {
-            take: TakeOf {
-                row,
-                object,
-                number,
-            },
-            number: found.number,
-            place: found.place,
-            taken,
-            added,
-        };
+        let asked = demand_of(&queue.rows, *found, object, (taken, added));
         match found.op {
             QueueOp::Adds(_) => added = added.wrapping_add(1),
             QueueOp::Takes(value) => {
@@ -644,8 +676,8 @@ fn read_queue<A: Allocator + Copy>(
     ops: &[PlacedOp],
 ) -> Result<(), OutOfMemory> {
     let count = queue.rows.len();
-    crate::items::fill(&mut queue.takes, count, 0)?;
-    crate::items::fill(&mut queue.adds, count, 0)?;
+    crate::literals::fill(&mut queue.takes, count, 0)?;
+    crate::literals::fill(&mut queue.adds, count, 0)?;
     read_adders(&mut queue.adders, ops)?;
     read_takers(&mut queue.takers, &queue.rows, spans, ops)?;
     let (takes, adds) = (&mut queue.takes, &mut queue.adds);
@@ -696,7 +728,7 @@ pub(crate) fn add_queue<A: Allocator + Copy>(
             None => true,
         };
         if is_last {
-            let own = between(ops, from, next);
+            let own = range(ops, from, next);
             add_row(alloc, &mut queue, &ended, concurrent, problem, own, object)?;
             from = next;
         }

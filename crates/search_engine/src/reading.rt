@@ -1,12 +1,13 @@
 //! Reads what the transactions of a history ask of an order.
 
-use crate::cells::{Touch, add_cell, sort_parts};
-use crate::draft::{Origin, add_pairs};
-use crate::items::{TRUE, at, between, short};
-use crate::problem::{Allowance, Problem, is_large, sort_uses, spend};
+use crate::cell_index::{mark_cells, sort_feeds};
+use crate::cells::{Touch, add_cell, sort_uses};
+use crate::encoding::{Origin, add_pairs};
+use crate::literals::{TRUE, at, range, short};
+use crate::problem::{Allowance, Problem, is_large, sort_occurrences, spend};
 use crate::queues::{PlacedOp, QueueOp, add_queue};
 use crate::spans::{NOBODY, Span, count_pairs, spans_of};
-use crate::sums::{Concurrent, add_terms, end_sum, find_concurrent, sum_ended};
+use crate::sums::{Concurrent, add_all_terms, end_sum, find_concurrent, sum_ended};
 use aud_event::{Answer, ObjDecl, ObjKind, Op, OutOfMemory};
 use aud_history::TxRow;
 use aud_order::Shape;
@@ -20,13 +21,13 @@ use std::alloc::{Allocator, Global};
 #[derive(Drop)]
 pub(crate) enum Encoded<A: Allocator + Copy> {
     Problem(Problem<A>),
-    Block(u32, u16, Cell),
+    Clash(u32, u16, Cell),
     Large,
 }
 
 /// An execution: of which object and key, by which row, and at which place of its block.
 #[derive(Clone, Copy, PartialEq, Eq, PartialOrd, Ord)]
-struct Use {
+struct Execution {
     object: u16,
     key: i64,
     row: usize,
@@ -51,8 +52,8 @@ fn key_of(op: Op) -> i64 {
     }
 }
 
-/// The part of the object that the operations of the key are about.
-pub(crate) fn part_of(kind: ObjKind, key: i64) -> Cell {
+/// The cell of the object that the operations of the key are about.
+pub(crate) fn cell_with(kind: ObjKind, key: i64) -> Cell {
     match kind {
         ObjKind::SetOf => Cell::Element(key),
         ObjKind::MapOf => Cell::Key(key),
@@ -61,13 +62,13 @@ pub(crate) fn part_of(kind: ObjKind, key: i64) -> Cell {
 }
 
 /// All executions, by their cells.
-fn read_uses<A: Allocator + Copy>(
-    uses: &mut Vec<Use, A>,
+fn read_executions<A: Allocator + Copy>(
+    executions: &mut Vec<Execution, A>,
     rows: &[TxRow<A>],
 ) -> Result<(), OutOfMemory> {
     for (row, found) in rows.iter().enumerate() {
         for (number, x) in found.block().executions().iter().enumerate() {
-            uses.push(Use {
+            executions.push(Execution {
                 object: x.object,
                 key: key_of(x.op),
                 row,
@@ -77,7 +78,7 @@ fn read_uses<A: Allocator + Copy>(
             })?;
         }
     }
-    uses.sort_unstable();
+    executions.sort_unstable();
     Ok(())
 }
 
@@ -114,11 +115,11 @@ fn add_left(touch: &mut Touch, content: &mut Option<Option<i64>>, left: Option<O
 /// What each row does with a cell, by its executions there; or the row that contradicts itself.
 fn read_touches<A: Allocator + Copy>(
     touches: &mut Vec<Touch, A>,
-    uses: &[Use],
+    executions: &[Execution],
     kind: ObjKind,
 ) -> Result<Option<usize>, OutOfMemory> {
     let mut content = None;
-    for found in uses {
+    for found in executions {
         let is_same = match touches.last() {
             Some(last) => last.row == found.row,
             None => false,
@@ -131,7 +132,7 @@ fn read_touches<A: Allocator + Copy>(
             })?;
             content = None;
         }
-        let cell = part_of(kind, found.key);
+        let cell = cell_with(kind, found.key);
         let need = asks(cell, found.op, found.answer);
         let last = touches.len().wrapping_sub(1);
         if let Some(touch) = touches.get_mut(last) {
@@ -162,9 +163,9 @@ fn add_count(count: &mut Count, op: Op, answer: Answer) -> bool {
 /// What each row does with a counter; or the row that contradicts itself.
 fn read_counts<A: Allocator + Copy>(
     counts: &mut Vec<Count, A>,
-    uses: &[Use],
+    executions: &[Execution],
 ) -> Result<Option<usize>, OutOfMemory> {
-    for found in uses {
+    for found in executions {
         let is_same = match counts.last() {
             Some(last) => last.row == found.row,
             None => false,
@@ -237,7 +238,7 @@ fn add_all_sums<A: Allocator + Copy>(
     Ok(())
 }
 
-/// Of the rows that touch a counter which they are, what each one adds, and what those add that had ended before it.
+/// The rows that touch a counter, what each one adds, and what those add that had ended before it began.
 #[derive(Drop)]
 struct Tables<A: Allocator + Copy = Global> {
     rows: Vec<usize, A>,
@@ -254,24 +255,11 @@ fn add_sum<A: Allocator + Copy>(
     wanted: i64,
     origin: Origin,
 ) -> Result<(), OutOfMemory> {
-    let (sums, decided) = (&mut problem.sums, &mut problem.variables.decided);
-    let from = sums.terms.len();
-    let (rows, gains, spans) = (&tables.rows[..], &tables.gains[..], &problem.spans[..]);
-    add_terms(
-        sums,
-        decided,
-        spans,
-        concurrent,
-        rows,
-        gains,
-        place,
-        usize::MAX,
-    )?;
-    spend(
-        &mut problem.allowance,
-        sums.terms.len().saturating_sub(from),
-    );
-    end_sum(sums, from, TRUE, wanted, origin)
+    let from = problem.sums.terms.len();
+    add_all_terms(problem, concurrent, &tables.rows, &tables.gains, place)?;
+    let count = problem.sums.terms.len().saturating_sub(from);
+    spend(&mut problem.allowance, count);
+    end_sum(&mut problem.sums, from, TRUE, wanted, origin)
 }
 
 /// Reads the tables of the counts.
@@ -320,12 +308,12 @@ fn queue_op_of(op: Op, answer: Answer) -> QueueOp {
 }
 
 /// The operations of the rows on a queue, and the rows.
-fn read_queue_uses<A: Allocator + Copy>(
+fn read_queue_executions<A: Allocator + Copy>(
     ops: &mut Vec<PlacedOp, A>,
     rows: &mut Vec<usize, A>,
-    uses: &[Use],
+    executions: &[Execution],
 ) -> Result<(), OutOfMemory> {
-    for found in uses {
+    for found in executions {
         let is_same = match rows.last() {
             Some(last) => *last == found.row,
             None => false,
@@ -344,16 +332,16 @@ fn read_queue_uses<A: Allocator + Copy>(
 }
 
 /// Adds what is asked of a queue.
-fn add_queue_uses<A: Allocator + Copy>(
+fn add_queue_executions<A: Allocator + Copy>(
     alloc: A,
     problem: &mut Problem<A>,
     concurrent: &mut Concurrent<A>,
-    uses: &[Use],
+    executions: &[Execution],
     object: u16,
 ) -> Result<(), OutOfMemory> {
     let mut rows = Vec::new(alloc);
     let mut ops = Vec::new(alloc);
-    read_queue_uses(&mut ops, &mut rows, uses)?;
+    read_queue_executions(&mut ops, &mut rows, executions)?;
     add_queue(alloc, problem, concurrent, object, rows, &ops)
 }
 
@@ -389,21 +377,21 @@ fn add_values<A: Allocator + Copy>(
         ObjKind::Register => Some(declared.1),
         _ => None,
     };
-    let named = (named.0, part_of(declared.0, named.1));
+    let named = (named.0, cell_with(declared.0, named.1));
     add_cell(alloc, problem, touches, named, opening)
 }
 
 /// Adds what is asked of a cell; or gives the row that contradicts itself on it.
-fn add_cell_uses<A: Allocator + Copy>(
+fn add_cell_executions<A: Allocator + Copy>(
     alloc: A,
     problem: &mut Problem<A>,
     concurrent: &mut Concurrent<A>,
-    uses: &[Use],
+    executions: &[Execution],
     named: (u16, i64),
     declared: (ObjKind, i64),
 ) -> Result<Option<usize>, OutOfMemory> {
     let mut touches = Vec::new(alloc);
-    let refused = read_touches(&mut touches, uses, declared.0)?;
+    let refused = read_touches(&mut touches, executions, declared.0)?;
     if refused.is_some() {
         return Ok(refused);
     }
@@ -420,14 +408,14 @@ fn add_uses<A: Allocator + Copy>(
     alloc: A,
     problem: &mut Problem<A>,
     concurrent: &mut Concurrent<A>,
-    uses: &[Use],
+    executions: &[Execution],
     named: (u16, i64),
     declared: (ObjKind, i64),
 ) -> Result<Option<usize>, OutOfMemory> {
     match declared.0 {
         ObjKind::Counter => {
             let mut counts = Vec::new(alloc);
-            let refused = read_counts(&mut counts, uses)?;
+            let refused = read_counts(&mut counts, executions)?;
             if refused.is_none() {
                 add_counts(
                     alloc,
@@ -441,10 +429,10 @@ fn add_uses<A: Allocator + Copy>(
             Ok(refused)
         }
         ObjKind::Queue => {
-            add_queue_uses(alloc, problem, concurrent, uses, named.0)?;
+            add_queue_executions(alloc, problem, concurrent, executions, named.0)?;
             Ok(None)
         }
-        _ => add_cell_uses(alloc, problem, concurrent, uses, named, declared),
+        _ => add_cell_executions(alloc, problem, concurrent, executions, named, declared),
     }
 }
 
@@ -461,23 +449,23 @@ fn add_all<A: Allocator + Copy>(
     alloc: A,
     problem: &mut Problem<A>,
     objects: &[ObjDecl<A>],
-    uses: &[Use],
-) -> Result<Option<Use>, OutOfMemory> {
+    executions: &[Execution],
+) -> Result<Option<Execution>, OutOfMemory> {
     let mut concurrent = Concurrent::empty(alloc);
     let mut from = 0;
-    for (place, found) in uses.iter().enumerate() {
+    for (place, found) in executions.iter().enumerate() {
         let next = place.wrapping_add(1);
         let named = (found.object, found.key);
-        if let Some(other) = uses.get(next) {
+        if let Some(other) = executions.get(next) {
             if (other.object, other.key) == named {
                 continue;
             }
         }
-        let own = between(uses, from, next);
+        let own = range(executions, from, next);
         let declared = declared_as(objects, found.object);
         let refused = add_uses(alloc, problem, &mut concurrent, own, named, declared)?;
         if let Some(row) = refused {
-            return Ok(Some(Use { row, ..*found }));
+            return Ok(Some(Execution { row, ..*found }));
         }
         if is_large(problem) {
             return Ok(None);
@@ -492,14 +480,16 @@ fn add_history<A: Allocator + Copy>(
     alloc: A,
     problem: &mut Problem<A>,
     shape: &Shape<A>,
-) -> Result<Option<Use>, OutOfMemory> {
+) -> Result<Option<Execution>, OutOfMemory> {
     let rows = shape.table().rows();
     add_pairs(&mut problem.variables, &mut problem.spans)?;
-    let mut uses = Vec::new(alloc);
-    read_uses(&mut uses, rows)?;
-    let refused = add_all(alloc, problem, shape.plan().objects(), &uses)?;
-    sort_parts(alloc, &mut problem.cells, rows.len())?;
-    sort_uses(&mut problem.sums, problem.variables.roles.len())?;
+    let mut executions = Vec::new(alloc);
+    read_executions(&mut executions, rows)?;
+    let refused = add_all(alloc, problem, shape.plan().objects(), &executions)?;
+    sort_uses(alloc, &mut problem.cells, rows.len())?;
+    sort_feeds(&mut problem.cells)?;
+    mark_cells(&mut problem.cells, rows.len())?;
+    sort_occurrences(&mut problem.sums, problem.variables.roles.len())?;
     Ok(refused)
 }
 
@@ -518,7 +508,7 @@ pub(crate) fn read<A: Allocator + Copy>(
     if let Some(found) = refused {
         let tx = at(&problem.spans, found.row, NOBODY).tx;
         let (kind, _) = declared_as(shape.plan().objects(), found.object);
-        return Ok(Encoded::Block(tx, found.object, part_of(kind, found.key)));
+        return Ok(Encoded::Clash(tx, found.object, cell_with(kind, found.key)));
     }
     if is_large(&problem) {
         return Ok(Encoded::Large);

@@ -1,9 +1,9 @@
-//! Lets go of learned clauses that were of little use.
+//! Drops learned clauses that were of little use.
 
-use crate::draft::{CAUSE, Clauses, LEVELS, LINK, LITERALS};
-use crate::items::{NONE, at, set, short, var};
+use crate::encoding::{Clauses, LEVELS, LINK, LITERALS, ORIGIN};
 use crate::known::{Antecedent, Assigned, Known, UNKNOWN};
-use crate::visits::watch_all;
+use crate::literals::{NONE, at, set, short, var};
+use crate::watches::watch_all;
 use aud_event::OutOfMemory;
 use std::alloc::Allocator;
 
@@ -55,7 +55,7 @@ fn next_clause(arena: &[u32], clause: u32) -> u32 {
 }
 
 /// Notes in each clause which variable it is the antecedent of, or none.
-fn note_grounds(arena: &mut [u32], trail: &[u32], states: &[Assigned]) {
+fn note_antecedents(arena: &mut [u32], trail: &[u32], states: &[Assigned]) {
     let mut clause: u32 = 0;
     for _ in 0..arena.len() {
         if clause as usize >= arena.len() {
@@ -71,7 +71,7 @@ fn note_grounds(arena: &mut [u32], trail: &[u32], states: &[Assigned]) {
     }
 }
 
-/// The clause moves to another place, and the variable that it is the antecedent of is told.
+/// The clause moves to another place, also as the antecedent of its variable.
 fn move_clause(arena: &mut [u32], states: &mut [Assigned], clause: u32, to: u32) {
     let variable = word(arena, clause, LINK) as usize;
     let mut state = at(states, variable, UNKNOWN);
@@ -118,7 +118,7 @@ fn list_learned<A: Allocator + Copy>(
         if clause as usize >= arena.len() {
             break;
         }
-        if word(arena, clause, CAUSE) == NONE {
+        if word(arena, clause, ORIGIN) == NONE {
             learned.push(clause)?;
         }
         clause = next_clause(arena, clause);
@@ -126,15 +126,15 @@ fn list_learned<A: Allocator + Copy>(
     Ok(())
 }
 
-/// Lets go of the worse half of the learned clauses. Those that something follows from stay, and so do the best ones.
+/// Drops the worse half of the learned clauses. Those that something follows from stay, and so do the best ones.
 pub(crate) fn reduce<A: Allocator + Copy>(
     alloc: A,
     clauses: &mut Clauses<A>,
     known: &mut Known<A>,
 ) -> Result<(), OutOfMemory> {
     mark(alloc, clauses)?;
-    let trail = crate::items::between(&known.trail, 0, known.count);
-    note_grounds(&mut clauses.arena, trail, &known.states);
+    let trail = crate::literals::range(&known.trail, 0, known.count);
+    note_antecedents(&mut clauses.arena, trail, &known.states);
     let end = pack(&mut clauses.arena, &mut known.states);
     clauses.arena.truncate(end as usize);
     list_learned(&mut clauses.learned, &clauses.arena)?;

@@ -1,8 +1,8 @@
 //! Refutations from the steps of a search.
 
 use crate::cells::{NO_CELL, NO_READER, NO_SOURCE, NO_WRITER};
-use crate::draft::{Origin, Role};
-use crate::items::{NONE, at, between, fill, set, short, var};
+use crate::encoding::{Origin, Role};
+use crate::literals::{NONE, at, fill, range, set, short, var};
 use crate::log::{Logged, NOT_LOGGED, StepLog, Why};
 use crate::problem::Problem;
 use crate::queues::{NO_ITEM, NO_TAKE, TakeOf};
@@ -83,7 +83,7 @@ fn atom_of<A: Allocator + Copy>(problem: &Problem<A>, variable: usize) -> Atom {
 }
 
 /// The law that what was added before is taken before.
-fn gone_of<A: Allocator + Copy>(problem: &Problem<A>, number: u32) -> Option<ObjectLaw> {
+fn gone_of<A: Allocator + Copy>(problem: &Problem<A>, number: u32) -> Option<QueueLaw> {
     let found = problem.items.gone.get(number as usize)?;
     let front = FrontItem {
         adder: tx_of(problem, found.row),
@@ -92,55 +92,78 @@ fn gone_of<A: Allocator + Copy>(problem: &Problem<A>, number: u32) -> Option<Obj
     if found.item == NONE {
         let taker = tx_of(problem, found.take.row);
         let (object, place) = (found.take.object, found.take.number);
-        return Some(ObjectLaw::Queue(QueueLaw::Left(taker, object, place, front)));
+        return Some(QueueLaw::Left(taker, object, place, front));
     }
     let (take, adder, addition) = item_of(problem, found.item);
-    Some(ObjectLaw::Queue(QueueLaw::Gone(take, adder, addition, front)))
+    Some(QueueLaw::Gone(take, adder, addition, front))
+}
+
+/// The law of a cell that the origin is, if it is one.
+fn cell_law<A: Allocator + Copy>(problem: &Problem<A>, origin: Origin) -> Option<CellLaw> {
+    match origin {
+        Origin::Sources(reader) => Some(CellLaw::Sources(read_of(problem, reader))),
+        Origin::SourceStands(source) => {
+            let (read, writer) = source_of(problem, source);
+            Some(CellLaw::SourceStands(read, writer?))
+        }
+        Origin::Between(source, other) => {
+            let (read, writer) = source_of(problem, source);
+            Some(CellLaw::Between(read, writer, writer_of(problem, other)?))
+        }
+        _ => None,
+    }
+}
+
+/// The law of a sum that the origin is, if it is one.
+fn sum_law<A: Allocator + Copy>(problem: &Problem<A>, origin: Origin) -> Option<SumLaw> {
+    match origin {
+        Origin::Counter(row, object) => {
+            Some(SumLaw::Counter(tx_of(problem, row as usize), object))
+        }
+        Origin::Remainder(row, object, modulus) => {
+            Some(SumLaw::Remainder(tx_of(problem, row as usize), object, modulus))
+        }
+        Origin::Element(row, object, element) => {
+            Some(SumLaw::Element(tx_of(problem, row as usize), object, element))
+        }
+        _ => None,
+    }
+}
+
+/// The law of a queue that the origin is, if it is one.
+fn queue_law<A: Allocator + Copy>(problem: &Problem<A>, origin: Origin) -> Option<QueueLaw> {
+    match origin {
+        Origin::Items(take) => {
+            let found = at(&problem.items.takes, take as usize, NO_TAKE);
+            Some(QueueLaw::Items(take_of(problem, found)))
+        }
+        Origin::ItemStands(item) => {
+            let (take, adder, addition) = item_of(problem, item);
+            Some(QueueLaw::ItemStands(take, adder, addition))
+        }
+        Origin::Place(item) => {
+            let (take, adder, addition) = item_of(problem, item);
+            Some(QueueLaw::Place(take, adder, addition))
+        }
+        Origin::Empty(row, object, place) => {
+            Some(QueueLaw::Empty(tx_of(problem, row as usize), object, place))
+        }
+        Origin::Gone(number) => gone_of(problem, number),
+        _ => None,
+    }
 }
 
 /// The law of the origin, if it is one of objects.
 fn law_of<A: Allocator + Copy>(problem: &Problem<A>, origin: Origin) -> Option<ObjectLaw> {
-    match origin {
-        Origin::Sources(reader) => Some(ObjectLaw::Cell(CellLaw::Sources(read_of(
-            problem, reader,
-        )))),
-        Origin::SourceStands(source) => {
-            let (read, writer) = source_of(problem, source);
-            Some(ObjectLaw::Cell(CellLaw::SourceStands(read, writer?)))
-        }
-        Origin::Between(source, other) => {
-            let (read, writer) = source_of(problem, source);
-            Some(ObjectLaw::Cell(CellLaw::Between(read, writer, writer_of(problem, other)?)))
-        }
-        Origin::Counter(row, object) => Some(ObjectLaw::Sum(SumLaw::Counter(
-            tx_of(problem, row as usize),
-            object,
-        ))),
-        Origin::Remainder(row, object, modulus) => Some(ObjectLaw::Sum(SumLaw::Remainder(
-            tx_of(problem, row as usize),
-            object,
-            modulus,
-        ))),
-        Origin::Element(row, object, element) => {
-            Some(ObjectLaw::Sum(SumLaw::Element(tx_of(problem, row as usize), object, element)))
-        }
-        Origin::Items(take) => {
-            let found = at(&problem.items.takes, take as usize, NO_TAKE);
-            Some(ObjectLaw::Queue(QueueLaw::Items(take_of(problem, found))))
-        }
-        Origin::ItemStands(item) => {
-            let (take, adder, addition) = item_of(problem, item);
-            Some(ObjectLaw::Queue(QueueLaw::ItemStands(take, adder, addition)))
-        }
-        Origin::Place(item) => {
-            let (take, adder, addition) = item_of(problem, item);
-            Some(ObjectLaw::Queue(QueueLaw::Place(take, adder, addition)))
-        }
-        Origin::Empty(row, object, place) => {
-            Some(ObjectLaw::Queue(QueueLaw::Empty(tx_of(problem, row as usize), object, place)))
-        }
-        Origin::Gone(number) => gone_of(problem, number),
-        Origin::Circle(_, _, _, _) | Origin::Tried => None,
+    if let Some(law) = cell_law(problem, origin) {
+        return Some(ObjectLaw::Cell(law));
+    }
+    if let Some(law) = sum_law(problem, origin) {
+        return Some(ObjectLaw::Sum(law));
+    }
+    match queue_law(problem, origin) {
+        Some(law) => Some(ObjectLaw::Queue(law)),
+        None => None,
     }
 }
 
@@ -159,7 +182,7 @@ fn mark_needed(numbers: &mut [u32], steps: &[Logged], hints: &[u32], last: u32) 
         let number = count - 1 - gone;
         if at(numbers, number, NONE) != NONE {
             if let Why::Units(from, to) = at(steps, number, NOT_LOGGED).why {
-                for hint in between(hints, from, to) {
+                for hint in range(hints, from, to) {
                     set(numbers, *hint as usize, 0);
                 }
             }
@@ -256,7 +279,7 @@ fn reason_of<A: Allocator + Copy>(
 ) -> Result<Option<Reason<ObjectLaw, A>>, OutOfMemory> {
     match why {
         Why::Units(from, to) => {
-            let hints = between(&steps.hints, from, to);
+            let hints = range(&steps.hints, from, to);
             Ok(Some(Reason::Units(hints_of(alloc, hints, numbers)?)))
         }
         Why::Origin(Origin::Circle(first, row, other, last)) => {
@@ -310,7 +333,7 @@ fn add_step<A: Allocator + Copy>(
     steps: &StepLog<A>,
     logged: Logged,
 ) -> Result<bool, OutOfMemory> {
-    let literals = between(&steps.literals, logged.from, logged.to);
+    let literals = range(&steps.literals, logged.from, logged.to);
     add_atoms(&mut refutation.atoms, &mut numbers.atoms, problem, literals)?;
     let clause = clause_of(alloc, problem, &numbers.atoms, literals)?;
     let found = reason_of(alloc, problem, steps, &numbers.steps, logged.why)?;

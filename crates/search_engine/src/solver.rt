@@ -1,31 +1,31 @@
 //! The search for values of all variables.
 
 use crate::analysis::{Analysis, count_levels, learn, make_marks, read_conflict};
-use crate::betweens::{check_commits, judge_pair, judge_source};
-use crate::bounds::{clear_waiting, count_terms, judge_waiting, wake_guarded};
+use crate::betweens::{check_commits, propagate_pair, propagate_source};
+use crate::bounds::{clear_waiting, count_terms, propagate_waiting, wake_guarded};
 use crate::closure::{Closure, close, close_spans, reopen};
-use crate::draft::{LITERALS, Role, append};
+use crate::encoding::{LITERALS, Role, append};
 use crate::explanation::{View, pair_of};
 use crate::heap::{Heap, heaviest, insert, make_heap, take_heaviest};
-use crate::items::{NONE, TRUE, at, between, neg, set, short, var};
 use crate::known::{Antecedent, Conflict, Known, assign, make_room, value};
+use crate::literals::{NONE, TRUE, at, neg, range, set, short, var};
 use crate::log::{Log, bytes_logged, log_conflict, log_end, log_learned, make_log};
 use crate::problem::{Problem, bytes_of};
 use crate::queues::NO_ITEM;
 use crate::reduce::reduce;
 use crate::spans::{Span, instant, span_of};
 use crate::sums::Sums;
-use crate::visits::{follow_clauses, watch_all, watch_both};
+use crate::watches::{follow_clauses, watch_all, watch_both};
 use aud_event::OutOfMemory;
 use std::alloc::{Allocator, Global};
 
-/// After how many conflicts learned clauses are let go.
-const REDUCED: u64 = 3000;
+/// After so many conflicts the worse half of the learned clauses goes.
+const REDUCE_EVERY: u64 = 3000;
 
 /// So many levels are too far to go back at once.
 const FAR: u32 = 30;
 
-/// A learned clause that forces its first literal since a lower level than the one at which it was learned.
+/// A learned clause that forces its first literal from a lower level on than the one to which the search went back.
 #[derive(Clone, Copy)]
 struct Late {
     clause: u32,
@@ -50,9 +50,9 @@ pub(crate) struct Solver<A: Allocator + Copy = Global> {
     best_count: usize,
     best_kept: usize,
     pub tries_best: bool,
-    reduced: u64,
-    /// How many decisions were made, and how many before the last conflict.
-    decisions: u64,
+    reduce_at: u64,
+    /// How many values were chosen, and how many before the last conflict.
+    choice_count: u64,
     at_conflict: u64,
     /// How many levels the search goes back, where more would be far.
     stride: u32,
@@ -62,10 +62,10 @@ pub(crate) struct Solver<A: Allocator + Copy = Global> {
 /// What a search came to.
 #[derive(Clone, Copy, PartialEq, Eq)]
 pub(crate) enum Found {
-    /// All that is decided is assigned.
+    /// All values are chosen.
     All,
     /// There is no order.
-    Nothing,
+    NoOrder,
     /// Nothing yet.
     Spent,
     /// Not all that was assumed holds.
@@ -93,8 +93,8 @@ pub(crate) fn solver_of<A: Allocator + Copy>(
         best_count: 0,
         best_kept: 0,
         tries_best: false,
-        reduced: REDUCED,
-        decisions: 0,
+        reduce_at: REDUCE_EVERY,
+        choice_count: 0,
         at_conflict: 0,
         stride: 1,
         late: Vec::new(alloc),
@@ -116,7 +116,7 @@ fn make_room_to_learn<A: Allocator + Copy>(
 fn make_all_room<A: Allocator + Copy>(solver: &mut Solver<A>) -> Result<(), OutOfMemory> {
     let count = solver.problem.variables.roles.len();
     make_room(&mut solver.known, count)?;
-    solver.known.looks = solver.problem.allowance.looks;
+    solver.known.work = solver.problem.allowance.work;
     make_room_to_learn(solver, count)?;
     watch_all(&mut solver.problem.clauses, count.saturating_mul(2))
 }
@@ -144,10 +144,10 @@ fn weigh_pairs(roles: &[Role], spans: &[Span], phases: &mut [bool], weights: &mu
     }
 }
 
-/// What is decided is decided in turn.
-fn insert_all<A: Allocator + Copy>(heap: &mut Heap<A>, decided: &[bool]) {
-    for variable in 1..decided.len() {
-        if decided[variable] {
+/// All whose values may be chosen wait for that.
+fn insert_all<A: Allocator + Copy>(heap: &mut Heap<A>, choices: &[bool]) {
+    for variable in 1..choices.len() {
+        if choices[variable] {
             insert(heap, variable);
         }
     }
@@ -159,32 +159,32 @@ pub(crate) fn prepare<A: Allocator + Copy>(solver: &mut Solver<A>) -> Result<(),
     let variables = &mut solver.problem.variables;
     let (spans, weights) = (&solver.problem.spans[..], &mut solver.heap.weights);
     weigh_pairs(&variables.roles, spans, &mut variables.phases, weights);
-    insert_all(&mut solver.heap, &variables.decided);
+    insert_all(&mut solver.heap, &variables.choices);
     Ok(())
 }
 
-/// Looks at the next literal that holds with all but clauses.
-fn judge_next<A: Allocator + Copy>(
+/// Follows the next literal that holds by all but clauses.
+fn propagate_next<A: Allocator + Copy>(
     problem: &mut Problem<A>,
     known: &mut Known<A>,
     closure: &mut Closure<A>,
 ) -> Option<Conflict> {
-    let literal = at(&known.trail, known.judged, 0);
-    known.judged = known.judged.wrapping_add(1);
+    let literal = at(&known.trail, known.propagated, 0);
+    known.propagated = known.propagated.wrapping_add(1);
     let count = count_terms(&mut problem.sums, literal, true);
-    known.looks = known.looks.wrapping_add(count as u64);
+    known.work = known.work.wrapping_add(count as u64);
     if let Some((row, other)) = pair_of(&problem.variables.roles, literal) {
         let conflict = close(known, closure, &problem.spans, row, other);
         if conflict.is_some() {
             return conflict;
         }
-        return judge_pair(known, &problem.cells, &problem.spans, row, other);
+        return propagate_pair(known, &problem.cells, &problem.spans, row, other);
     }
     if literal & 1 == 1 {
         return None;
     }
     match at(&problem.variables.roles, var(literal), Role::Nothing) {
-        Role::Source(source) => judge_source(known, &problem.cells, &problem.spans, source),
+        Role::Source(source) => propagate_source(known, &problem.cells, &problem.spans, source),
         Role::Commits(row) => check_commits(known, &problem.cells, &problem.spans, row as usize),
         Role::Item(item) => {
             let sum = at(&problem.items.items, item as usize, NO_ITEM).sum;
@@ -206,8 +206,8 @@ fn propagate<A: Allocator + Copy>(
         if conflict.is_some() {
             return conflict;
         }
-        if known.judged < known.count {
-            let conflict = judge_next(problem, known, closure);
+        if known.propagated < known.count {
+            let conflict = propagate_next(problem, known, closure);
             if conflict.is_some() {
                 return conflict;
             }
@@ -216,7 +216,7 @@ fn propagate<A: Allocator + Copy>(
         if problem.sums.waiting.is_empty() {
             return None;
         }
-        let conflict = judge_waiting(known, &mut problem.sums);
+        let conflict = propagate_waiting(known, &mut problem.sums);
         if conflict.is_some() {
             return conflict;
         }
@@ -243,14 +243,14 @@ fn unassign<A: Allocator + Copy>(
         reopen(closure, row, other);
     }
     reopen_literal(&mut known.values, &mut problem.variables.phases, literal);
-    if at(&problem.variables.decided, var(literal), false) {
+    if at(&problem.variables.choices, var(literal), false) {
         insert(heap, var(literal));
     }
 }
 
 /// The literals between those places of the trail hold no longer, as the terms count them.
 fn uncount<A: Allocator + Copy>(sums: &mut Sums<A>, trail: &[u32], from: usize, to: usize) {
-    for literal in between(trail, from, to) {
+    for literal in range(trail, from, to) {
         let _count = count_terms(sums, *literal, false);
     }
 }
@@ -269,7 +269,7 @@ fn unassign_from<A: Allocator + Copy>(
     }
     known.count = from;
     known.seen = from;
-    known.judged = known.judged.min(from);
+    known.propagated = known.propagated.min(from);
 }
 
 /// Goes back to the level.
@@ -279,7 +279,7 @@ pub(crate) fn backjump<A: Allocator + Copy>(solver: &mut Solver<A>, level: u32) 
     }
     let to = at(&solver.known.levels, level as usize, 0);
     let (problem, known) = (&mut solver.problem, &mut solver.known);
-    uncount(&mut problem.sums, &known.trail, to, known.judged);
+    uncount(&mut problem.sums, &known.trail, to, known.propagated);
     unassign_from(problem, known, &mut solver.closure, &mut solver.heap, to);
     known.levels.truncate(level as usize);
     solver.best_kept = solver.best_kept.min(to);
@@ -321,7 +321,7 @@ fn note_best<A: Allocator + Copy>(solver: &mut Solver<A>, count: usize) -> Resul
         let phases = &solver.problem.variables.phases[..];
         solver.best.extend_from_slice(phases)?;
     }
-    for literal in between(&solver.known.trail, solver.best_kept, count) {
+    for literal in range(&solver.known.trail, solver.best_kept, count) {
         set(&mut solver.best, var(*literal), *literal & 1 == 0);
     }
     solver.best_count = count;
@@ -396,7 +396,7 @@ fn note_conflict<A: Allocator + Copy>(
 /// Makes a clause of the conflict, whose highest level is given; and gives the level at which the clause forces a literal.
 fn make_clause<A: Allocator + Copy>(solver: &mut Solver<A>, top: u32) -> Result<u32, OutOfMemory> {
     let view = view_of!(solver);
-    let trail = between(&solver.known.trail, 0, solver.known.count);
+    let trail = range(&solver.known.trail, 0, solver.known.count);
     learn(&mut solver.analysis, &mut solver.heap, &view, trail, top)
 }
 
@@ -410,14 +410,14 @@ fn write_clause<A: Allocator + Copy>(solver: &mut Solver<A>) -> Result<u32, OutO
 }
 
 /// The level to which the search goes back, where the clause forces a literal from that one on. Where that is far, it is one below the
-/// highest, and further with each conflict since the last decision: what was decided between stays.
+/// highest, and further with each conflict since the last choice: what was chosen between stays.
 fn backjump_level<A: Allocator + Copy>(solver: &mut Solver<A>, level: u32, top: u32) -> u32 {
-    if solver.decisions > solver.at_conflict {
+    if solver.choice_count > solver.at_conflict {
         solver.stride = 1;
     } else {
         solver.stride = solver.stride.saturating_mul(2);
     }
-    solver.at_conflict = solver.decisions;
+    solver.at_conflict = solver.choice_count;
     if top.saturating_sub(level) > FAR {
         top.saturating_sub(solver.stride).max(level)
     } else {
@@ -435,12 +435,12 @@ fn learn_clause<A: Allocator + Copy>(solver: &mut Solver<A>, top: u32) -> Result
     add_learned(solver, levels, step, level)
 }
 
-/// Lets go of learned clauses, if it is time.
-fn let_go<A: Allocator + Copy>(solver: &mut Solver<A>) -> Result<(), OutOfMemory> {
-    if solver.conflicts >= solver.reduced {
+/// Drops learned clauses, if it is time.
+fn reduce_if_due<A: Allocator + Copy>(solver: &mut Solver<A>) -> Result<(), OutOfMemory> {
+    if solver.conflicts >= solver.reduce_at {
         reduce(solver.alloc, &mut solver.problem.clauses, &mut solver.known)?;
         solver.late.clear();
-        solver.reduced = solver.conflicts.saturating_add(REDUCED);
+        solver.reduce_at = solver.conflicts.saturating_add(REDUCE_EVERY);
     }
     Ok(())
 }
@@ -459,7 +459,7 @@ fn read_top<A: Allocator + Copy>(
 }
 
 /// Learns from the conflict, and goes back. None where the search goes on.
-fn resolve<A: Allocator + Copy>(
+fn handle_conflict<A: Allocator + Copy>(
     solver: &mut Solver<A>,
     conflict: Conflict,
 ) -> Result<Option<Found>, OutOfMemory> {
@@ -469,7 +469,7 @@ fn resolve<A: Allocator + Copy>(
     note_best(solver, begun)?;
     let top = read_top(solver, conflict)?;
     if top == 0 {
-        return Ok(Some(Found::Nothing));
+        return Ok(Some(Found::NoOrder));
     }
     if top == 1 && !solver.assumed.is_empty() {
         backjump(solver, 0);
@@ -478,7 +478,7 @@ fn resolve<A: Allocator + Copy>(
     backjump(solver, top);
     learn_clause(solver, top)?;
     solver.heap.step /= 0.95;
-    let_go(solver)?;
+    reduce_if_due(solver)?;
     Ok(None)
 }
 
@@ -519,14 +519,14 @@ fn first_literal<A: Allocator + Copy>(solver: &Solver<A>, variable: u32) -> u32 
 }
 
 /// Decides the next variable. False where none is left.
-fn decide<A: Allocator + Copy>(solver: &mut Solver<A>) -> Result<bool, OutOfMemory> {
+fn choose<A: Allocator + Copy>(solver: &mut Solver<A>) -> Result<bool, OutOfMemory> {
     for _ in 0..solver.known.values.len() {
         let Some(variable) = take_heaviest(&mut solver.heap) else {
             return Ok(false);
         };
         if value(&solver.known.values, variable.wrapping_mul(2)) == 0 {
             let literal = first_literal(solver, variable);
-            solver.decisions = solver.decisions.wrapping_add(1);
+            solver.choice_count = solver.choice_count.wrapping_add(1);
             solver.known.levels.push(solver.known.count)?;
             assign(&mut solver.known, literal, Antecedent::Choice);
             return Ok(true);
@@ -576,7 +576,7 @@ pub(crate) fn begin<A: Allocator + Copy>(solver: &mut Solver<A>) -> Result<bool,
 #[derive(Clone, Copy)]
 pub(crate) struct Limits {
     pub conflicts: u64,
-    pub looks: u64,
+    pub work: u64,
     pub bytes: usize,
 }
 
@@ -588,11 +588,11 @@ pub(crate) fn bytes_held<A: Allocator + Copy>(solver: &Solver<A>) -> usize {
 /// Whether the search is past its limits.
 fn is_spent<A: Allocator + Copy>(solver: &Solver<A>, limits: Limits) -> bool {
     solver.conflicts >= limits.conflicts
-        || solver.known.looks >= limits.looks
+        || solver.known.work >= limits.work
         || bytes_held(solver) > limits.bytes
 }
 
-/// The weight of the variable that would be decided next.
+/// The weight of the variable whose value would be chosen next.
 fn next_weight<A: Allocator + Copy>(heap: &mut Heap<A>, values: &[i8]) -> f64 {
     for _ in 0..values.len() {
         let Some(variable) = heaviest(heap) else {
@@ -606,7 +606,7 @@ fn next_weight<A: Allocator + Copy>(heap: &mut Heap<A>, values: &[i8]) -> f64 {
     0.0
 }
 
-/// How many of the first levels would be decided again, as their variables weigh more than the next one.
+/// How many of the first levels would come again, as their variables weigh more than the next one.
 fn levels_kept(levels: &[usize], trail: &[u32], weights: &[f64], next: f64) -> u32 {
     for level in 0..levels.len() {
         let literal = at(trail, levels[level], TRUE);
@@ -617,7 +617,7 @@ fn levels_kept(levels: &[usize], trail: &[u32], weights: &[f64], next: f64) -> u
     short(levels.len())
 }
 
-/// Goes back to where other variables would be decided now.
+/// Goes back to where other variables would be chosen now.
 fn begin_again<A: Allocator + Copy>(solver: &mut Solver<A>) {
     if !solver.assumed.is_empty() {
         backjump(solver, 0);
@@ -637,7 +637,7 @@ pub(crate) fn search<A: Allocator + Copy>(
     for _ in 0..u64::MAX {
         let conflict = propagate(&mut solver.problem, &mut solver.known, &mut solver.closure);
         if let Some(conflict) = conflict {
-            if let Some(found) = resolve(solver, conflict)? {
+            if let Some(found) = handle_conflict(solver, conflict)? {
                 return Ok(found);
             }
             continue;
@@ -656,7 +656,7 @@ pub(crate) fn search<A: Allocator + Copy>(
             }
             continue;
         }
-        if !decide(solver)? {
+        if !choose(solver)? {
             return Ok(Found::All);
         }
     }

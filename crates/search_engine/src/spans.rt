@@ -1,6 +1,6 @@
 //! When transactions ran, and the variables of the pairs that real time leaves open.
 
-use crate::items::{FALSE, NONE, TRUE, at, neg, short};
+use crate::literals::{FALSE, NONE, TRUE, at, neg, short};
 use aud_event::OutOfMemory;
 use aud_history::{Status, TxRow};
 use std::alloc::Allocator;
@@ -56,6 +56,16 @@ pub(crate) fn before(spans: &[Span], row: usize, other: usize) -> u32 {
         neg(before_later(spans, other, row))
     } else {
         FALSE
+    }
+}
+
+/// The literal that the row, whose span is given, stands before the other.
+pub(crate) fn before_by(spans: &[Span], found: Span, row: usize, other: usize) -> u32 {
+    if other > row && other < found.end {
+        let gap = other.wrapping_sub(row).wrapping_sub(1);
+        short(found.base.wrapping_add(gap)).wrapping_mul(2)
+    } else {
+        before(spans, row, other)
     }
 }
 
@@ -123,11 +133,11 @@ pub(crate) fn count_pairs(spans: &[Span]) -> usize {
     }
 }
 
-/// When a transaction takes effect, if that is the same part of twenty of each one's time.
-pub(crate) fn instant(found: Span, part: u64) -> u64 {
+/// When a transaction takes effect, if that is after so many twentieths of each one's time.
+pub(crate) fn instant(found: Span, twentieths: u64) -> u64 {
     let first = u64::from(found.first);
     let time = u64::from(found.until)
         .saturating_sub(first)
-        .wrapping_mul(part);
+        .wrapping_mul(twentieths);
     first.wrapping_mul(20).wrapping_add(time)
 }

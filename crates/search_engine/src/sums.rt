@@ -1,7 +1,8 @@
 //! Sums: of those that stand before one, each changes a count, and what that sees is the sum.
 
-use crate::draft::{Origin, Variables, ask};
-use crate::items::{FALSE, NONE, TRUE, at, fill, set, short, var};
+use crate::encoding::{Origin, Variables, ask};
+use crate::literals::{FALSE, NONE, TRUE, at, fill, set, short, var};
+use crate::problem::Problem;
 use crate::spans::{Span, before, span_of};
 use aud_event::OutOfMemory;
 use std::alloc::{Allocator, Global};
@@ -9,9 +10,9 @@ use std::alloc::{Allocator, Global};
 /// What is added if both literals hold.
 #[derive(Clone, Copy)]
 pub(crate) struct Term {
-    pub sum: u32,
     pub gain: i64,
     pub literals: [u32; 2],
+    pub sum: u32,
     /// How many of the literals are known to hold, and to fail.
     pub holding: u8,
     pub failing: u8,
@@ -25,18 +26,30 @@ pub(crate) struct Sum {
     pub from: usize,
     pub to: usize,
     pub wanted: i64,
-    /// The bounds of the sum by what is known, and the greatest part of it.
-    pub low: i64,
-    pub high: i64,
+}
+
+/// How far the least that the sum can be, by what is known, is below what is wanted, and the greatest above it; below 0 where it cannot be.
+#[derive(Clone, Copy)]
+pub(crate) struct Slack {
+    pub below: i64,
+    pub above: i64,
+    /// The most that one term changes.
     pub most: i64,
-    /// Whether it waits to be looked at.
+    /// Whether the sum waits to be looked at.
     pub waits: bool,
 }
 
+pub(crate) const NO_SLACK: Slack = Slack {
+    below: 0,
+    above: 0,
+    most: 0,
+    waits: false,
+};
+
 pub(crate) const NO_TERM: Term = Term {
-    sum: NONE,
     gain: 0,
     literals: [FALSE, FALSE],
+    sum: NONE,
     holding: 0,
     failing: 0,
 };
@@ -47,20 +60,17 @@ pub(crate) const NO_SUM: Sum = Sum {
     from: 0,
     to: 0,
     wanted: 0,
-    low: 0,
-    high: 0,
-    most: 0,
-    waits: false,
 };
 
 /// The sums with their terms.
 #[derive(Drop)]
 pub(crate) struct Sums<A: Allocator + Copy = Global> {
     pub sums: Vec<Sum, A>,
+    pub slacks: Vec<Slack, A>,
     pub terms: Vec<Term, A>,
     /// The terms of each variable, as twice their number, and one more where it is the opposite; and where those of each begin.
-    pub uses: Vec<u32, A>,
-    pub starts: Vec<usize, A>,
+    pub occurrences: Vec<u32, A>,
+    pub starts: Vec<u32, A>,
     /// The sums that wait.
     pub waiting: Vec<u32, A>,
 }
@@ -70,8 +80,9 @@ impl<A: Allocator + Copy> Sums<A> {
     pub(crate) fn empty(alloc: A) -> Sums<A> {
         Sums {
             sums: Vec::new(alloc),
+            slacks: Vec::new(alloc),
             terms: Vec::new(alloc),
-            uses: Vec::new(alloc),
+            occurrences: Vec::new(alloc),
             starts: Vec::new(alloc),
             waiting: Vec::new(alloc),
         }
@@ -101,7 +112,7 @@ impl<A: Allocator + Copy> Concurrent<A> {
 }
 
 /// Leaves those active that had not ended before the row began, and notes of the others that they had.
-fn let_end(
+fn drop_ended(
     active: &mut [usize],
     ended: &mut [usize],
     rows: &[usize],
@@ -134,7 +145,7 @@ pub(crate) fn find_concurrent<A: Allocator + Copy>(
     concurrent.active.clear();
     fill(&mut concurrent.ended, rows.len(), rows.len())?;
     for place in 0..rows.len() {
-        let kept = let_end(
+        let kept = drop_ended(
             &mut concurrent.active,
             &mut concurrent.ended,
             rows,
@@ -195,7 +206,7 @@ pub(crate) fn sum_ended<A: Allocator + Copy>(
 /// Adds a term to the sum that is being made: the row stands before the other one, and commits.
 pub(crate) fn add_term<A: Allocator + Copy>(
     terms: &mut Vec<Term, A>,
-    decided: &mut [bool],
+    choices: &mut [bool],
     spans: &[Span],
     sum: u32,
     gain: i64,
@@ -207,11 +218,11 @@ pub(crate) fn add_term<A: Allocator + Copy>(
     if gain == 0 || commits == FALSE || stands == FALSE {
         return Ok(());
     }
-    ask(decided, stands);
+    ask(choices, stands);
     terms.push(Term {
-        sum,
         gain,
         literals: [stands, commits],
+        sum,
         holding: u8::from(stands == TRUE).wrapping_add(u8::from(commits == TRUE)),
         failing: 0,
     })?;
@@ -221,7 +232,7 @@ pub(crate) fn add_term<A: Allocator + Copy>(
 /// Adds the terms of those that ran beside the row of that place, but for the one that is skipped.
 pub(crate) fn add_terms<A: Allocator + Copy>(
     sums: &mut Sums<A>,
-    decided: &mut [bool],
+    choices: &mut [bool],
     spans: &[Span],
     concurrent: &Concurrent<A>,
     rows: &[usize],
@@ -234,16 +245,38 @@ pub(crate) fn add_terms<A: Allocator + Copy>(
     for other in others_of(&concurrent.starts, &concurrent.others, place) {
         if *other != skipped {
             let (gain, from) = (at(gains, *other, 0), at(rows, *other, 0));
-            add_term(&mut sums.terms, decided, spans, number, gain, from, row)?;
+            add_term(&mut sums.terms, choices, spans, number, gain, from, row)?;
         }
     }
     Ok(())
 }
 
+/// Adds the terms of all that ran beside the row of that place.
+pub(crate) fn add_all_terms<A: Allocator + Copy>(
+    problem: &mut Problem<A>,
+    concurrent: &Concurrent<A>,
+    rows: &[usize],
+    gains: &[i64],
+    place: usize,
+) -> Result<(), OutOfMemory> {
+    let (sums, choices) = (&mut problem.sums, &mut problem.variables.choices);
+    let spans = &problem.spans[..];
+    add_terms(
+        sums,
+        choices,
+        spans,
+        concurrent,
+        rows,
+        gains,
+        place,
+        usize::MAX,
+    )
+}
+
 /// Those that ran beside the row of that place.
 pub(crate) fn others_of<'a>(starts: &[usize], others: &'a [usize], place: usize) -> &'a [usize] {
     let from = at(starts, place, 0);
-    crate::items::between(others, from, at(starts, place.wrapping_add(1), 0))
+    crate::literals::range(others, from, at(starts, place.wrapping_add(1), 0))
 }
 
 /// The greatest sum of amounts that is counted here. The trial of an order still asks for the others.
@@ -289,7 +322,22 @@ fn remainder_or_sum(terms: &[Term], origin: Origin, wanted: i64, high: i64) -> (
     }
 }
 
-/// Ends the sum of the terms from the place on. Where it cannot be reached, the bounds say so.
+/// Room for what is known of the sum, where its least and greatest are these and no term changes more.
+fn add_slack<A: Allocator + Copy>(
+    slacks: &mut Vec<Slack, A>,
+    (low, high, most): (i64, i64, i64),
+    wanted: i64,
+) -> Result<(), OutOfMemory> {
+    slacks.push(Slack {
+        below: wanted.saturating_sub(low),
+        above: high.saturating_sub(wanted),
+        most,
+        waits: true,
+    })?;
+    Ok(())
+}
+
+/// Ends the sum of the terms from the place on. Where it cannot be reached, the slack says so.
 pub(crate) fn end_sum<A: Allocator + Copy>(
     sums: &mut Sums<A>,
     from: usize,
@@ -298,7 +346,7 @@ pub(crate) fn end_sum<A: Allocator + Copy>(
     origin: Origin,
 ) -> Result<(), OutOfMemory> {
     let (mut low, mut high, mut most): (i64, i64, i64) = (0, 0, 1);
-    for term in crate::items::between(&sums.terms, from, sums.terms.len()) {
+    for term in crate::literals::range(&sums.terms, from, sums.terms.len()) {
         most = most.max(term.gain.saturating_abs());
         if term.gain > 0 {
             high = high.saturating_add(term.gain);
@@ -310,9 +358,11 @@ pub(crate) fn end_sum<A: Allocator + Copy>(
         sums.terms.truncate(from);
         return Ok(());
     }
-    let terms = crate::items::between(&sums.terms, from, sums.terms.len());
+    let terms = crate::literals::range(&sums.terms, from, sums.terms.len());
     let (origin, wanted) = remainder_or_sum(terms, origin, wanted, high);
+    let wanted = wanted.max(-4 * GREATEST).min(4 * GREATEST);
     sums.waiting.push(short(sums.sums.len()))?;
+    add_slack(&mut sums.slacks, (low, high, most), wanted)?;
     let to = sums.terms.len();
     sums.sums.push(Sum {
         origin,
@@ -320,10 +370,6 @@ pub(crate) fn end_sum<A: Allocator + Copy>(
         from,
         to,
         wanted,
-        low,
-        high,
-        most,
-        waits: true,
     })?;
     Ok(())
 }

@@ -1,8 +1,8 @@
 //! Clauses that a literal fails in: two literals of each clause are watched that do not fail, as long as there are two.
 
-use crate::draft::{Clauses, LENGTH, LINK, LITERALS};
-use crate::items::{NONE, at, fill, neg, set};
+use crate::encoding::{Clauses, LENGTH, LINK, LITERALS};
 use crate::known::{Antecedent, Conflict, Known, assign, value};
+use crate::literals::{NONE, at, fill, neg, set};
 use aud_event::OutOfMemory;
 use std::alloc::Allocator;
 
@@ -38,7 +38,7 @@ pub(crate) fn watch_all<A: Allocator + Copy>(
             break;
         }
         let length = at(&clauses.arena, place.wrapping_add(LENGTH), 0) as usize;
-        let clause = crate::items::short(place);
+        let clause = crate::literals::short(place);
         watch_both(&mut clauses.arena, &mut clauses.heads, clause);
         place = place.wrapping_add(LITERALS).wrapping_add(length);
     }
@@ -117,7 +117,7 @@ fn visit_all<A: Allocator + Copy>(
         }
         let clause = next;
         next = next_of(&clauses.arena, clause, failing);
-        known.looks = known.looks.wrapping_add(1);
+        known.work = known.work.wrapping_add(1);
         if conflict.is_some() {
             keep(&mut clauses.arena, &mut clauses.heads, clause, failing);
             continue;

@@ -1,4 +1,4 @@
-//! Items of lists by their places, where a place may be none, and literals as numbers.
+//! Literals as numbers, and items of lists by their places, where a place may be none.
 
 use aud_event::OutOfMemory;
 use std::alloc::Allocator;
@@ -37,7 +37,7 @@ pub(crate) fn set<T: Copy>(items: &mut [T], place: usize, item: T) {
 }
 
 /// The items from one place up to another, or none.
-pub(crate) fn between<T>(items: &[T], from: usize, to: usize) -> &[T] {
+pub(crate) fn range<T>(items: &[T], from: usize, to: usize) -> &[T] {
     match items.get(from..to) {
         Some(found) => found,
         None => &[],

@@ -1,6 +1,6 @@
 //! What is asked of an order, as variables and clauses.
 
-use crate::items::{FALSE, NONE, TRUE, set, short, var};
+use crate::literals::{FALSE, NONE, TRUE, set, short, var};
 use crate::spans::Span;
 use aud_event::OutOfMemory;
 use std::alloc::{Allocator, Global};
@@ -46,8 +46,8 @@ pub(crate) struct Variables<A: Allocator + Copy = Global> {
     pub roles: Vec<Role, A>,
     /// Whether it is tried first that it holds.
     pub phases: Vec<bool, A>,
-    /// Whether it is decided, as something is asked of it.
-    pub decided: Vec<bool, A>,
+    /// Whether its value may be chosen, as something is asked of it.
+    pub choices: Vec<bool, A>,
 }
 
 impl<A: Allocator + Copy> Variables<A> {
@@ -56,7 +56,7 @@ impl<A: Allocator + Copy> Variables<A> {
         Variables {
             roles: Vec::new(alloc),
             phases: Vec::new(alloc),
-            decided: Vec::new(alloc),
+            choices: Vec::new(alloc),
         }
     }
 }
@@ -66,19 +66,19 @@ pub(crate) fn add_variable<A: Allocator + Copy>(
     variables: &mut Variables<A>,
     role: Role,
     phase: bool,
-    decided: bool,
+    choices: bool,
 ) -> Result<u32, OutOfMemory> {
     let number = short(variables.roles.len());
     variables.roles.push(role)?;
     variables.phases.push(phase)?;
-    variables.decided.push(decided)?;
+    variables.choices.push(choices)?;
     Ok(number.wrapping_mul(2))
 }
 
-/// The variable of the literal is decided.
-pub(crate) fn ask(decided: &mut [bool], literal: u32) {
+/// The value of the literal's variable may be chosen.
+pub(crate) fn ask(choices: &mut [bool], literal: u32) {
     if var(literal) != 0 {
-        set(decided, var(literal), true);
+        set(choices, var(literal), true);
     }
 }
 
@@ -102,15 +102,16 @@ pub(crate) fn add_pairs<A: Allocator + Copy>(
     Ok(())
 }
 
-/// Where in a clause its length stands, how many levels its literals had, the next clauses that watch its first and second
-/// literal, the number of its origin, the step that gives it, and its first literal.
+/// Where in a clause its length stands, of how many levels its literals were when it was learned (its LBD: Audemard and Simon, Predicting
+/// learnt clauses quality in modern SAT solvers, 2009), the next clauses that watch its first and second literal, the number of its
+/// origin, the step that gives it, and its first literal.
 pub(crate) const LENGTH: usize = 0;
 
 pub(crate) const LEVELS: usize = 1;
 
 pub(crate) const LINK: usize = 2;
 
-pub(crate) const CAUSE: usize = 4;
+pub(crate) const ORIGIN: usize = 4;
 
 pub(crate) const STEP: usize = 5;
 
