@@ -1,11 +1,12 @@
 """What the scripts of tests share: how they are called and count (`script`, `Harness`), rows that the program answers (`Rows`), lines as opaq spells
-them (`compact`), and the one copy of the repository (`repository`).
+them (`compact`), the one copy of the repository (`repository`), and a crate of tests that is run there unproved (`ran`).
 
 A script of tests is called `SCRIPT BINARY`, where BINARY is the built program, or `SCRIPT --help`. Its last line is 'N passed, M failed', and its
 status 0 where none failed, 1 where one did, and 64 where the words are not understood. A script of rows is called `SCRIPT --text FILE` too: it then
 adds to FILE the rows that the program of tests/data/rows.rt.txt can be given, written as tests/data/stored.txt is. `tests/quick` does that before any
 proof, and with no audit. Rows that need an earlier answer are asked of the built program alone."""
 import functools
+import glob
 import json
 import os
 import re
@@ -79,6 +80,26 @@ def counted(said):
     """How many tests passed and failed, by what `rt try --test` said of them; one failed where it says nothing."""
     found = re.findall(r"^test result: .*?(\d+) passed; (\d+) failed", said, re.M)
     return tuple(map(int, found[-1])) if found else (0, 1)
+
+
+def said_by_tests(folder, *words):
+    """What the tests of the crate in that folder say, which is shown where they did not come to their end. Nothing is proved."""
+    said = subprocess.run(["rt", "try", "--test", *words], cwd=folder, capture_output=True, text=True, timeout=1500)
+    if not re.search("^test result: ", said.stdout, re.M):
+        print(said.stdout[-2000:], said.stderr[-2000:])
+    return said.stdout
+
+
+def ran(folder):
+    """Runs the tests of the crate in that folder, unproved: how many passed, and how many failed, which are named, or were not run."""
+    said = said_by_tests(folder)
+    for failed in re.findall(r"^test \S+ \.\.\. FAILED\n.*$", said, re.M):
+        print(failed)
+    passed, failed = counted(said)
+    missing = sum(read(path).count("#[test]\n") for path in glob.glob(f"{folder}/src/*.rt")) - passed - failed
+    if missing > 0:
+        print(f"{missing} more tests did not run")
+    return passed, failed + max(missing, 0)
 
 
 class Harness:
@@ -197,8 +218,8 @@ def texts_in(path):
 @functools.cache
 def worked():
     """The texts of the worked histories, by name."""
-    files = ("test_worked/src/histories.rt", "test_worked/src/inputs.rt", "test_top/src/fixtures.rt")
-    return {name: text for file in files for name, text in texts_in(f"crates/{file}").items()}
+    files = ("crates/test_worked/src/histories.rt", "crates/test_worked/src/inputs.rt", "tests/meeting/fixtures.rt.txt")
+    return {name: text for file in files for name, text in texts_in(file).items()}
 
 
 def asked(about, least, most, option=None):

@@ -1,4 +1,4 @@
-//! A verdict that is reported to a sink that fails, and bytes in memory. How runs end on devices that fail `test_top` asks.
+//! A verdict that is reported to a sink that fails, and bytes in memory. How runs end on devices that fail `tests/refused` asks.
 
 use aud_know::Verdict;
 use aud_report::{MemorySink, MemorySource, ReportFault, read_all, write_all, write_report};
