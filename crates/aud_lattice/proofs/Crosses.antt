@@ -1,5 +1,4 @@
--- Which trees and sets may cross threads: those whose items and allocator may, and may be shared. A tree reaches itself
--- through `Arc`, which asks both of what it shares.
+-- Which sets may cross threads: those whose items and allocator may, and may be shared, as the trees may that they stand on.
 use denote.RattleType.{RattleType}
 use denote.Param.Send.{IsSend, IsSync, Frees, sendable}
 use Rattle.std.specs.declared.alloc.Allocator as alloc
@@ -9,26 +8,18 @@ use Rattle.std.specs.declared.cmp.PartialEq as eq
 use Rattle.std.specs.declared.cmp.PartialOrd as partial
 use Rattle.std.proofs.option.Option.TheSendSync as option
 use Rattle.std.proofs.sync.Arc.TheSendSync as arc
-use Rattle.aud_lattice.specs.contracts.tree.Tree as Tree
+use Rattle.base_trees.proofs.Crosses.{tree_send, tree_sync}
 use Rattle.aud_lattice.specs.contracts.union_set.UnionSet as UnionSet
-use Rattle.aud_lattice.proofs.tree.Tree.TheLaws.TheKnot as knot
 
-module _ (T A : RattleType) (g : alloc.Ghosts A.Denot) where
-  tree_send : IsSend T → IsSync T → IsSend A → IsSync A → Frees g g.dealloc_token → IsSend (Tree.the_row T A g)
-  tree_send s y sa ya f = search (arc.the_send, arc.the_sync, option.the_field_send, option.the_send, option.the_sync, knot.crosses, sendable) depth 60
+module _ (T A : RattleType) (g : alloc.Ghosts A.Denot) (o : ord.Ghosts T.Denot) (e : eq.Ghosts T.Denot) (p : partial.Ghosts T.Denot) (c : clone.Ghosts A.Denot) where
+  pub union_set_send : IsSend T → IsSync T → IsSend A → IsSync A → Frees g g.dealloc_token → IsSend (UnionSet.the_row T A o e p g c)
+  union_set_send s y sa ya f =
+      let a = tree_send T A g s y sa ya f in
+      let b = tree_sync T A g s y sa ya f in
+      search (arc.the_send, option.the_field_send, sendable) depth 60
 
-  tree_sync : IsSend T → IsSync T → IsSend A → IsSync A → Frees g g.dealloc_token → IsSync (Tree.the_row T A g)
-  tree_sync s y sa ya f = search (arc.the_send, arc.the_sync, option.the_send, option.the_field_sync, option.the_sync, knot.crosses, sendable) depth 60
-
-  module _ (o : ord.Ghosts T.Denot) (e : eq.Ghosts T.Denot) (p : partial.Ghosts T.Denot) (c : clone.Ghosts A.Denot) where
-    pub union_set_send : IsSend T → IsSync T → IsSend A → IsSync A → Frees g g.dealloc_token → IsSend (UnionSet.the_row T A o e p g c)
-    union_set_send s y sa ya f =
-        let a = tree_send s y sa ya f in
-        let b = tree_sync s y sa ya f in
-        search (arc.the_send, option.the_field_send, sendable) depth 60
-
-    pub union_set_sync : IsSend T → IsSync T → IsSend A → IsSync A → Frees g g.dealloc_token → IsSync (UnionSet.the_row T A o e p g c)
-    union_set_sync s y sa ya f =
-        let a = tree_send s y sa ya f in
-        let b = tree_sync s y sa ya f in
-        search (arc.the_sync, option.the_field_sync, sendable) depth 60
+  pub union_set_sync : IsSend T → IsSync T → IsSend A → IsSync A → Frees g g.dealloc_token → IsSync (UnionSet.the_row T A o e p g c)
+  union_set_sync s y sa ya f =
+      let a = tree_send T A g s y sa ya f in
+      let b = tree_sync T A g s y sa ya f in
+      search (arc.the_sync, option.the_field_sync, sendable) depth 60

@@ -1,17 +1,7 @@
-pub mod Leftovers
 pub mod Leads
 pub mod Grouped
-pub mod Grown
-pub mod Cuts
-pub mod Remains
-pub mod Turns
 pub mod CoverCrosses
 pub mod Crosses
-pub mod Strict
-pub mod Splits
-pub mod Pours
-pub mod Parts
-pub mod Members
 pub mod Minimal
 pub mod Marked
 pub mod Tries

@@ -20,7 +20,7 @@ use Rattle.aud_lattice.specs.declared.trie.Trie.{Trie, out-Trie, size-Trie, size
 use Rattle.aud_lattice.specs.declared.trie.Trie.TheBlock.{weighs-Trie, the_members, the_sigs, the_carrier, the_depth}
 use denote.Hole.Carrier.{Values}
 use Rattle.aud_lattice.specs.declared.trie.Trie.TheVariants.{Fork as made, outs-Fork, Member as made_member, outs-Member}
-use Rattle.aud_lattice.specs.Sets.{either}
+use Rattle.aud_lattice.specs.Eithers.{either}
 use Rattle.aud_lattice.specs.declared.trie.Trie.TheOpen.{Trie-F, Member, Fork}
 use Rattle.aud_lattice.specs.Walks.{nodes_of, node_of, ends, under, IsLayer, is_member, child, walk_on, walk, nothing, go_on, node_at, starts, IsLive, IsTrie, IsMet, IsWithin}
 use Rattle.base_values.proofs.Bools.{or_nothing, is_false, or_always}

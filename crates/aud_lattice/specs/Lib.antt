@@ -1,7 +1,5 @@
 pub mod Laws
-pub mod Sets
-pub mod Trees
-pub mod Cuts
+pub mod Eithers
 pub mod Pairs
 pub mod Least
 pub mod Covers
@@ -9,7 +7,6 @@ pub mod Marks
 pub mod Norms
 pub mod Walks
 pub mod Paths
-pub mod Sorted
 pub mod Covering
 pub mod Leasts
 pub mod Nodes

@@ -8,7 +8,7 @@ use Rattle.std.specs.Map.{lookup}
 use Rattle.std.specs.BTreeMap.{is_at, IsOrdered}
 use Rattle.std.specs.declared.collections.BTreeMap.{BTreeMap}
 use Rattle.aud_lattice.specs.Covers.{begins}
-use Rattle.aud_lattice.specs.Sets.{either}
+use Rattle.aud_lattice.specs.Eithers.{either}
 use Rattle.aud_lattice.specs.declared.mark.Mark.{Mark}
 use Rattle.aud_lattice.specs.declared.mark.Mark.TheVariants.{Covered, Inner, Outside}
 use Rattle.aud_lattice.specs.declared.trie.Trie.{Trie, out-Trie}

@@ -6,7 +6,7 @@ ghost use Rattle.std.specs.List.Sorted.{IsStrictlySortedBy};
 ghost use Rattle.aud_lattice.specs.Covers.{covers, with_list, cover_union, normal_form, IsCover, IsWithout, HasBeginning, BeginsOne, IsKept};
 ghost use Rattle.aud_lattice.specs.Marks.{mark_of};
 ghost use Rattle.aud_lattice.specs.Covering.{covers-cover_union};
-ghost use Rattle.aud_lattice.specs.Sets.{either, either_laws};
+ghost use Rattle.aud_lattice.specs.Eithers.{either, either_laws};
 ghost use Rattle.aud_lattice.specs.Paths.{paths};
 ghost use Rattle.aud_lattice.specs.Walks.{IsTrie};
 

@@ -3,7 +3,7 @@
 ghost use Rattle.std.specs.Prelude.{◌≡◌, IsTrue, ◌↔◌, Bool, Option, Some, None, if◌then◌else◌};
 ghost use Rattle.std.specs.Option.{option_copied};
 ghost use Rattle.aud_lattice.specs.Leasts.{reaches-least_of};
-ghost use Rattle.aud_lattice.specs.Sets.{either, either_laws};
+ghost use Rattle.aud_lattice.specs.Eithers.{either, either_laws};
 ghost use Rattle.aud_lattice.specs.Least.{least_of, reaches};
 
 use crate::Lattice;

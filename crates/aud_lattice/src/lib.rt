@@ -19,27 +19,20 @@
 ghost use Rattle.std.specs.Prelude.{◌≡◌, OnOk, OnErr, IsTrue, ◌↔◌};
 ghost use Rattle.aud_lattice.specs.Laws.{SemilatticeLaws};
 
-mod bulk;
-mod copies;
 mod cover;
 mod groupings;
-mod iter;
 pub mod laws;
 mod least;
-mod link;
 mod mark;
-mod merge;
 mod pair;
-mod ranked;
 mod row;
-mod tree;
 mod trie;
 mod union_set;
 
+pub use base_trees::Iter;
 use base_values::OutOfMemory;
 pub use cover::Cover;
 pub use groupings::{joined, joined_both_ways};
-pub use iter::Iter;
 pub use least::Least;
 pub use mark::Mark;
 pub use pair::Pair;

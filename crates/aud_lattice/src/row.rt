@@ -6,7 +6,7 @@ ghost use Rattle.std.specs.Cmp.{po, eq_by_cmp_equiv, partial_equiv_from_equiv};
 ghost use Rattle.std.specs.Ordering.{eq_by_cmp, as_partial_cmp};
 ghost use Rattle.std.specs.FinSet.{slice_cmp-IsAntisymmetric};
 
-use crate::copies::copied;
+use base_trees::copied;
 use base_values::{Dup, Key, OutOfMemory};
 use std::alloc::{Allocator, Global};
 use std::cmp::Ordering;

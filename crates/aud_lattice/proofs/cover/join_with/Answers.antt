@@ -1,5 +1,5 @@
 use Rattle.std.proofs.Common.{◌≡◌, ◌∙◌, subst}
-use Rattle.aud_lattice.specs.Sets.{either}
+use Rattle.aud_lattice.specs.Eithers.{either}
 use Rattle.aud_lattice.specs.Walks.{walk, now_of, IsTrie}
 use Rattle.aud_lattice.proofs.Tries.{either_swap}
 use Rattle.aud_lattice.proofs.Pathed.{join_paths, cover-paths}

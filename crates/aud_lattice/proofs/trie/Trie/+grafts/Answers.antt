@@ -7,7 +7,7 @@ use Rattle.std.specs.BTreeMap.{IsOrdered}
 use Rattle.aud_lattice.specs.declared.trie.Trie.TheVariants.{Fork, outs-Fork}
 use Rattle.aud_lattice.specs.declared.trie.Trie.{Trie, out-Trie}
 use Rattle.aud_lattice.specs.Walks.{IsLayer, walk, child, starts, nodes_of, node_of, now_of, IsTrie, IsLive, IsMet}
-use Rattle.aud_lattice.specs.Sets.{either}
+use Rattle.aud_lattice.specs.Eithers.{either}
 use Rattle.aud_lattice.proofs.Tries.{member_joins, member_keeps, found_kids, child_size, any_starts, any_starts-walk, alone_starts, good_here, shift, good_child, live_child, fork_good_at, fork_ordered, found_node, gone_node, met_there, met_good, met_walk, met_gone, met_found}
 use Rattle.aud_lattice.proofs.trie.Trie.+grafts.Goals as goal
 

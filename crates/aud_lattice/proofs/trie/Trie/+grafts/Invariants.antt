@@ -1,6 +1,6 @@
 use Rattle.std.proofs.Common.{◌≡◌, ◌+◌, ◌*◌, Some}
 use Rattle.std.specs.List.{AllByRecursion}
-use Rattle.aud_lattice.specs.Sets.{either}
+use Rattle.aud_lattice.specs.Eithers.{either}
 use Rattle.aud_lattice.specs.Walks.{walk, child, nodes_of, now_of, IsTrie}
 use Rattle.aud_lattice.specs.declared.trie.Trie.TheVariants.{Fork}
 use Rattle.aud_lattice.specs.declared.trie.Trie.{size-Trie}

@@ -8,7 +8,7 @@ use Rattle.std.specs.Arc.{arc_value}
 use Rattle.aud_lattice.specs.declared.trie.Trie.TheVariants.{Fork, outs-Fork, outs-Member}
 use Rattle.aud_lattice.specs.declared.trie.Trie.{Trie, out-Trie}
 use Rattle.aud_lattice.specs.Walks.{leads, nothing, but, after, child, starts, nodes_of, node_of, IsTrie, IsLive, IsRemainder}
-use Rattle.aud_lattice.specs.Sets.{either}
+use Rattle.aud_lattice.specs.Eithers.{either}
 use Rattle.aud_lattice.proofs.Tries.{any_by, pointwise, found_kids, child_size, good_child, live_child, fork_good_at, fork_ordered, fork_set_good, found_node, gone_node, sorted_nodes, empty_good, empty_walk}
 use Rattle.base_values.proofs.Results.{on_ok, if_both}
 use Rattle.aud_lattice.proofs.Leads.{any_leads, nothing_leads, same_leads, set_leads, gone_left, known_left, member_from_member, member_from_fork, fork_from_member, still_absent, absent_at_first, starts_but, starts_nothing, either_nothing, passed_on, rising}

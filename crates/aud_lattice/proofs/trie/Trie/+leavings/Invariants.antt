@@ -3,7 +3,7 @@ use Rattle.std.specs.List.{AllByRecursion}
 use Rattle.std.specs.List.Sorted.{IsStrictlySortedBy}
 use Rattle.std.specs.Map.{keys_of}
 use Rattle.std.specs.Arc.{arc_value}
-use Rattle.aud_lattice.specs.Sets.{either}
+use Rattle.aud_lattice.specs.Eithers.{either}
 use Rattle.aud_lattice.specs.Walks.{leads, but, child, nodes_of, node_of, IsTrie}
 use Rattle.aud_lattice.specs.declared.trie.Trie.TheVariants.{Fork}
 use Rattle.aud_lattice.specs.declared.trie.Trie.{size-Trie}

@@ -3,7 +3,7 @@ use Rattle.std.specs.Option.{option_copied}
 use Rattle.std.specs.Arc.{arc_value}
 use Rattle.aud_lattice.specs.declared.trie.Trie.TheVariants.{Fork}
 use Rattle.aud_lattice.specs.Walks.{walk, IsTrie}
-use Rattle.aud_lattice.specs.Sets.{either}
+use Rattle.aud_lattice.specs.Eithers.{either}
 use Rattle.aud_lattice.specs.Covers.{begins}
 use Rattle.aud_lattice.proofs.Tries.{member_is_good, member_keeps, nil_covers, fork_good_at, fork_ordered, found_node, gone_node, wrote, added, alike_good, alike_walk, begins_live, begins-starts}
 use Rattle.base_values.proofs.Results.{both_ways_out, on_ok, on_err}

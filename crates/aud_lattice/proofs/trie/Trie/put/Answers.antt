@@ -1,6 +1,6 @@
 use Rattle.std.proofs.Common.{ap, ◌∙◌, sym, subst}
 use Rattle.aud_lattice.specs.Covers.{begins}
-use Rattle.aud_lattice.specs.Sets.{either}
+use Rattle.aud_lattice.specs.Eithers.{either}
 use Rattle.aud_lattice.specs.Walks.{walk, IsTrie}
 use Rattle.aud_lattice.proofs.Tries.{member_is_good, member_keeps, nil_covers}
 use Rattle.base_values.proofs.Results.{on_ok, on_err}

@@ -1,9 +1,9 @@
 use Rattle.std.proofs.Common.{sym, subst}
 use Rattle.std.proofs.lemmas.Option.{MatchOption-at_some, MatchOption-at_none}
 use Rattle.std.specs.List.Sorted.{IsStrictlySortedBy}
-use Rattle.aud_lattice.specs.Sorted.{sorted_with_item}
-use Rattle.aud_lattice.proofs.Members.{contains_grown}
-use Rattle.aud_lattice.proofs.Splits.{with_there}
+use Rattle.base_trees.specs.Sorted.{sorted_with_item}
+use Rattle.base_trees.proofs.Members.{contains_grown}
+use Rattle.base_trees.proofs.Splits.{with_there}
 use Rattle.aud_lattice.proofs.union_set.UnionSet.insert.Goals as goal
 
 -- an item that is there changes nothing

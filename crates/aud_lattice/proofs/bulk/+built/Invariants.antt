@@ -1,4 +1,0 @@
-use Rattle.aud_lattice.proofs.bulk.+built.Given as goal
-
-abbrev pub decreases-built : goal.decreases-built
-decreases-built g l = l.size

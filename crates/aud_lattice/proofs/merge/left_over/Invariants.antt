@@ -1,7 +1,0 @@
-use Rattle.std.proofs.Common.{◌≡◌, ◌++◌}
-use Rattle.aud_lattice.specs.Sets.{without}
-use Rattle.aud_lattice.specs.Trees.{items_of}
-use Rattle.aud_lattice.proofs.merge.left_over.Given as goal
-
-abbrev pub invariant-loop-item : goal.invariant-loop-item
-invariant-loop-item g l = l.all.items ++ without g.T.Ord.cmp l.item-iterator (items_of l.ys) ≡ without g.T.Ord.cmp (items_of l.xs) (items_of l.ys)

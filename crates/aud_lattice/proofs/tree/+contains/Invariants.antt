@@ -1,6 +1,0 @@
-use Rattle.std.proofs.Common.{length}
-use Rattle.aud_lattice.specs.Trees.{items_of}
-use Rattle.aud_lattice.proofs.tree.+contains.Given as goal
-
-abbrev pub decreases-contains : goal.decreases-contains
-decreases-contains g l = length (items_of l.tree.now)

@@ -1,0 +1,11 @@
+pub mod Leftovers
+pub mod Grown
+pub mod Cuts
+pub mod Remains
+pub mod Turns
+pub mod Crosses
+pub mod Strict
+pub mod Splits
+pub mod Pours
+pub mod Parts
+pub mod Members

@@ -1,0 +1,4 @@
+pub mod Sets
+pub mod Trees
+pub mod Cuts
+pub mod Sorted
