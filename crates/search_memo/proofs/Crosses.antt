@@ -13,6 +13,10 @@ use Rattle.std.specs.contracts.option.Option as Option
 use Rattle.boxcar.proofs.slot.OnceSlot.TheSendSync as slot
 use Rattle.aud_order.proofs.Crosses.{shape_sync}
 use Rattle.aud_object.proofs.store.Store.TheSendSync as store
+use Rattle.search_visited.specs.contracts.index.Index as Index
+use Rattle.search_visited.specs.contracts.visited_set.VisitedSet as VisitedSet
+use Rattle.search_visited.proofs.index.Index.TheSendSync as index
+use Rattle.search_visited.proofs.visited_set.VisitedSet.TheSendSync as visited
 use Rattle.search_memo.specs.declared.recorder.Recorder as recorder
 use Rattle.search_memo.specs.declared.shared.Scene as scene
 use Rattle.search_memo.specs.contracts.memo.Seen as Seen
@@ -26,14 +30,9 @@ use Rattle.std.specs.contracts.vec.Vec as Vec
 use denote.Struct.Field as Field
 use Rattle.aud_order.specs.contracts.shape.Shape as Shape
 use Rattle.search_memo.specs.contracts.stored_states.Finder as Finder
-use Rattle.search_memo.specs.contracts.index.Index as Index
-use Rattle.search_memo.specs.contracts.visited_set.VisitedSet as VisitedSet
 use Rattle.search_memo.specs.contracts.memo.Transition as Transition
 use Rattle.search_memo.proofs.stored_states.Finder.TheSendSync as finder
-use Rattle.search_memo.proofs.index.Index.TheSendSync as index
 use Rattle.search_memo.proofs.memo.Transition.TheSendSync as transition
-use Rattle.search_memo.proofs.recorder.Unnoted.TheSendSync as unnoted
-use Rattle.search_memo.proofs.visited_set.VisitedSet.TheSendSync as visited
 
 module _ (J A : RattleType) (s : scene.Ghosts J.Denot) (g : alloc.Ghosts A.Denot) where
   entry_send : IsSend A → IsSync A → Frees g g.dealloc_token → IsSend (RefutedEntry.the_row J A s g)

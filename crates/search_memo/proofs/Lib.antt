@@ -1,7 +1,6 @@
 pub mod Refuting
 pub mod Choosing
 pub mod MemoLemmas
-pub mod Visiting
 pub mod SharedLemmas
 pub mod Keeping
 pub mod Crosses

@@ -24,13 +24,13 @@ use Rattle.aud_order.specs.Cursors.{CursorOf, IsGoodAt}
 use Rattle.aud_order.specs.Silent.{silent_fate}
 use Rattle.aud_order.proofs.Lists.{take-push}
 use Rattle.aud_order.proofs.Moves.{shown-same, step-states}
+use Rattle.search_visited.specs.Visited.{EntryOf, IsKeptAs}
 use Rattle.search_memo.specs.declared.choice.Choice.{Choice}
 use Rattle.search_memo.specs.declared.memo.Transition.{Transition}
 use Rattle.search_memo.specs.declared.memo.Seen.{Seen}
 use Rattle.search_memo.specs.Known.{IsKnown, IsKnownOf}
 use Rattle.search_memo.specs.StoredStates.{IsMoreOf, LeadsTo}
-use Rattle.search_memo.specs.Visited.{EntryOf, AreWith, IsKeptAs}
-use Rattle.search_memo.specs.Memos.{MemoOf, states_reached, Names, NameWay, IsRefutedEntry, IsTransition, IsTrueMemo, AreSeen, IsGrown, IsFurther, IsStep, IsNext, IsAfter}
+use Rattle.search_memo.specs.Memos.{MemoOf, states_reached, Names, NameWay, IsRefutedEntry, IsTransition, AreWith, IsTrueMemo, AreSeen, IsGrown, IsFurther, IsStep, IsNext, IsAfter}
 use Rattle.search_memo.specs.Recorders.{IsNotedAlike}
 use Rattle.search_memo.proofs.Refuting.{next-shown}
 

@@ -1,22 +1,14 @@
 -- What searches of several threads share.
-use Rattle.std.specs.Prelude.{◌≡◌, ℕ, ◌/◌, ◌%◌, ◌<◌, ◌≤◌, Bool, true, List, [], ◌∷◌, length, Option, Some, None, refl}
+use Rattle.std.specs.Prelude.{◌≡◌, ℕ, ◌<◌, ◌≤◌, Bool, true, List, [], ◌∷◌, length, Option, Some, None, refl}
 use Rattle.std.proofs.Common.{sym, ◌∙◌, ap, subst, arith, get_or, set}
 use Rattle.std.proofs.lemmas.List.{length-set}
-use Rattle.base_bits.specs.Marked.{marks_of, IsBitWritten}
+use Rattle.base_bits.specs.Marked.{marks_of}
 use Rattle.aud_object.specs.Objects.{ObjState}
 use Rattle.aud_history.specs.Table.{transactions}
 use Rattle.aud_order.specs.Shapes.{ShapeOf, history_of}
+use Rattle.search_visited.specs.Visited.{WithPlace, with_place}
+use Rattle.search_visited.proofs.Visiting.{marks-with}
 use Rattle.search_memo.specs.Known.{IsMarkedBy, IsRefutedTo, IsRefutedAtWord}
-use Rattle.search_memo.specs.Visited.{WithPlace, with_place}
-use Rattle.search_memo.proofs.Visiting.{marks-with}
-
--- a mark in the only word
-pub with-only : (word own place : ℕ) → place / 64 ≡ 0 → IsBitWritten word own (place % 64) true → WithPlace (word ∷ []) (own ∷ []) place
-with-only word own place first written =
-    let at : (n : ℕ) → 0 ≡ n → (n < 1) × (IsBitWritten (get_or (word ∷ []) n 0) own (place % 64) true × (own ∷ [] ≡ set (word ∷ []) n own)) =
-    λ n is. subst (λ (m : ℕ). (m < 1) × (IsBitWritten (get_or (word ∷ []) m 0) own (place % 64) true × (own ∷ [] ≡ set (word ∷ []) m own))) is (omega arith, (written, refl)) in
-    let all = at (place / 64) (sym first) in
-    (own, (all.0, all.1.0, all.1.1))
 
 -- the words are one
 pub only-word : (words : List ℕ) (d : ℕ) → 1 ≤ length words → length words < 2 → words ≡ get_or words 0 d ∷ []

@@ -1,5 +1,4 @@
 pub mod Choices
-pub mod Visited
 pub mod Memos
 pub mod StoredStates
 pub mod Recorders

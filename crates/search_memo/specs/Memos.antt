@@ -12,11 +12,11 @@ use Rattle.aud_witness.specs.Orders.{is_named, kept, IsGood, Refuted}
 use Rattle.aud_order.specs.Shapes.{ShapeOf, objects_of, history_of}
 use Rattle.aud_order.specs.Cursors.{CursorOf}
 use Rattle.aud_order.specs.Silent.{silent_fate}
+use Rattle.search_visited.specs.Visited.{EntryOf, entry_of}
 use Rattle.search_memo.specs.declared.choice.Visibility.TheVariants.{Silent}
 use Rattle.search_memo.specs.declared.choice.Choice.{Choice}
 use Rattle.search_memo.specs.declared.memo.Transition.{Transition}
 use Rattle.search_memo.specs.declared.memo.Seen.{Seen}
-use Rattle.search_memo.specs.Visited.{EntryOf, entry_of}
 
 -- how contracts see a memo: the shape of the search, the states that it numbered, and what hears of refuted prefixes
 pub record MemoOf (V : Type 0) : Type 0 where
@@ -58,6 +58,10 @@ pub record IsTransition (shape : ShapeOf) (all : List (List ObjState)) (l : Tran
   pub from : slice_get all l.from ≡ Some before
   pub to : slice_get all l.to ≡ Some after
   pub runs : replayed before (row_of (history_of shape) l.tx).block ≡ Some after
+
+-- nothing came but perhaps one
+abbrev pub AreWith : {X : Type 0} → List X → List X → X → Type 0
+AreWith {X} old new x = (y : X) → Contains new y → Contains old y ⊎ (y ≡ x)
 
 -- what is remembered is true, and each entry has the note of its prefix
 pub record IsTrueMemo {N : Type 0} (shape : ShapeOf) (all : List (List ObjState)) (noted : N → List Decision → Type 0) (entries : List EntryOf) (notes : List N) (transitions : List Transition) : Type 0 where

@@ -3,8 +3,8 @@
 //! States of one digest are compared wherever it counts that they are the same. So nothing is promised of it, and only how
 //! fast a search is depends on it.
 
-use crate::index::{hash_of, spread};
 use aud_object::{Block, Store};
+use search_visited::{hash_of, spread};
 use std::alloc::{Allocator, Global};
 
 /// What an object adds to the digest of all, and whether a block touched it since.

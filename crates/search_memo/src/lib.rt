@@ -4,16 +4,13 @@
 
 mod choice;
 mod digests;
-mod index;
 mod memo;
 mod recorder;
-mod room;
 mod shared;
 mod stored_states;
-mod visited_set;
 
 pub use choice::{Choice, Order, Visibility, choices_of};
 pub use memo::{LARGEST_SEEN, Memo};
 pub use recorder::{Recorder, RefutedBy, Unnoted, Unrecorded};
-pub use room::BOUND;
+pub use search_visited::BOUND;
 pub use shared::{ROWS_MAX, Scene, Shared, Sharing};

@@ -3,8 +3,8 @@
 ghost use Rattle.std.specs.Prelude.{◌<◌, List, length, IfOk, IfSome, IsTrue, MatchOption};
 ghost use Rattle.aud_witness.specs.declared.decision.Decision.{Decision};
 ghost use Rattle.aud_order.specs.Shapes.{ShapeOf};
+ghost use Rattle.search_visited.specs.Visited.{with_place};
 ghost use Rattle.search_memo.specs.Known.{MarksRows, IsKnownFor, IsKnownOf};
-ghost use Rattle.search_memo.specs.Visited.{with_place};
 ghost use Rattle.search_memo.specs.Recorders.{IsHearable, HasNote, IsReason};
 
 use aud_event::OutOfMemory;

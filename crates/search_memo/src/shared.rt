@@ -4,20 +4,18 @@
 ghost use Rattle.std.specs.Prelude.{◌≡◌, ◌<◌, IfSome, IsTrue, MatchOption, length};
 ghost use Rattle.aud_history.specs.Table.{transactions};
 ghost use Rattle.aud_order.specs.Shapes.{history_of};
+ghost use Rattle.search_visited.specs.Visited.{with_place};
 ghost use Rattle.search_memo.specs.Known.{IsMarkedBy, IsRefutedAtWord, IsRefutedTo};
-ghost use Rattle.search_memo.specs.Visited.{with_place};
 
-use crate::index::{hash_of, spread};
 use crate::recorder::{Recorder, RefutedBy, Unnoted};
-use crate::room::BOUND;
 use crate::stored_states::size_of_shared;
-use crate::visited_set::with_further;
 use aud_event::OutOfMemory;
 use aud_object::Store;
 use aud_witness::Decision;
 use base_bits::Marks;
 use boxcar::slot::{OnceSlot, SlotRule};
 use boxcar::tag::Tag;
+use search_visited::{BOUND, hash_of, spread, with_further};
 use std::alloc::{Allocator, Global};
 use std::marker::{Brand, Model, PhantomData};
 use std::mem::size_of;

@@ -7,10 +7,9 @@ ghost use Rattle.search_memo.specs.Memos.{Names};
 ghost use Rattle.search_memo.specs.StoredStates.{IsMoreOf, states_of, run_way, IsWayTo, LeadsTo, LeadsFrom, IsKeptOf};
 
 use crate::digests::Digests;
-use crate::index::{Index, Look};
-use crate::room::{give_back, reserve, take};
 use aud_object::{Block, Store};
 use aud_order::Shape;
+use search_visited::{Index, Look, give_back, reserve, take};
 use std::alloc::{Allocator, Global};
 use std::mem::size_of;
 

@@ -1,8 +1,8 @@
 use Rattle.std.specs.Prelude.{Option, ℕ, IfSome}
 use Rattle.std.proofs.Common.{sym, subst}
 use Rattle.std.proofs.lemmas.Option.{IfSome_then}
+use Rattle.search_visited.specs.Visited.{with_place}
 use Rattle.search_memo.specs.Known.{IsMarkedBy}
-use Rattle.search_memo.specs.Visited.{with_place}
 use Rattle.search_memo.proofs.SharedLemmas.{only-word, marked-further}
 use Rattle.search_memo.proofs.shared.word_of.Goals as goal
 

@@ -2,7 +2,7 @@ use Rattle.std.specs.Prelude.{◌≡◌, length, map, Some, slice_get}
 use Rattle.std.proofs.Common.{sym, ◌∙◌, ap, subst}
 use Rattle.aud_history.specs.Table.{transactions}
 use Rattle.aud_order.specs.Shapes.{history_of}
-use Rattle.search_memo.specs.Visited.{entry, with_place, entry_of}
+use Rattle.search_visited.specs.Visited.{entry, with_place, entry_of}
 use Rattle.search_memo.specs.Memos.{MemoOf, IsRefutedEntry}
 use Rattle.search_memo.proofs.MemoLemmas.{note-of}
 use Rattle.search_memo.proofs.memo.Memo.find_refuted.Goals as goal

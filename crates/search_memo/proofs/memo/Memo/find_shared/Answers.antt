@@ -1,9 +1,9 @@
 use Rattle.std.specs.Prelude.{slice_get}
 use Rattle.std.proofs.Common.{sym, ◌∙◌, ap, subst}
 use Rattle.std.proofs.lemmas.Option.{IfSome_then}
+use Rattle.search_visited.specs.Visited.{entry, with_place}
 use Rattle.search_memo.specs.Known.{IsKnown}
 use Rattle.search_memo.specs.Memos.{MemoOf, IsRefutedEntry}
-use Rattle.search_memo.specs.Visited.{entry, with_place}
 use Rattle.search_memo.proofs.MemoLemmas.{known-dead}
 use Rattle.search_memo.proofs.memo.Memo.find_shared.Goals as goal
 

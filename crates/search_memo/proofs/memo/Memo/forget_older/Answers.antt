@@ -3,8 +3,8 @@ use Rattle.std.proofs.Common.{sym, ◌∙◌, ap}
 use Rattle.std.proofs.lemmas.List.{drop-map}
 use Rattle.aud_history.specs.Table.{transactions}
 use Rattle.aud_order.specs.Shapes.{history_of}
+use Rattle.search_visited.specs.Visited.{entry_of}
 use Rattle.search_memo.specs.Memos.{entries_of}
-use Rattle.search_memo.specs.Visited.{entry_of}
 use Rattle.search_memo.proofs.MemoLemmas.{true-fewer}
 use Rattle.search_memo.proofs.memo.Memo.forget_older.Goals as goal
 

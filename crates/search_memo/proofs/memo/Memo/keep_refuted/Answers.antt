@@ -1,6 +1,6 @@
 use Rattle.std.specs.Prelude.{◌++◌, ◌∷◌, [], true, false, map, Some}
 use Rattle.std.proofs.Common.{sym, ◌∙◌, ap, subst}
-use Rattle.search_memo.specs.Visited.{EntryOf, IsKeptAs, entry_of}
+use Rattle.search_visited.specs.Visited.{EntryOf, IsKeptAs, entry_of}
 use Rattle.search_memo.specs.Memos.{MemoOf, states_reached, Names}
 use Rattle.search_memo.proofs.MemoLemmas.{true-entry, true-unkept, dead-here, rows-placed}
 use Rattle.search_memo.proofs.memo.Memo.keep_refuted.Goals as goal

@@ -1,7 +1,7 @@
 use Rattle.std.specs.Prelude.{ℕ}
 use Rattle.std.proofs.Common.{◌∙◌, subst}
+use Rattle.search_visited.specs.Visited.{with_place}
 use Rattle.search_memo.specs.Known.{IsRefutedAtWord}
-use Rattle.search_memo.specs.Visited.{with_place}
 use Rattle.search_memo.proofs.SharedLemmas.{refuted-marks, length-further}
 use Rattle.search_memo.proofs.shared.Shared.knows.Goals as goal
 

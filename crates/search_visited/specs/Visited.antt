@@ -1,6 +1,5 @@
 -- Configurations of refuted prefixes, as words.
-use Rattle.std.specs.Prelude.{◌≡◌, ℕ, zero, suc, ◌/◌, ◌%◌, ◌<◌, Bool, true, false, List, [], ◌∷◌, ◌++◌, length, take, drop, Option, Some, None, slice_index_or, slice_set, ◌⊎◌, map, slice_get, MatchOption}
-use Rattle.std.specs.List.{Contains}
+use Rattle.std.specs.Prelude.{◌≡◌, ℕ, zero, suc, ◌/◌, ◌%◌, ◌<◌, Bool, true, false, List, [], ◌∷◌, ◌++◌, length, take, drop, Option, Some, None, slice_index_or, slice_set, map, slice_get, MatchOption}
 use Rattle.base_bits.specs.Marked.{marks_of, IsBitWritten}
 
 -- which rows were placed after a refuted prefix, and the number of the states there
@@ -32,10 +31,6 @@ WithPlace others words place =
 abbrev pub IsConfiguration : List ℕ → ℕ → List ℕ → Option ℕ → Type 0
 IsConfiguration words n placed None = words ≡ n ∷ placed
 IsConfiguration words n placed (Some place) = (marks : List ℕ) × ((words ≡ n ∷ marks) × WithPlace placed marks place)
-
--- nothing came but perhaps one
-abbrev pub AreWith : {X : Type 0} → List X → List X → X → Type 0
-AreWith {X} old new x = (y : X) → Contains new y → Contains old y ⊎ (y ≡ x)
 
 -- one came after the others, if it did
 abbrev pub IsKeptAs : {X : Type 0} → List X → List X → X → Bool → Type 0

@@ -1,7 +1,7 @@
 use Rattle.std.specs.Prelude.{◌+◌, ◌++◌, ◌∷◌, length, refl}
 use Rattle.std.proofs.Common.{◌∙◌, ap, arith}
-use Rattle.search_memo.proofs.Visiting.{visited-with, words-grown}
-use Rattle.search_memo.proofs.visited_set.VisitedSet.keep.Goals as goal
+use Rattle.search_visited.proofs.Visiting.{visited-with, words-grown}
+use Rattle.search_visited.proofs.visited_set.VisitedSet.keep.Goals as goal
 
 pub invariant_of-self-then-append : goal.invariant_of-self-then-append
 invariant_of-self-then-append g c =

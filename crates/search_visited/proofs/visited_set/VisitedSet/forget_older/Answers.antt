@@ -1,8 +1,8 @@
 use Rattle.std.specs.Prelude.{◌≡◌, ◌≤◌, ◌-◌, ◌*◌, ◌/◌, length, drop}
 use Rattle.std.proofs.Common.{sym, ◌∙◌, ap, arith}
-use Rattle.search_memo.specs.Visited.{chunks}
-use Rattle.search_memo.proofs.Visiting.{length-chunks, drop-chunks, words-left}
-use Rattle.search_memo.proofs.visited_set.VisitedSet.forget_older.Goals as goal
+use Rattle.search_visited.specs.Visited.{chunks}
+use Rattle.search_visited.proofs.Visiting.{length-chunks, drop-chunks, words-left}
+use Rattle.search_visited.proofs.visited_set.VisitedSet.forget_older.Goals as goal
 
 pub invariant_of-self : goal.invariant_of-self
 invariant_of-self g c =

@@ -1,7 +1,7 @@
 //! Configurations as words, all in one memory.
 
 ghost use Rattle.std.specs.Prelude.{◌≡◌, ◌+◌, ◌<◌, ◌≤◌, ◌++◌, [], ◌∷◌, true, nat_eq, IfSome, IsTrue, MatchOption, length, take, drop, slice_index_or, if◌then◌else◌, ◌⊎◌, Some, vec_len};
-ghost use Rattle.search_memo.specs.Visited.{IsKeptAs, with_place, WithPlace, IsConfiguration, IsPlaceOf, entries_over, entry};
+ghost use Rattle.search_visited.specs.Visited.{IsKeptAs, with_place, WithPlace, IsConfiguration, IsPlaceOf, entries_over, entry};
 
 use crate::index::{Index, Look, hash_of};
 use crate::room::reserve;
@@ -10,9 +10,10 @@ use std::alloc::{Allocator, Global};
 use std::marker::Model;
 use std::mem::size_of;
 
-/// Configurations: the number of the states, then the marks of the rows that are placed, in as many words each.
+/// Configurations in the order in which they were kept, each as words: the number of the states, then the marks of the rows that are placed. All
+/// have as many words.
 #[derive(Drop)]
-pub(crate) struct VisitedSet<A: Allocator + Copy = Global> {
+pub struct VisitedSet<A: Allocator + Copy = Global> {
     words: Vec<u64, A>,
     width: usize,
     count: usize,
@@ -21,7 +22,7 @@ pub(crate) struct VisitedSet<A: Allocator + Copy = Global> {
 
 impl<A: Allocator + Copy> Model for VisitedSet<A> {
     ghost use Rattle.std.specs.Prelude.{◌≡◌, ◌<◌, ◌*◌, List, ℕ, length};
-    ghost use Rattle.search_memo.specs.Visited.{chunks};
+    ghost use Rattle.search_visited.specs.Visited.{chunks};
 
     ghost Value = { List (List ℕ) };
 
@@ -62,8 +63,8 @@ fn is_with(words: &[u64], others: &[u64], place: usize) -> bool
         && are_same(&words[at + 1..], &others[at + 1..])
 }
 
-/// The word with a mark at the place of a row, if it marks that row.
-pub(crate) fn with_further(word: u64, place: usize) -> Option<u64>
+/// The word with a mark at the place of a row, if it marks that row: it marks those at the first 64 places.
+pub fn with_further(word: u64, place: usize) -> Option<u64>
     ensures { IfSome result (λ own. WithPlace (word ∷ []) (own ∷ []) place) }
 {
     if place / WIDTH == 0 {
@@ -117,7 +118,7 @@ fn append<A: Allocator>(words: &mut Vec<u64, A>, states: usize, marks: &[u64]) -
 }
 
 /// Forgets so many of the first elements, and keeps their memory.
-pub(crate) fn forget_first<T: Copy, A: Allocator>(list: &mut Vec<T, A>, count: usize)
+pub fn forget_first<T: Copy, A: Allocator>(list: &mut Vec<T, A>, count: usize)
     requires { count ≤ vec_len list.old }
     ensures { list.new.items ≡ drop count list.old.items }
 {
@@ -142,7 +143,7 @@ fn index_anew<A: Allocator + Copy>(by_hash: &mut Index<A>, words: &[u64], width:
 
 impl<A: Allocator + Copy> VisitedSet<A> {
     /// No configurations. It does not allocate.
-    pub(crate) fn new(alloc: A) -> VisitedSet<A>
+    pub fn new(alloc: A) -> VisitedSet<A>
         ensures { result ≡ [] }
     {
         VisitedSet {
@@ -154,7 +155,7 @@ impl<A: Allocator + Copy> VisitedSet<A> {
     }
 
     /// Whether there are none.
-    pub(crate) fn is_empty(&self) -> bool
+    pub fn is_empty(&self) -> bool
         ensures { result ≡ nat_eq (length self.now) 0 }
     {
         self.count == 0
@@ -170,13 +171,8 @@ impl<A: Allocator + Copy> VisitedSet<A> {
     }
 
     /// The place of one of the configurations that has the number of the states, and the rows placed, with one further where there is
-    /// one.
-    pub(crate) fn find(
-        &self,
-        states: usize,
-        placed: &Marks<A>,
-        further: Option<usize>,
-    ) -> Option<usize>
+    /// one. It looks at so few of them that it may miss one, and does not allocate.
+    pub fn find(&self, states: usize, placed: &Marks<A>, further: Option<usize>) -> Option<usize>
         requires { MatchOption further (Unit {0}) (λ k. k < length placed.now) }
         ensures { IsPlaceOf (entries_over placed.now self.now) (entry (with_place placed.now further) states) result }
     {
@@ -198,8 +194,9 @@ impl<A: Allocator + Copy> VisitedSet<A> {
         None
     }
 
-    /// Puts a configuration after the others, if it has as many words as they have and there is room and memory for it.
-    pub(crate) fn keep(&mut self, states: usize, placed: &Marks<A>, room: &mut usize) -> bool
+    /// Puts a configuration after the others, if it has as many words as they have and there is room and memory for it. It says whether it
+    /// did, and takes from the room, in bytes, what it allocates.
+    pub fn keep(&mut self, states: usize, placed: &Marks<A>, room: &mut usize) -> bool
         ensures { IsKeptAs (entries_over placed.now self.old) (entries_over placed.now self.new) (entry placed.now states) result }
     {
         let marks = placed.words();
@@ -223,7 +220,7 @@ impl<A: Allocator + Copy> VisitedSet<A> {
     }
 
     /// Forgets the older half of the configurations, and keeps its memory. It answers how many these are, and does not allocate.
-    pub(crate) fn forget_older(&mut self) -> usize
+    pub fn forget_older(&mut self) -> usize
         ensures fewer { result ≤ length self.old }
         ensures rest { self.new ≡ drop result self.old }
     {

@@ -4,7 +4,7 @@
 //! but that each call ends, and only how fast a search is depends on it.
 
 use crate::room::{give_back, take};
-use aud_event::OutOfMemory;
+use base_values::OutOfMemory;
 use std::alloc::{Allocator, Global};
 use std::mem::size_of;
 
@@ -17,7 +17,7 @@ struct Slot {
 
 /// What stands in a slot.
 #[derive(Clone, Copy)]
-pub(crate) enum Look {
+pub enum Look {
     /// Nothing, nor in the slots after it.
     Free,
     /// Something under another hash.
@@ -28,7 +28,7 @@ pub(crate) enum Look {
 
 /// Places by hashes, in slots of which at most half are taken.
 #[derive(Drop)]
-pub(crate) struct Index<A: Allocator + Copy = Global> {
+pub struct Index<A: Allocator + Copy = Global> {
     alloc: A,
     slots: Vec<Slot, A>,
     taken: usize,
@@ -44,13 +44,13 @@ const SLOT: usize = size_of::<Slot>();
 const FEWEST: usize = 64;
 
 /// A hash of two numbers.
-pub(crate) fn hash_of(a: u64, b: u64) -> u64 {
+pub fn hash_of(a: u64, b: u64) -> u64 {
     let mixed = (a ^ b.wrapping_mul(0x9E37_79B9_7F4A_7C15)).wrapping_mul(0xD6E8_FEB8_6659_FD93);
     mixed ^ (mixed >> 32)
 }
 
 /// A number in which each bit of the word has its say, by the steps that end the generator SplitMix64.
-pub(crate) fn spread(word: u64) -> u64 {
+pub fn spread(word: u64) -> u64 {
     let half = (word ^ (word >> 30)).wrapping_mul(0xBF58_476D_1CE4_E5B9);
     let whole = (half ^ (half >> 27)).wrapping_mul(0x94D0_49BB_1331_11EB);
     whole ^ (whole >> 31)
@@ -81,7 +81,7 @@ fn put_into(slots: &mut [Slot], taken: Slot) {
 
 impl<A: Allocator + Copy> Index<A> {
     /// An index of nothing. It does not allocate.
-    pub(crate) fn new(alloc: A) -> Index<A> {
+    pub fn new(alloc: A) -> Index<A> {
         Index {
             alloc,
             slots: Vec::new(alloc),
@@ -90,7 +90,7 @@ impl<A: Allocator + Copy> Index<A> {
     }
 
     /// What stands so many steps after the first slot of the hash.
-    pub(crate) fn look(&self, hash: u64, step: usize) -> Look {
+    pub fn look(&self, hash: u64, step: usize) -> Look {
         let half = half_of(hash);
         match self.slots.get(slot_of(half, step, self.slots.len())) {
             None => Look::Free,
@@ -106,8 +106,8 @@ impl<A: Allocator + Copy> Index<A> {
         }
     }
 
-    /// How many bytes its slots take.
-    pub(crate) fn size(&self) -> usize {
+    /// How many bytes its slots take, which is what it took of room.
+    pub fn size(&self) -> usize {
         self.slots.len().saturating_mul(SLOT)
     }
 
@@ -136,7 +136,7 @@ impl<A: Allocator + Copy> Index<A> {
     }
 
     /// Forgets all places, and keeps the slots.
-    pub(crate) fn clear(&mut self) {
+    pub fn clear(&mut self) {
         for slot in self.slots.iter_mut() {
             *slot = FREE;
         }
@@ -145,12 +145,7 @@ impl<A: Allocator + Copy> Index<A> {
 
     /// Puts the place under the hash, if there is room and memory for it. It holds places below 2^32 - 1; any other is as memory
     /// that is wanting.
-    pub(crate) fn put(
-        &mut self,
-        hash: u64,
-        place: usize,
-        room: &mut usize,
-    ) -> Result<(), OutOfMemory> {
+    pub fn put(&mut self, hash: u64, place: usize, room: &mut usize) -> Result<(), OutOfMemory> {
         let Ok(place) = u32::try_from(place.wrapping_add(1)) else {
             return Err(OutOfMemory);
         };

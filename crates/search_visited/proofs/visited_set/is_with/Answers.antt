@@ -1,9 +1,9 @@
 use Rattle.std.specs.Prelude.{◌+◌, ◌/◌}
 use Rattle.std.proofs.Common.{sym, ◌∙◌, arith, get_or}
 use Rattle.base_values.proofs.Bools.{nat_eq-is}
-use Rattle.search_memo.proofs.Visiting.{set-between, rest-all}
-use Rattle.search_memo.proofs.visited_set.is_with.Goals as goal
-use Rattle.search_memo.proofs.visited_set.is_with.Goals.{then-words-at, else-words-at}
+use Rattle.search_visited.proofs.Visiting.{set-between, rest-all}
+use Rattle.search_visited.proofs.visited_set.is_with.Goals as goal
+use Rattle.search_visited.proofs.visited_set.is_with.Goals.{then-words-at, else-words-at}
 
 pub returns-then-are_same : goal.returns-then-are_same
 returns-then-are_same c =

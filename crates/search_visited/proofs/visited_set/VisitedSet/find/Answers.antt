@@ -1,8 +1,8 @@
 use Rattle.std.specs.Prelude.{◌<◌, List, ℕ, length}
 use Rattle.std.proofs.Common.{sym, ◌∙◌, ap, subst}
-use Rattle.search_memo.specs.Visited.{IsConfiguration}
-use Rattle.search_memo.proofs.Visiting.{length-chunks, found-entry}
-use Rattle.search_memo.proofs.visited_set.VisitedSet.find.Goals as goal
+use Rattle.search_visited.specs.Visited.{IsConfiguration}
+use Rattle.search_visited.proofs.Visiting.{length-chunks, found-entry}
+use Rattle.search_visited.proofs.visited_set.VisitedSet.find.Goals as goal
 
 pub get-requires : goal.get-requires
 get-requires g c =

@@ -1,13 +1,12 @@
 -- Configurations as words.
-use Rattle.std.specs.Prelude.{◌≡◌, ℕ, zero, suc, ◌+◌, ◌-◌, ◌*◌, ◌/◌, ◌<◌, ◌≤◌, Bool, true, List, [], ◌∷◌, ◌++◌, map, length, take, drop, Option, Some, None, slice_get, MatchOption, refl, ◌⊎◌}
-use Rattle.std.specs.List.{Contains}
+use Rattle.std.specs.Prelude.{◌≡◌, ℕ, zero, suc, ◌+◌, ◌-◌, ◌*◌, ◌/◌, ◌%◌, ◌<◌, ◌≤◌, Bool, true, List, [], ◌∷◌, ◌++◌, map, length, take, drop, Option, Some, None, slice_get, MatchOption, refl, ◌⊎◌}
 use Rattle.std.proofs.Common.{sym, ◌∙◌, ap, subst, inl, inr, arith, get_or, set}
 use Rattle.std.proofs.Math.Nat.{zero-mul, suc-mul, mul-le-mul_right}
 use Rattle.std.proofs.Math.Seq.{take-length, drop-nil}
 use Rattle.std.proofs.lemmas.List.{nil_from_length, length-append, take-append-le, take_all, drop-append-le, length-drop, map-append}
-use Rattle.base_bits.specs.Marked.{marks_of}
+use Rattle.base_bits.specs.Marked.{marks_of, IsBitWritten}
 use Rattle.base_bits.proofs.Marking.{marks-written, word-written}
-use Rattle.search_memo.specs.Visited.{EntryOf, chunks, entry_of, with_place, WithPlace, IsConfiguration, AreWith, IsKeptAs}
+use Rattle.search_visited.specs.Visited.{EntryOf, chunks, entry_of, with_place, WithPlace, IsConfiguration, IsKeptAs}
 
 -- # Lists of one length
 
@@ -104,6 +103,14 @@ pub marks-with : (others words : List ℕ) (count place : ℕ) → place < count
 marks-with others words count place inside (v, (within, written, is)) =
     ap (λ (l : List ℕ). marks_of l count) is ∙ marks-written others (set others (place / 64) v) count place true inside (word-written others place v true within written)
 
+-- a mark in the only word
+pub with-only : (word own place : ℕ) → place / 64 ≡ 0 → IsBitWritten word own (place % 64) true → WithPlace (word ∷ []) (own ∷ []) place
+with-only word own place first written =
+    let at : (n : ℕ) → 0 ≡ n → (n < 1) × (IsBitWritten (get_or (word ∷ []) n 0) own (place % 64) true × (own ∷ [] ≡ set (word ∷ []) n own)) =
+    λ n is. subst (λ (m : ℕ). (m < 1) × (IsBitWritten (get_or (word ∷ []) m 0) own (place % 64) true × (own ∷ [] ≡ set (word ∷ []) m own))) is (omega arith, (written, refl)) in
+    let all = at (place / 64) (sym first) in
+    (own, (all.0, all.1.0, all.1.1))
+
 -- # Entries
 
 map-at : {X Y : Type 0} (f : X → Y) (xs : List X) (k : ℕ) (d : X) → k < length xs → slice_get (map f xs) k ≡ Some (f (get_or xs k d))
@@ -123,22 +130,6 @@ pub found-entry : (visited : List (List ℕ)) (place : ℕ) (placed : List ℕ) 
     IsConfiguration (get_or visited place []) n placed further → slice_get (map (entry_of (length marks)) visited) place ≡ Some (record { placed = with_place marks further; states = n })
 found-entry visited place placed marks n further inside is there configuration =
     map-at (entry_of (length marks)) visited place [] inside ∙ ap (λ (e : EntryOf). Some e) (configuration-entry (get_or visited place []) placed marks n further is there configuration)
-
--- what is contained in a list with one after it
-last-of : {X : Type 0} (xs : List X) (x y : X) → Contains (xs ++ x ∷ []) y → Contains xs y ⊎ (y ≡ x)
-last-of [] x y (zero, inside, is) = inr (sym is)
-last-of [] x y (suc k, inside, is) = absurd (omega arith)
-last-of (e ∷ xs) x y (zero, inside, is) = inl (0, omega arith, is)
-last-of (e ∷ xs) x y (suc k, inside, is) = elim (last-of xs x y (k, omega arith, is)) [
-  | inl (j, within, at) ↦ inl (suc j, omega arith, at)
-  | inr same ↦ inr same
-]
-
-pub with-none : {X : Type 0} (old new : List X) (x : X) → new ≡ old → AreWith old new x
-with-none old new x same y there = inl (subst (λ (l : List _). Contains l y) same there)
-
-pub with-last : {X : Type 0} (old new : List X) (x : X) → new ≡ old ++ x ∷ [] → AreWith old new x
-with-last old new x is y there = last-of old x y (subst (λ (l : List _). Contains l y) is there)
 
 width-same : {X : Type 0} (items : List X) (count other w : ℕ) → (count ≡ 0) ⊎ (other ≡ w) → length items ≡ count * other → (length items ≡ count * w) × (chunks w items count ≡ chunks other items count)
 width-same items zero other w either long = (long ∙ zero-mul other ∙ sym (zero-mul w), refl)

@@ -1,7 +1,7 @@
 use Rattle.std.specs.Prelude.{◌≡◌, ◌<◌, ◌≤◌, ◌+◌, ◌*◌, [], length, take, drop}
 use Rattle.std.proofs.Common.{sym, ◌∙◌, ap, subst, arith, get_or}
-use Rattle.search_memo.proofs.Visiting.{length-chunks, chunk-at, room-at}
-use Rattle.search_memo.proofs.visited_set.VisitedSet.get.Goals as goal
+use Rattle.search_visited.proofs.Visiting.{length-chunks, chunk-at, room-at}
+use Rattle.search_visited.proofs.visited_set.VisitedSet.get.Goals as goal
 
 pub overflow_mul-place : goal.overflow_mul-place
 overflow_mul-place g c =

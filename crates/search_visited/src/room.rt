@@ -12,8 +12,8 @@ pub const BOUND: usize = 1 << 30;
 /// The fewest elements that a list is given memory for.
 const FEWEST: usize = 16;
 
-/// Takes as much of what is left, if there is so much.
-pub(crate) fn take(room: &mut usize, size: usize) -> bool {
+/// Takes so many bytes of what is left, if there are so many, and says whether it did.
+pub fn take(room: &mut usize, size: usize) -> bool {
     if size <= *room {
         *room -= size;
         true
@@ -22,8 +22,8 @@ pub(crate) fn take(room: &mut usize, size: usize) -> bool {
     }
 }
 
-/// Gives back what was taken.
-pub(crate) fn give_back(room: &mut usize, size: usize) {
+/// Gives back so many bytes that were taken.
+pub fn give_back(room: &mut usize, size: usize) {
     *room = room.saturating_add(size);
 }
 
@@ -34,8 +34,9 @@ fn has_space<T, A: Allocator>(list: &Vec<T, A>, more: usize) -> bool
     more <= list.capacity() - list.len()
 }
 
-/// Has memory for so many more elements after those of the list, which take so many bytes each, if there is room and memory for it.
-pub(crate) fn reserve<T, A: Allocator>(
+/// Has memory for so many more elements after those of the list, which take so many bytes each, if there is room and memory for it, and says
+/// whether there is. What a growth takes is taken from the room.
+pub fn reserve<T, A: Allocator>(
     room: &mut usize,
     list: &mut Vec<T, A>,
     more: usize,
