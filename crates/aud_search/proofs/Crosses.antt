@@ -1,19 +1,36 @@
--- Which memories may cross threads: all, where the allocator may and may be shared.
+-- Which memories may cross threads: each session, as all that it holds may.
 use denote.RattleType.{RattleType}
 use denote.Ref.{NamedLft}
-use denote.Param.Send.{IsSend, IsSync, Frees, sendable}
-use Rattle.std.specs.declared.alloc.Allocator as alloc
-use Rattle.std.specs.declared.clone.Clone as clone
+use denote.Param.Send.{IsSend, struct_send, sendable}
+use denote.Struct.Declared as declared
+use Rattle.std.proofs.Crossing as heap
 use Rattle.search_memo.specs.declared.shared.Scene as scene
 use Rattle.search_memo.proofs.recorder.Unnoted.TheSendSync as unnoted
 use Rattle.search_memo.proofs.Crosses.{shape_shared, memo_send, sharing_send, shared_shared}
 use Rattle.aud_search.specs.contracts.searches.Session as Session
+use Rattle.aud_search.specs.contracts.searches.Session.TheInside as Inside
 
-module _ (κ : NamedLft) (A : RattleType) (g : alloc.Ghosts A.Denot) (c : clone.Ghosts A.Denot) where
-  module _ (J : RattleType) (s : scene.Ghosts J.Denot) where
-    pub session_send : IsSend A → IsSync A → Frees g g.dealloc_token → IsSend (Session.the_row κ J A s g c)
-    session_send sa ya f =
-        let shape = shape_shared κ A g c sa ya f in
-        let shared = shared_shared κ A g c J s sa ya f in
-        let sharing = sharing_send κ A g c J s sa ya f in
-        search (memo_send κ A g c, unnoted.the_send, sendable) depth 60 fits 20000
+module _ (κ : NamedLft) (J : RattleType) (s : scene.Ghosts J.Denot) where
+  pub session_send : IsSend (Session.the_row κ J s)
+  session_send =
+      let inside =
+      struct_send (declared.shape (Inside.the_type κ J s)) (
+        search sendable depth 20,
+        (
+          search (shape_shared, heap.send, heap.sync, heap.frees, sendable) depth 20,
+          (
+            search (shared_shared, heap.send, heap.sync, heap.frees, sendable) depth 20,
+            (
+              search sendable,
+              (
+                search (memo_send, sharing_send, unnoted.the_send, heap.send, heap.sync, heap.frees, sendable) depth 20,
+                (
+                  search sendable,
+                  (search sendable, tt),
+                ),
+              ),
+            ),
+          ),
+        ),
+      ) in
+      search sendable

@@ -11,7 +11,7 @@ use aud_witness::Prefix;
 use aud_witness::laws::letter_is_opaque;
 use search_memo::{BOUND, Memo, Order, Unnoted, Unrecorded};
 use search_prefix::{Decided, Outcome, search};
-use std::alloc::Allocator;
+use std::alloc::Global;
 
 /// A stage of `decide`, which may leave open whether the history is opaque.
 #[derive(Clone, Copy)]
@@ -57,13 +57,13 @@ const PREFIXES: u64 = 1 << 20;
 const FIRST: u64 = 64;
 
 /// How many prefixes of the shape a search expands that hardly backtracks.
-pub(crate) fn straight_budget<A: Allocator + Copy>(shape: &Shape<A>) -> u64 {
+pub(crate) fn straight_budget(shape: &Shape) -> u64 {
     FIRST.saturating_add(shape.table().rows().len() as u64)
 }
 
 /// Whether the history is opaque, with an order that shows it where it is. That is so by orders with fates, and by the letter of
 /// Guerraoui and Kapałka (PPoPP 2008).
-pub fn decide<A: Allocator + Copy>(alloc: A, shape: &Shape<A>) -> Result<Decided<A>, OutOfMemory>
+pub fn decide(alloc: Global, shape: &Shape) -> Result<Decided, OutOfMemory>
     ensures decides { IfOk result (Decides (objects_of shape.now) (history_of shape.now)) }
     ensures letter { IfOk result (DecidesByLetter (objects_of shape.now) (history_of shape.now)) }
 {
@@ -73,10 +73,7 @@ pub fn decide<A: Allocator + Copy>(alloc: A, shape: &Shape<A>) -> Result<Decided
 }
 
 /// Whether the history is opaque: by stages, and then by a search of all prefixes. What a search refuted the next ones remember.
-fn decide_by_prefixes<A: Allocator + Copy>(
-    alloc: A,
-    shape: &Shape<A>,
-) -> Result<Decided<A>, OutOfMemory>
+fn decide_by_prefixes(alloc: Global, shape: &Shape) -> Result<Decided, OutOfMemory>
     ensures { IfOk result (Decides (objects_of shape.now) (history_of shape.now)) }
 {
     let mut memo = Memo::new(alloc, shape, Unrecorded, HALF);
@@ -88,11 +85,11 @@ fn decide_by_prefixes<A: Allocator + Copy>(
 }
 
 /// Decides the history, if one of the stages does.
-fn decide_by_stages<'a, A: Allocator + Copy>(
-    alloc: A,
-    shape: &'a Shape<A>,
-    memo: &mut Memo<'a, Unnoted, Unrecorded, A>,
-) -> Result<Option<Decided<A>>, OutOfMemory>
+fn decide_by_stages<'a>(
+    alloc: Global,
+    shape: &'a Shape,
+    memo: &mut Memo<'a, Unnoted, Unrecorded>,
+) -> Result<Option<Decided>, OutOfMemory>
     requires memo { memo.old.shape ≡ shape.now }
     ensures decided { IfOk result (λ o. MatchOption o (Unit {0}) (Decides (objects_of shape.now) (history_of shape.now))) }
     ensures shape { OnOk result (memo.new.shape ≡ memo.old.shape) }
@@ -106,12 +103,12 @@ fn decide_by_stages<'a, A: Allocator + Copy>(
 }
 
 /// Decides the history, if the stage does.
-fn decide_in<'a, A: Allocator + Copy>(
-    alloc: A,
-    shape: &'a Shape<A>,
+fn decide_in<'a>(
+    alloc: Global,
+    shape: &'a Shape,
     stage: Stage,
-    memo: &mut Memo<'a, Unnoted, Unrecorded, A>,
-) -> Result<Option<Decided<A>>, OutOfMemory>
+    memo: &mut Memo<'a, Unnoted, Unrecorded>,
+) -> Result<Option<Decided>, OutOfMemory>
     requires memo { memo.old.shape ≡ shape.now }
     ensures decided { IfOk result (λ o. MatchOption o (Unit {0}) (Decides (objects_of shape.now) (history_of shape.now))) }
     ensures shape { OnOk result (memo.new.shape ≡ memo.old.shape) }
@@ -124,12 +121,12 @@ fn decide_in<'a, A: Allocator + Copy>(
 }
 
 /// Decides the history, if a search of so many prefixes does.
-fn decide_within<'a, A: Allocator + Copy>(
-    alloc: A,
-    shape: &'a Shape<A>,
+fn decide_within<'a>(
+    alloc: Global,
+    shape: &'a Shape,
     prefixes: u64,
-    memo: &mut Memo<'a, Unnoted, Unrecorded, A>,
-) -> Result<Option<Decided<A>>, OutOfMemory>
+    memo: &mut Memo<'a, Unnoted, Unrecorded>,
+) -> Result<Option<Decided>, OutOfMemory>
     requires memo { memo.old.shape ≡ shape.now }
     ensures decided { IfOk result (λ o. MatchOption o (Unit {0}) (Decides (objects_of shape.now) (history_of shape.now))) }
     ensures shape { OnOk result (memo.new.shape ≡ memo.old.shape) }
@@ -151,11 +148,11 @@ fn decide_within<'a, A: Allocator + Copy>(
 }
 
 /// Decides the history by a search of all prefixes, over what is remembered of the shape.
-fn decide_on<'a, A: Allocator + Copy>(
-    alloc: A,
-    shape: &'a Shape<A>,
-    memo: &mut Memo<'a, Unnoted, Unrecorded, A>,
-) -> Result<Decided<A>, OutOfMemory>
+fn decide_on<'a>(
+    alloc: Global,
+    shape: &'a Shape,
+    memo: &mut Memo<'a, Unnoted, Unrecorded>,
+) -> Result<Decided, OutOfMemory>
     requires memo { memo.old.shape ≡ shape.now }
     ensures { IfOk result (Decides (objects_of shape.now) (history_of shape.now)) }
 {

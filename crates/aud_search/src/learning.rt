@@ -16,7 +16,7 @@ use judge_laws::ObjectLaw;
 pub use search_engine::Effort;
 use search_engine::{Solved, solve};
 use search_prefix::Decided;
-use std::alloc::{Allocator, Global};
+use std::alloc::Global;
 
 /// So much work of the engine takes about as long as a search takes for a prefix, where many transactions run at once.
 const WORK_OF_A_PREFIX: u64 = 1 << 16;
@@ -31,11 +31,11 @@ pub(crate) fn effort_of(prefixes: u64, bytes: usize) -> Effort {
 }
 
 /// The decisions as an order, if it shows the history. Each block runs once.
-fn tried<A: Allocator + Copy>(
-    alloc: A,
-    shape: &Shape<A>,
+fn tried(
+    alloc: Global,
+    shape: &Shape,
     decisions: &[Decision],
-) -> Result<Option<Prefix<A>>, OutOfMemory>
+) -> Result<Option<Prefix>, OutOfMemory>
     ensures { IfOk result (λ found. IfSome found (Shows (objects_of shape.now) (history_of shape.now))) }
 {
     shows_is_full_and_good();
@@ -50,21 +50,17 @@ fn tried<A: Allocator + Copy>(
 
 /// What clause learning tells of a history.
 #[derive(Drop)]
-pub enum Learned<A: Allocator = Global> {
+pub enum Learned {
     /// This order shows it.
-    Opaque(Prefix<A>),
+    Opaque(Prefix),
     /// No order does, and the refutation says why.
-    NotOpaque(Refutation<ObjectLaw, A>),
+    NotOpaque(Refutation<ObjectLaw>),
     /// Nothing.
     Unknown,
 }
 
 /// What the order tells.
-fn learn_order<A: Allocator + Copy>(
-    alloc: A,
-    shape: &Shape<A>,
-    decisions: &[Decision],
-) -> Result<Learned<A>, OutOfMemory>
+fn learn_order(alloc: Global, shape: &Shape, decisions: &[Decision]) -> Result<Learned, OutOfMemory>
     ensures { IfOk result (IsLearned (objects_of shape.now) (history_of shape.now)) }
 {
     match tried(alloc, shape, decisions)? {
@@ -74,11 +70,11 @@ fn learn_order<A: Allocator + Copy>(
 }
 
 /// What the refutation tells.
-fn learn_refutation<A: Allocator + Copy>(
-    alloc: A,
-    shape: &Shape<A>,
-    refutation: Refutation<ObjectLaw, A>,
-) -> Result<Learned<A>, OutOfMemory>
+fn learn_refutation(
+    alloc: Global,
+    shape: &Shape,
+    refutation: Refutation<ObjectLaw>,
+) -> Result<Learned, OutOfMemory>
     ensures { IfOk result (IsLearned (objects_of shape.now) (history_of shape.now)) }
 {
     let history = shape.history();
@@ -89,11 +85,7 @@ fn learn_refutation<A: Allocator + Copy>(
 }
 
 /// What clause learning tells with that effort: an order that was tried, or a refutation that was judged.
-pub fn learn<A: Allocator + Copy>(
-    alloc: A,
-    shape: &Shape<A>,
-    effort: Effort,
-) -> Result<Learned<A>, OutOfMemory>
+pub fn learn(alloc: Global, shape: &Shape, effort: Effort) -> Result<Learned, OutOfMemory>
     ensures { IfOk result (IsLearned (objects_of shape.now) (history_of shape.now)) }
 {
     match solve(alloc, shape, effort)? {
@@ -104,11 +96,11 @@ pub fn learn<A: Allocator + Copy>(
 }
 
 /// Whether the history is opaque, as far as clause learning tells with that effort.
-pub(crate) fn decide_by_clauses<A: Allocator + Copy>(
-    alloc: A,
-    shape: &Shape<A>,
+pub(crate) fn decide_by_clauses(
+    alloc: Global,
+    shape: &Shape,
     effort: Effort,
-) -> Result<Option<Decided<A>>, OutOfMemory>
+) -> Result<Option<Decided>, OutOfMemory>
     ensures { IfOk result (λ o. MatchOption o (Unit {0}) (Decides (objects_of shape.now) (history_of shape.now))) }
 {
     match learn(alloc, shape, effort)? {

@@ -12,15 +12,11 @@ use aud_order::Shape;
 use aud_witness::{Decision, Prefix};
 use search_memo::{BOUND, LARGEST_SEEN, Memo, Order, ROWS_MAX, Scene, Shared, Sharing, Unnoted};
 use search_prefix::{Decided, Outcome, search};
-use std::alloc::{Allocator, Global};
+use std::alloc::Global;
 use std::marker::Model;
 
 /// Where no order shows the history, no order that begins with the prefix does.
-fn is_refuted_below<A: Allocator + Copy>(
-    shape: &Shape<A>,
-    prefix: &Prefix<A>,
-    is_refuted: bool,
-) -> bool
+fn is_refuted_below(shape: &Shape, prefix: &Prefix, is_refuted: bool) -> bool
     requires { is_refuted ≡ true → Refuted (objects_of shape.now) (history_of shape.now) [] }
     ensures { IsTrue result → Refuted (objects_of shape.now) (history_of shape.now) prefix.now }
 {
@@ -29,10 +25,7 @@ fn is_refuted_below<A: Allocator + Copy>(
 
 /// What searches of the shape share of what there is: they share nothing where no one word marks all rows, nor where others may have
 /// no states of so many objects.
-fn shared_of<'a, J: Scene, A: Allocator + Copy>(
-    shape: &Shape<A>,
-    shared: Option<&'a Shared<J, A>>,
-) -> Option<&'a Shared<J, A>> {
+fn shared_of<'a, J: Scene>(shape: &Shape, shared: Option<&'a Shared<J>>) -> Option<&'a Shared<J>> {
     let is_small = shape.table().rows().len() <= ROWS_MAX;
     if is_small && shape.plan().objects().len() <= LARGEST_SEEN {
         shared
@@ -42,7 +35,7 @@ fn shared_of<'a, J: Scene, A: Allocator + Copy>(
 }
 
 /// Where the last transaction of the prefix did its last event.
-fn last_of<A: Allocator + Copy>(shape: &Shape<A>, prefix: &[Decision]) -> u32 {
+fn last_of(shape: &Shape, prefix: &[Decision]) -> u32 {
     let Some(decision) = prefix.last() else {
         return 0;
     };
@@ -55,10 +48,7 @@ fn last_of<A: Allocator + Copy>(shape: &Shape<A>, prefix: &[Decision]) -> u32 {
 
 /// How many bytes the memo of a search may take: half of the search's share; the clauses have the other half. One search has all where nobody
 /// else searches.
-fn room_of<J: Scene, A: Allocator + Copy>(
-    shared: Option<&Shared<J, A>>,
-    is_sharing: bool,
-) -> usize {
+fn room_of<J: Scene>(shared: Option<&Shared<J>>, is_sharing: bool) -> usize {
     match shared {
         Some(shared) => shared.room_of_each(is_sharing) / 2,
         None => BOUND / 2,
@@ -72,7 +62,7 @@ const LEAST: u64 = 1 << 16;
 const LEAST_BELOW: u64 = 1 << 18;
 
 /// How many prefixes clause learning may at least take as long as.
-fn least_of<A: Allocator + Copy>(prefix: &Prefix<A>) -> u64 {
+fn least_of(prefix: &Prefix) -> u64 {
     if prefix.decisions().is_empty() {
         LEAST
     } else {
@@ -81,12 +71,12 @@ fn least_of<A: Allocator + Copy>(prefix: &Prefix<A>) -> u64 {
 }
 
 /// Puts a memo of nothing in place of another.
-fn forget_all<'a, J: Scene, A: Allocator + Copy>(
-    alloc: A,
-    shape: &'a Shape<A>,
-    shared: Option<&'a Shared<J, A>>,
+fn forget_all<'a, J: Scene>(
+    alloc: Global,
+    shape: &'a Shape,
+    shared: Option<&'a Shared<J>>,
     room: usize,
-    memo: &mut Memo<'a, Unnoted, Sharing<'a, J, A>, A>,
+    memo: &mut Memo<'a, Unnoted, Sharing<'a, J, Global>>,
 )
     requires { shape.now ≡ J.shape }
     ensures { memo.new.shape ≡ shape.now }
@@ -98,17 +88,17 @@ fn forget_all<'a, J: Scene, A: Allocator + Copy>(
 /// transactions and the same states was refuted before. It takes memory as it comes to know more, at most 1 GiB with all that search
 /// beside it and what they share: `shared` says how many these are, and where it is not there nobody else searches.
 #[derive(Drop)]
-pub struct Session<'a, J: Scene, A: Allocator + Copy = Global> {
-    alloc: A,
-    shape: &'a Shape<A>,
-    shared: Option<&'a Shared<J, A>>,
+pub struct Session<'a, J: Scene> {
+    alloc: Global,
+    shape: &'a Shape,
+    shared: Option<&'a Shared<J>>,
     room: usize,
-    memo: Memo<'a, Unnoted, Sharing<'a, J, A>, A>,
+    memo: Memo<'a, Unnoted, Sharing<'a, J, Global>>,
     learned_budget: u64,
     is_refuted: bool,
 }
 
-impl<'a, J: Scene, A: Allocator + Copy> Model for Session<'a, J, A> {
+impl<'a, J: Scene> Model for Session<'a, J> {
     ghost use Rattle.std.specs.Prelude.{◌≡◌, true, []};
     ghost use Rattle.aud_witness.specs.Orders.{Refuted};
     ghost use Rattle.aud_order.specs.Shapes.{ShapeOf, objects_of, history_of};
@@ -121,9 +111,9 @@ impl<'a, J: Scene, A: Allocator + Copy> Model for Session<'a, J, A> {
         × (m.is_refuted ≡ true → Refuted (objects_of m.shape.now) (history_of m.shape.now) []) };
 }
 
-impl<'a, J: Scene, A: Allocator + Copy> Session<'a, J, A> {
+impl<'a, J: Scene> Session<'a, J> {
     /// A session that remembers nothing yet. It does not allocate.
-    pub fn new(alloc: A, shape: &'a Shape<A>, shared: Option<&'a Shared<J, A>>) -> Session<'a, J, A>
+    pub fn new(alloc: Global, shape: &'a Shape, shared: Option<&'a Shared<J>>) -> Session<'a, J>
         requires { shape.now ≡ J.shape }
         ensures { result ≡ shape.entry.now }
     {
@@ -149,7 +139,7 @@ impl<'a, J: Scene, A: Allocator + Copy> Session<'a, J, A> {
     }
 
     /// Whether some order that begins with the prefix shows the history, as `explore` says it, by one search.
-    fn search_below(&mut self, prefix: &Prefix<A>, budget: u64) -> Result<Outcome<A>, OutOfMemory>
+    fn search_below(&mut self, prefix: &Prefix, budget: u64) -> Result<Outcome, OutOfMemory>
         ensures reported { IfOk result (Reports (objects_of self.old) (history_of self.old) prefix.now (Some budget)) }
         ensures shape { self.new ≡ self.old }
     {
@@ -175,9 +165,9 @@ impl<'a, J: Scene, A: Allocator + Copy> Session<'a, J, A> {
     /// What a search that hardly backtracks finds. It is not made where it would take the budget.
     fn explore_straight(
         &mut self,
-        prefix: &Prefix<A>,
+        prefix: &Prefix,
         budget: u64,
-    ) -> Result<Option<Outcome<A>>, OutOfMemory>
+    ) -> Result<Option<Outcome>, OutOfMemory>
         ensures reported { IfOk result (λ o. MatchOption o (Unit {0}) (Reports (objects_of self.old) (history_of self.old) prefix.now (Some budget))) }
         ensures shape { self.new ≡ self.old }
     {
@@ -196,9 +186,9 @@ impl<'a, J: Scene, A: Allocator + Copy> Session<'a, J, A> {
     /// empty, and a refutation refutes each prefix.
     fn explore_by_clauses(
         &mut self,
-        prefix: &Prefix<A>,
+        prefix: &Prefix,
         budget: u64,
-    ) -> Result<Option<Outcome<A>>, OutOfMemory>
+    ) -> Result<Option<Outcome>, OutOfMemory>
         ensures reported { IfOk result (λ o. MatchOption o (Unit {0}) (Reports (objects_of self.old) (history_of self.old) prefix.now (Some budget))) }
         ensures shape { self.new ≡ self.old }
     {
@@ -222,7 +212,7 @@ impl<'a, J: Scene, A: Allocator + Copy> Session<'a, J, A> {
     /// Whether some order that begins with the prefix shows the history, as `explore` of a prefix says it. What it refutes is remembered, and
     /// what was remembered costs no expansion. Where the budget has room for them, a short search and clause learning come first, as in
     /// `decide`: where that refutes the history, each later prefix is refuted at once. Where a search is refused memory all is forgotten.
-    pub fn explore(&mut self, prefix: &Prefix<A>, budget: u64) -> Result<Outcome<A>, OutOfMemory>
+    pub fn explore(&mut self, prefix: &Prefix, budget: u64) -> Result<Outcome, OutOfMemory>
         ensures reported { IfOk result (Reports (objects_of self.old) (history_of self.old) prefix.now (Some budget)) }
         ensures shape { self.new ≡ self.old }
     {

@@ -3,32 +3,32 @@
 use crate::explanation::{Contribution, View, explain, explain_conflict};
 use crate::heap::{Heap, bump};
 use crate::known::{Antecedent, Assigned, Conflict, UNKNOWN};
-use crate::literals::{at, fill, neg, set, var};
+use crate::literals::{at, fill, neg, push, set, var};
 use aud_event::OutOfMemory;
-use std::alloc::{Allocator, Global};
+use std::alloc::Global;
 
 /// A clause that is being learned.
 #[derive(Drop)]
-pub(crate) struct Analysis<A: Allocator + Copy = Global> {
+pub(crate) struct Analysis {
     /// Literals that hold, of which one is to fail.
-    pub todo: Vec<u32, A>,
+    pub todo: Vec<u32>,
     /// The clause. Its first literal is to hold where the others fail.
-    pub clause: Vec<u32, A>,
+    pub clause: Vec<u32>,
     /// The literals that were replaced by their antecedents, and those antecedents that hold in any case.
-    pub used: Vec<u32, A>,
-    pub sure: Vec<u32, A>,
+    pub used: Vec<u32>,
+    pub sure: Vec<u32>,
     /// The variables that were met, and whether each one was.
-    met: Vec<usize, A>,
-    is_met: Vec<bool, A>,
-    pub contributions: Vec<Contribution, A>,
+    met: Vec<usize>,
+    is_met: Vec<bool>,
+    pub contributions: Vec<Contribution>,
     /// For each level when a literal of it was last counted.
-    stamps: Vec<u64, A>,
+    stamps: Vec<u64>,
     stamp: u64,
 }
 
-impl<A: Allocator + Copy> Analysis<A> {
+impl Analysis {
     /// Of nothing. It does not allocate.
-    pub(crate) fn empty(alloc: A) -> Analysis<A> {
+    pub(crate) fn empty(alloc: Global) -> Analysis {
         Analysis {
             todo: Vec::new(alloc),
             clause: Vec::new(alloc),
@@ -44,10 +44,7 @@ impl<A: Allocator + Copy> Analysis<A> {
 }
 
 /// Room for so many variables.
-pub(crate) fn make_marks<A: Allocator + Copy>(
-    analysis: &mut Analysis<A>,
-    count: usize,
-) -> Result<(), OutOfMemory> {
+pub(crate) fn make_marks(analysis: &mut Analysis, count: usize) -> Result<(), OutOfMemory> {
     fill(&mut analysis.is_met, count, false)?;
     fill(&mut analysis.stamps, count.wrapping_add(2), 0)
 }
@@ -67,27 +64,23 @@ pub(crate) fn highest(states: &[Assigned], literals: &[u32]) -> u32 {
 }
 
 /// Notes that the variable was met.
-fn meet<A: Allocator + Copy>(
-    analysis: &mut Analysis<A>,
-    heap: &mut Heap<A>,
-    variable: usize,
-) -> Result<(), OutOfMemory> {
+fn meet(analysis: &mut Analysis, heap: &mut Heap, variable: usize) -> Result<(), OutOfMemory> {
     set(&mut analysis.is_met, variable, true);
-    analysis.met.push(variable)?;
+    push(&mut analysis.met, variable)?;
     bump(heap, variable);
     Ok(())
 }
 
 /// Takes in one literal that holds: true if it is one of the level that was not met before.
-fn take_in_one<A: Allocator + Copy>(
-    analysis: &mut Analysis<A>,
-    heap: &mut Heap<A>,
+fn take_in_one(
+    analysis: &mut Analysis,
+    heap: &mut Heap,
     literal: u32,
     since: u32,
     level: u32,
 ) -> Result<bool, OutOfMemory> {
     if since == 0 {
-        analysis.sure.push(literal)?;
+        push(&mut analysis.sure, literal)?;
         return Ok(false);
     }
     if at(&analysis.is_met, var(literal), true) {
@@ -95,15 +88,15 @@ fn take_in_one<A: Allocator + Copy>(
     }
     meet(analysis, heap, var(literal))?;
     if since < level {
-        analysis.clause.push(neg(literal))?;
+        push(&mut analysis.clause, neg(literal))?;
     }
     Ok(since >= level)
 }
 
 /// Takes in the literals that hold: those of the level are counted, and of the lower ones one may fail.
-fn take_in<A: Allocator + Copy>(
-    analysis: &mut Analysis<A>,
-    heap: &mut Heap<A>,
+fn take_in(
+    analysis: &mut Analysis,
+    heap: &mut Heap,
     states: &[Assigned],
     level: u32,
 ) -> Result<usize, OutOfMemory> {
@@ -141,11 +134,7 @@ fn are_met(todo: &[u32], is_met: &[bool], states: &[Assigned]) -> bool {
 }
 
 /// Takes the antecedent of the literal in its place.
-fn go_on<A: Allocator + Copy>(
-    analysis: &mut Analysis<A>,
-    view: &View<'_, A>,
-    literal: u32,
-) -> Result<(), OutOfMemory> {
+fn go_on(analysis: &mut Analysis, view: &View<'_>, literal: u32) -> Result<(), OutOfMemory> {
     analysis.todo.clear();
     explain(
         view,
@@ -153,21 +142,21 @@ fn go_on<A: Allocator + Copy>(
         &mut analysis.contributions,
         &mut analysis.todo,
     )?;
-    analysis.used.push(literal)?;
+    push(&mut analysis.used, literal)?;
     Ok(())
 }
 
 /// Goes back along the trail to the first literal of the level from which alone the conflict follows.
-fn find_first<A: Allocator + Copy>(
-    analysis: &mut Analysis<A>,
-    heap: &mut Heap<A>,
-    view: &View<'_, A>,
+fn find_first(
+    analysis: &mut Analysis,
+    heap: &mut Heap,
+    view: &View<'_>,
     trail: &[u32],
     level: u32,
 ) -> Result<(), OutOfMemory> {
     let mut count: usize = 0;
     let mut place = trail.len();
-    analysis.clause.push(0)?;
+    push(&mut analysis.clause, 0)?;
     for _ in 0..trail.len() {
         let more = take_in(analysis, heap, view.states, level)?;
         count = count.wrapping_add(more).saturating_sub(1);
@@ -183,11 +172,7 @@ fn find_first<A: Allocator + Copy>(
 }
 
 /// Whether the literal of the clause follows from the others: then it is left out.
-fn follows<A: Allocator + Copy>(
-    analysis: &mut Analysis<A>,
-    view: &View<'_, A>,
-    literal: u32,
-) -> Result<bool, OutOfMemory> {
+fn follows(analysis: &mut Analysis, view: &View<'_>, literal: u32) -> Result<bool, OutOfMemory> {
     if let Antecedent::Choice = at(view.states, var(literal), UNKNOWN).antecedent {
         return Ok(false);
     }
@@ -201,21 +186,18 @@ fn follows<A: Allocator + Copy>(
     if !are_met(&analysis.todo, &analysis.is_met, view.states) {
         return Ok(false);
     }
-    analysis.used.push(neg(literal))?;
+    push(&mut analysis.used, neg(literal))?;
     for place in 0..analysis.todo.len() {
         let other = at(&analysis.todo, place, 0);
         if level_of(view.states, other) == 0 {
-            analysis.sure.push(other)?;
+            push(&mut analysis.sure, other)?;
         }
     }
     Ok(true)
 }
 
 /// Leaves out the literals of the clause that follow from the others.
-fn shorten<A: Allocator + Copy>(
-    analysis: &mut Analysis<A>,
-    view: &View<'_, A>,
-) -> Result<(), OutOfMemory> {
+fn shorten(analysis: &mut Analysis, view: &View<'_>) -> Result<(), OutOfMemory> {
     let mut kept: usize = 1;
     for place in 1..analysis.clause.len() {
         let literal = at(&analysis.clause, place, 0);
@@ -247,7 +229,7 @@ fn order_clause(clause: &mut [u32], states: &[Assigned]) -> u32 {
 }
 
 /// Forgets the last clause.
-fn clear<A: Allocator + Copy>(analysis: &mut Analysis<A>) {
+fn clear(analysis: &mut Analysis) {
     analysis.clause.clear();
     analysis.used.clear();
     analysis.sure.clear();
@@ -262,10 +244,10 @@ fn forget_met(is_met: &mut [bool], met: &[usize]) {
 
 /// Learns a clause from a conflict at the level, of whose literals `todo` are those that hold. It gives the level from which on the clause
 /// forces its first literal.
-pub(crate) fn learn<A: Allocator + Copy>(
-    analysis: &mut Analysis<A>,
-    heap: &mut Heap<A>,
-    view: &View<'_, A>,
+pub(crate) fn learn(
+    analysis: &mut Analysis,
+    heap: &mut Heap,
+    view: &View<'_>,
     trail: &[u32],
     level: u32,
 ) -> Result<u32, OutOfMemory> {
@@ -278,9 +260,9 @@ pub(crate) fn learn<A: Allocator + Copy>(
 }
 
 /// Reads the literals that hold and cannot all do, and gives the highest of their levels.
-pub(crate) fn read_conflict<A: Allocator + Copy>(
-    analysis: &mut Analysis<A>,
-    view: &View<'_, A>,
+pub(crate) fn read_conflict(
+    analysis: &mut Analysis,
+    view: &View<'_>,
     conflict: Conflict,
 ) -> Result<u32, OutOfMemory> {
     analysis.todo.clear();
@@ -294,10 +276,7 @@ pub(crate) fn read_conflict<A: Allocator + Copy>(
 }
 
 /// Of how many levels the literals of the clause are.
-pub(crate) fn count_levels<A: Allocator + Copy>(
-    analysis: &mut Analysis<A>,
-    states: &[Assigned],
-) -> u32 {
+pub(crate) fn count_levels(analysis: &mut Analysis, states: &[Assigned]) -> u32 {
     analysis.stamp = analysis.stamp.wrapping_add(1);
     let mut count: u32 = 0;
     for literal in analysis.clause.iter() {

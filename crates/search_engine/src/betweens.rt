@@ -8,7 +8,6 @@ use crate::known::{Antecedent, Conflict, Known, assign, value};
 use crate::literals::{FALSE, NONE, TRUE, at, neg, short};
 use crate::spans::{Span, before, span_of};
 use search_model::{Need, meets};
-use std::alloc::Allocator;
 
 /// The literal that the other row stands before that one, or that never holds, if that one is none, as of the opening.
 fn before_row(spans: &[Span], other: usize, row: u32) -> u32 {
@@ -21,12 +20,7 @@ fn before_row(spans: &[Span], other: usize, row: u32) -> u32 {
 
 /// The clause of a source and another writer of its cell: it is not the source, or the other one does not commit, does not stand before the
 /// reader, or stands before the source. Where the other one is the reader or the source it holds in any case.
-pub(crate) fn clause_of<A: Allocator + Copy>(
-    cells: &Cells<A>,
-    spans: &[Span],
-    source: u32,
-    writer: u32,
-) -> [u32; 4] {
+pub(crate) fn clause_of(cells: &Cells, spans: &[Span], source: u32, writer: u32) -> [u32; 4] {
     let found = at(&cells.sources, source as usize, NO_SOURCE);
     let reader = at(&cells.readers, found.reader as usize, NO_READER).row;
     let other = at(&cells.writers, writer as usize, NO_WRITER);
@@ -54,12 +48,7 @@ fn forced_by(values: &[i8], clause: &[u32]) -> u32 {
 }
 
 /// Follows the clause of the source and the other writer.
-fn follow<A: Allocator + Copy>(
-    known: &mut Known<A>,
-    source: u32,
-    writer: u32,
-    clause: &[u32; 4],
-) -> Option<Conflict> {
+fn follow(known: &mut Known, source: u32, writer: u32, clause: &[u32; 4]) -> Option<Conflict> {
     known.work = known.work.wrapping_add(1);
     let forced = forced_by(&known.values, clause);
     if forced == FALSE {
@@ -72,9 +61,9 @@ fn follow<A: Allocator + Copy>(
 }
 
 /// Looks at the clause of the source and the other writer.
-fn look_at<A: Allocator + Copy>(
-    known: &mut Known<A>,
-    cells: &Cells<A>,
+fn look_at(
+    known: &mut Known,
+    cells: &Cells,
     spans: &[Span],
     source: u32,
     writer: u32,
@@ -93,7 +82,7 @@ struct Window {
 }
 
 /// The writers of the source's cell that began before the reader ended, and when the source began.
-fn window_of<A: Allocator + Copy>(cells: &Cells<A>, spans: &[Span], source: u32) -> Window {
+fn window_of(cells: &Cells, spans: &[Span], source: u32) -> Window {
     let found = at(&cells.sources, source as usize, NO_SOURCE);
     let reader = at(&cells.readers, found.reader as usize, NO_READER);
     let cell = at(&cells.cells, reader.cell as usize, NO_CELL);
@@ -111,9 +100,9 @@ fn window_of<A: Allocator + Copy>(cells: &Cells<A>, spans: &[Span], source: u32)
 
 /// The source holds: no other writer stands between. Those are looked at from the last one on that began before the reader ended, as
 /// long as one may end after the source began.
-pub(crate) fn propagate_source<A: Allocator + Copy>(
-    known: &mut Known<A>,
-    cells: &Cells<A>,
+pub(crate) fn propagate_source(
+    known: &mut Known,
+    cells: &Cells,
     spans: &[Span],
     source: u32,
 ) -> Option<Conflict> {
@@ -153,9 +142,9 @@ fn writers_before(writers: &[Writer], cell: CellOf, row: usize) -> usize {
 }
 
 /// Looks at the sources of the reader that do not fail, beside the writer.
-fn propagate_reader<A: Allocator + Copy>(
-    known: &mut Known<A>,
-    cells: &Cells<A>,
+fn propagate_reader(
+    known: &mut Known,
+    cells: &Cells,
     spans: &[Span],
     reader: u32,
     writer: u32,
@@ -187,9 +176,9 @@ fn propagate_reader<A: Allocator + Copy>(
 }
 
 /// Looks at those that read from the one writer, beside the other writer.
-fn propagate_writers<A: Allocator + Copy>(
-    known: &mut Known<A>,
-    cells: &Cells<A>,
+fn propagate_writers(
+    known: &mut Known,
+    cells: &Cells,
     spans: &[Span],
     writer: u32,
     other: u32,
@@ -222,9 +211,9 @@ fn propagate_writers<A: Allocator + Copy>(
 }
 
 /// The one row stands before the other: looks at a cell that both touch.
-fn propagate_uses<A: Allocator + Copy>(
-    known: &mut Known<A>,
-    cells: &Cells<A>,
+fn propagate_uses(
+    known: &mut Known,
+    cells: &Cells,
     spans: &[Span],
     one: CellUse,
     other: CellUse,
@@ -251,9 +240,9 @@ fn may_meet(marks: &[Marks], row: usize, other: usize) -> bool {
 }
 
 /// The one row stands before the other: looks at the cells that both touch.
-pub(crate) fn propagate_pair<A: Allocator + Copy>(
-    known: &mut Known<A>,
-    cells: &Cells<A>,
+pub(crate) fn propagate_pair(
+    known: &mut Known,
+    cells: &Cells,
     spans: &[Span],
     row: usize,
     other: usize,
@@ -288,9 +277,9 @@ pub(crate) fn propagate_pair<A: Allocator + Copy>(
 }
 
 /// The row commits: looks at all readers of the cells that it writes.
-pub(crate) fn check_commits<A: Allocator + Copy>(
-    known: &mut Known<A>,
-    cells: &Cells<A>,
+pub(crate) fn check_commits(
+    known: &mut Known,
+    cells: &Cells,
     spans: &[Span],
     row: usize,
 ) -> Option<Conflict> {

@@ -3,10 +3,9 @@
 use crate::known::{Antecedent, Conflict, Known, assign, value};
 use crate::literals::{FALSE, at, neg, range, set, short, var};
 use crate::sums::{NO_SLACK, NO_SUM, NO_TERM, Slack, Sums, Term};
-use std::alloc::Allocator;
 
 /// The sum is to be looked at, if it does not wait yet.
-fn wake<A: Allocator>(slack: &mut Slack, waiting: &mut Vec<u32, A>, number: u32) {
+fn wake(slack: &mut Slack, waiting: &mut Vec<u32>, number: u32) {
     if !slack.waits && waiting.push(number).is_ok() {
         slack.waits = true;
     }
@@ -76,11 +75,7 @@ fn forget(term: &mut Term, slack: &mut Slack, holds: bool) {
 }
 
 /// The literal holds from now on, or no longer: the terms that it is in change.
-pub(crate) fn count_terms<A: Allocator + Copy>(
-    sums: &mut Sums<A>,
-    literal: u32,
-    is_new: bool,
-) -> usize {
+pub(crate) fn count_terms(sums: &mut Sums, literal: u32, is_new: bool) -> usize {
     let from = at(&sums.starts, var(literal), 0);
     let to = at(&sums.starts, var(literal).wrapping_add(1), 0);
     for used in range(&sums.occurrences, from as usize, to as usize) {
@@ -108,7 +103,7 @@ pub(crate) fn count_terms<A: Allocator + Copy>(
 }
 
 /// The sum is looked at where its guard comes to hold.
-pub(crate) fn wake_guarded<A: Allocator + Copy>(sums: &mut Sums<A>, number: u32) {
+pub(crate) fn wake_guarded(sums: &mut Sums, number: u32) {
     if let Some(slack) = sums.slacks.get_mut(number as usize) {
         wake(slack, &mut sums.waiting, number);
     }
@@ -127,7 +122,7 @@ fn only_open(values: &[i8], literals: [u32; 2]) -> u32 {
 }
 
 /// Forces what the term has to be: out, where it would take the sum past a bound, or in, where it is needed.
-fn force<A: Allocator + Copy>(known: &mut Known<A>, term: &Term, slack: Slack, number: u32) {
+fn force(known: &mut Known, term: &Term, slack: Slack, number: u32) {
     let gain = term.gain;
     let change = gain.saturating_abs();
     let (is_past, is_short) = (change > slack.below, change > slack.above);
@@ -153,11 +148,7 @@ fn force<A: Allocator + Copy>(known: &mut Known<A>, term: &Term, slack: Slack, n
 }
 
 /// Looks at the sum: whether it can be what is wanted, and what that forces.
-fn propagate_sum<A: Allocator + Copy>(
-    known: &mut Known<A>,
-    sums: &Sums<A>,
-    number: u32,
-) -> Option<Conflict> {
+fn propagate_sum(known: &mut Known, sums: &Sums, number: u32) -> Option<Conflict> {
     let sum = at(&sums.sums, number as usize, NO_SUM);
     let guard = value(&known.values, sum.guard);
     if guard == -1 {
@@ -192,10 +183,7 @@ fn propagate_sum<A: Allocator + Copy>(
 }
 
 /// Looks at the last sum that waits, if one does.
-pub(crate) fn propagate_waiting<A: Allocator + Copy>(
-    known: &mut Known<A>,
-    sums: &mut Sums<A>,
-) -> Option<Conflict> {
+pub(crate) fn propagate_waiting(known: &mut Known, sums: &mut Sums) -> Option<Conflict> {
     let number = sums.waiting.pop()?;
     if let Some(slack) = sums.slacks.get_mut(number as usize) {
         slack.waits = false;
@@ -204,7 +192,7 @@ pub(crate) fn propagate_waiting<A: Allocator + Copy>(
 }
 
 /// No sum waits any longer.
-pub(crate) fn clear_waiting<A: Allocator + Copy>(sums: &mut Sums<A>) {
+pub(crate) fn clear_waiting(sums: &mut Sums) {
     for number in sums.waiting.iter() {
         if let Some(slack) = sums.slacks.get_mut(*number as usize) {
             slack.waits = false;

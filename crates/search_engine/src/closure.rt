@@ -1,18 +1,18 @@
 //! Who stands before whom: with each pair all that follow from it.
 
 use crate::known::{Antecedent, Conflict, Known, assign, value};
-use crate::literals::{at, set, short};
+use crate::literals::{at, push, set, short};
 use crate::spans::{Span, before_by, span_of};
 use aud_event::OutOfMemory;
-use std::alloc::{Allocator, Global};
+use std::alloc::Global;
 
 /// For each row the rows after it and those before it, as bits.
 #[derive(Drop)]
-pub(crate) struct Closure<A: Allocator + Copy = Global> {
+pub(crate) struct Closure {
     /// How many words a row has.
     pub words: usize,
-    pub after: Vec<u64, A>,
-    pub before: Vec<u64, A>,
+    pub after: Vec<u64>,
+    pub before: Vec<u64>,
 }
 
 /// The bit of the row in that word of its bits.
@@ -45,17 +45,14 @@ pub(crate) fn is_before(after: &[u64], words: usize, row: usize, other: usize) -
 }
 
 /// The rows before and after each one by real time.
-pub(crate) fn close_spans<A: Allocator + Copy>(
-    alloc: A,
-    spans: &[Span],
-) -> Result<Closure<A>, OutOfMemory> {
+pub(crate) fn close_spans(alloc: Global, spans: &[Span]) -> Result<Closure, OutOfMemory> {
     let words = spans.len().div_ceil(64);
     let mut after = Vec::new(alloc);
     let mut earlier = Vec::new(alloc);
     for span in spans {
         for word in 0..words {
-            after.push(bits_from(span.end, word))?;
-            earlier.push(0)?;
+            push(&mut after, bits_from(span.end, word))?;
+            push(&mut earlier, 0)?;
         }
     }
     for row in 0..spans.len() {
@@ -103,9 +100,9 @@ fn fresh_in(bits: &[u64], words: usize, rows: (usize, usize), word: usize) -> u6
 }
 
 /// The row stands before the rows of the bits in that word. `through` are the two rows of the pair that this follows from.
-fn join_word<A: Allocator + Copy>(
-    known: &mut Known<A>,
-    closure: &mut Closure<A>,
+fn join_word(
+    known: &mut Known,
+    closure: &mut Closure,
     spans: &[Span],
     row: usize,
     through: (usize, usize),
@@ -145,9 +142,9 @@ fn join_word<A: Allocator + Copy>(
 }
 
 /// The row stands before the other, and before all that this one does: `through` are the two rows of the pair that all follows from.
-fn join<A: Allocator + Copy>(
-    known: &mut Known<A>,
-    closure: &mut Closure<A>,
+fn join(
+    known: &mut Known,
+    closure: &mut Closure,
     spans: &[Span],
     row: usize,
     through: (usize, usize),
@@ -167,9 +164,9 @@ fn join<A: Allocator + Copy>(
 }
 
 /// The one row stands before the other, and so do all that stand before it before all that the other stands before.
-pub(crate) fn close<A: Allocator + Copy>(
-    known: &mut Known<A>,
-    closure: &mut Closure<A>,
+pub(crate) fn close(
+    known: &mut Known,
+    closure: &mut Closure,
     spans: &[Span],
     row: usize,
     other: usize,
@@ -198,7 +195,7 @@ pub(crate) fn close<A: Allocator + Copy>(
 }
 
 /// The one row is no longer known to stand before the other.
-pub(crate) fn reopen<A: Allocator + Copy>(closure: &mut Closure<A>, row: usize, other: usize) {
+pub(crate) fn reopen(closure: &mut Closure, row: usize, other: usize) {
     let words = closure.words;
     set_bit(&mut closure.after, row.wrapping_mul(words), other, false);
     set_bit(&mut closure.before, other.wrapping_mul(words), row, false);

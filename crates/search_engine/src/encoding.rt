@@ -1,9 +1,9 @@
 //! What is asked of an order, as variables and clauses.
 
-use crate::literals::{FALSE, NONE, TRUE, set, short, var};
+use crate::literals::{FALSE, NONE, TRUE, extend_by, push, set, short, var};
 use crate::spans::Span;
 use aud_event::OutOfMemory;
-use std::alloc::{Allocator, Global};
+use std::alloc::Global;
 
 /// What a variable says.
 #[derive(Clone, Copy)]
@@ -42,17 +42,17 @@ pub(crate) enum Origin {
 
 /// The variables, by their numbers.
 #[derive(Drop)]
-pub(crate) struct Variables<A: Allocator + Copy = Global> {
-    pub roles: Vec<Role, A>,
+pub(crate) struct Variables {
+    pub roles: Vec<Role>,
     /// Whether it is tried first that it holds.
-    pub phases: Vec<bool, A>,
+    pub phases: Vec<bool>,
     /// Whether its value may be chosen, as something is asked of it.
-    pub choices: Vec<bool, A>,
+    pub choices: Vec<bool>,
 }
 
-impl<A: Allocator + Copy> Variables<A> {
+impl Variables {
     /// No variables. It does not allocate.
-    pub(crate) fn empty(alloc: A) -> Variables<A> {
+    pub(crate) fn empty(alloc: Global) -> Variables {
         Variables {
             roles: Vec::new(alloc),
             phases: Vec::new(alloc),
@@ -62,16 +62,16 @@ impl<A: Allocator + Copy> Variables<A> {
 }
 
 /// A new variable, as the literal that it holds.
-pub(crate) fn add_variable<A: Allocator + Copy>(
-    variables: &mut Variables<A>,
+pub(crate) fn add_variable(
+    variables: &mut Variables,
     role: Role,
     phase: bool,
     choices: bool,
 ) -> Result<u32, OutOfMemory> {
     let number = short(variables.roles.len());
-    variables.roles.push(role)?;
-    variables.phases.push(phase)?;
-    variables.choices.push(choices)?;
+    push(&mut variables.roles, role)?;
+    push(&mut variables.phases, phase)?;
+    push(&mut variables.choices, choices)?;
     Ok(number.wrapping_mul(2))
 }
 
@@ -83,10 +83,7 @@ pub(crate) fn ask(choices: &mut [bool], literal: u32) {
 }
 
 /// Adds the variables of the pairs that are open, and of the fates that are.
-pub(crate) fn add_pairs<A: Allocator + Copy>(
-    variables: &mut Variables<A>,
-    spans: &mut [Span],
-) -> Result<(), OutOfMemory> {
+pub(crate) fn add_pairs(variables: &mut Variables, spans: &mut [Span]) -> Result<(), OutOfMemory> {
     add_variable(variables, Role::Nothing, true, false)?;
     for row in 0..spans.len() {
         for other in row.wrapping_add(1)..spans[row].end {
@@ -119,19 +116,19 @@ pub(crate) const LITERALS: usize = 6;
 
 /// The clauses, one after the other in the words of an arena. A clause goes by the place of its first word.
 #[derive(Drop)]
-pub(crate) struct Clauses<A: Allocator + Copy = Global> {
-    pub arena: Vec<u32, A>,
+pub(crate) struct Clauses {
+    pub arena: Vec<u32>,
     /// The origins of those that are no learned ones.
-    pub origins: Vec<Origin, A>,
+    pub origins: Vec<Origin>,
     /// For each literal the first clause that watches it.
-    pub heads: Vec<u32, A>,
+    pub heads: Vec<u32>,
     /// The learned ones that are still there.
-    pub learned: Vec<u32, A>,
+    pub learned: Vec<u32>,
 }
 
-impl<A: Allocator + Copy> Clauses<A> {
+impl Clauses {
     /// No clauses. It does not allocate.
-    pub(crate) fn empty(alloc: A) -> Clauses<A> {
+    pub(crate) fn empty(alloc: Global) -> Clauses {
         Clauses {
             arena: Vec::new(alloc),
             origins: Vec::new(alloc),
@@ -142,8 +139,8 @@ impl<A: Allocator + Copy> Clauses<A> {
 }
 
 /// Puts the words of a clause at the end of the arena, and gives its place.
-pub(crate) fn append<A: Allocator + Copy>(
-    arena: &mut Vec<u32, A>,
+pub(crate) fn append(
+    arena: &mut Vec<u32>,
     literals: &[u32],
     levels: u32,
     origin: u32,
@@ -151,20 +148,16 @@ pub(crate) fn append<A: Allocator + Copy>(
 ) -> Result<u32, OutOfMemory> {
     let place = short(arena.len());
     let head = [short(literals.len()), levels, NONE, NONE, origin, step];
-    arena.extend_from_slice(&head)?;
-    arena.extend_from_slice(literals)?;
+    extend_by(arena, &head)?;
+    extend_by(arena, literals)?;
     Ok(place)
 }
 
 /// Puts the literals after the clause at the place that is the last one, those aside that fail in any case.
-fn extend<A: Allocator + Copy>(
-    arena: &mut Vec<u32, A>,
-    place: usize,
-    literals: &[u32],
-) -> Result<(), OutOfMemory> {
+fn extend(arena: &mut Vec<u32>, place: usize, literals: &[u32]) -> Result<(), OutOfMemory> {
     for literal in literals {
         if *literal != FALSE {
-            arena.push(*literal)?;
+            push(arena, *literal)?;
         }
     }
     let length = arena.len().wrapping_sub(place).wrapping_sub(LITERALS);
@@ -173,8 +166,8 @@ fn extend<A: Allocator + Copy>(
 }
 
 /// Adds the clause of different literals, if none of them holds in any case. Those that fail in any case are left out.
-pub(crate) fn add_clause<A: Allocator + Copy>(
-    clauses: &mut Clauses<A>,
+pub(crate) fn add_clause(
+    clauses: &mut Clauses,
     origin: Origin,
     literals: &[u32],
 ) -> Result<(), OutOfMemory> {
@@ -183,7 +176,7 @@ pub(crate) fn add_clause<A: Allocator + Copy>(
     }
     let number = short(clauses.origins.len());
     let place = clauses.arena.len();
-    clauses.origins.push(origin)?;
+    push(&mut clauses.origins, origin)?;
     append(&mut clauses.arena, &[], 0, number, NONE)?;
     extend(&mut clauses.arena, place, literals)
 }

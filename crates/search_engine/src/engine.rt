@@ -1,7 +1,7 @@
 //! The engine.
 
 use crate::encoding::Role;
-use crate::literals::{FALSE, NONE, at, fill, neg, set, short};
+use crate::literals::{FALSE, NONE, at, fill, neg, push, set, short};
 use crate::orders::{block, decisions_of, first_bad, order_of};
 use crate::problem::{Allowance, Problem};
 use crate::reading::{Encoded, read};
@@ -16,13 +16,13 @@ use aud_witness::Decision;
 use judge_clauses::{Reason, Refutation, Step};
 use judge_laws::{CellLaw, ObjectLaw, SumLaw};
 use search_model::Cell;
-use std::alloc::{Allocator, Global};
+use std::alloc::Global;
 
 /// What the engine came to: an order that it tried, steps that refute the history, or nothing within its effort.
 #[derive(Drop)]
-pub enum Solved<A: Allocator + Copy = Global> {
-    Order(Vec<Decision, A>),
-    Refuted(Refutation<ObjectLaw, A>),
+pub enum Solved {
+    Order(Vec<Decision>),
+    Refuted(Refutation<ObjectLaw>),
     Unknown,
 }
 
@@ -84,25 +84,17 @@ struct Ranked {
 }
 
 /// The rows in the order of their instants.
-fn sort_rows<A: Allocator + Copy>(
-    ranked: &mut Vec<Ranked, A>,
-    spans: &[Span],
-    twentieths: u64,
-) -> Result<(), OutOfMemory> {
+fn sort_rows(ranked: &mut Vec<Ranked>, spans: &[Span], twentieths: u64) -> Result<(), OutOfMemory> {
     for (row, found) in spans.iter().enumerate() {
         let key = instant(*found, twentieths);
-        ranked.push(Ranked { key, row })?;
+        push(ranked, Ranked { key, row })?;
     }
     ranked.sort_unstable();
     Ok(())
 }
 
 /// The rank of each row in the order of their instants.
-fn ranks_of<A: Allocator + Copy>(
-    alloc: A,
-    spans: &[Span],
-    twentieths: u64,
-) -> Result<Vec<usize, A>, OutOfMemory> {
+fn ranks_of(alloc: Global, spans: &[Span], twentieths: u64) -> Result<Vec<usize>, OutOfMemory> {
     let mut ranked = Vec::new(alloc);
     sort_rows(&mut ranked, spans, twentieths)?;
     let mut ranks = Vec::new(alloc);
@@ -132,11 +124,7 @@ fn far_literal(role: Role, spans: &[Span], ranks: &[usize], variable: usize, rea
 }
 
 /// Assumes that pairs of those that ended stand as in the order of the instants, if they stand so far apart in it.
-fn assume_near<A: Allocator + Copy>(
-    solver: &mut Solver<A>,
-    ranks: &[usize],
-    reach: usize,
-) -> Result<(), OutOfMemory> {
+fn assume_near(solver: &mut Solver, ranks: &[usize], reach: usize) -> Result<(), OutOfMemory> {
     let spans = &solver.problem.spans[..];
     let variables = &solver.problem.variables;
     for variable in 1..variables.roles.len() {
@@ -144,7 +132,7 @@ fn assume_near<A: Allocator + Copy>(
             let role = at(&variables.roles, variable, Role::Nothing);
             let literal = far_literal(role, spans, ranks, variable, reach);
             if literal != FALSE {
-                solver.assumed.push(literal)?;
+                push(&mut solver.assumed, literal)?;
             }
         }
     }
@@ -173,12 +161,12 @@ fn widen(nears: &mut [Near], place: usize, count: usize) {
 }
 
 /// Tries the order. If the trial refutes it, the search goes on without it, if it can.
-fn try_order<A: Allocator + Copy>(
-    alloc: A,
-    shape: &Shape<A>,
-    solver: &mut Solver<A>,
+fn try_order(
+    alloc: Global,
+    shape: &Shape,
+    solver: &mut Solver,
     order: &[usize],
-) -> Result<Tried<A>, OutOfMemory> {
+) -> Result<Tried, OutOfMemory> {
     let decisions = decisions_of(alloc, solver, order)?;
     let bad = first_bad(alloc, shape, &decisions)?;
     let Some(place) = bad else {
@@ -192,19 +180,15 @@ fn try_order<A: Allocator + Copy>(
 }
 
 /// Tries the order that the search found.
-fn try_found<A: Allocator + Copy>(
-    alloc: A,
-    shape: &Shape<A>,
-    solver: &mut Solver<A>,
-) -> Result<Tried<A>, OutOfMemory> {
+fn try_found(alloc: Global, shape: &Shape, solver: &mut Solver) -> Result<Tried, OutOfMemory> {
     let order = order_of(alloc, solver)?;
     try_order(alloc, shape, solver, &order)
 }
 
 /// What the trial of an order came to.
 #[derive(Drop)]
-enum Tried<A: Allocator + Copy> {
-    Good(Vec<Decision, A>),
+enum Tried {
+    Good(Vec<Decision>),
     Blocked,
     NoOrder,
 }
@@ -236,10 +220,10 @@ fn schedule_for(rows: usize) -> Schedule {
 }
 
 /// Assumes what the next restart does, and gives how many conflicts it may take, and the instant that it is near, if it is near one.
-fn begin_restart<A: Allocator + Copy>(
-    alloc: A,
+fn begin_restart(
+    alloc: Global,
     schedule: &mut Schedule,
-    solver: &mut Solver<A>,
+    solver: &mut Solver,
 ) -> Result<(u64, Option<usize>), OutOfMemory> {
     let restart = schedule.restart;
     schedule.restart = restart.wrapping_add(1);
@@ -262,11 +246,7 @@ fn begin_restart<A: Allocator + Copy>(
 }
 
 /// Searches within the effort, by at most so many conflicts more.
-fn search_on<A: Allocator + Copy>(
-    solver: &mut Solver<A>,
-    effort: Effort,
-    budget: u64,
-) -> Result<Found, OutOfMemory> {
+fn search_on(solver: &mut Solver, effort: Effort, budget: u64) -> Result<Found, OutOfMemory> {
     let conflicts = solver
         .conflicts
         .saturating_add(budget)
@@ -280,19 +260,19 @@ fn search_on<A: Allocator + Copy>(
 }
 
 /// Whether the effort is spent.
-fn is_over<A: Allocator + Copy>(solver: &Solver<A>, effort: Effort) -> bool {
+fn is_over(solver: &Solver, effort: Effort) -> bool {
     solver.conflicts >= effort.conflicts
         || solver.known.work >= effort.work
         || bytes_held(solver) > effort.bytes
 }
 
 /// Searches by restarts, plainly and near the orders of instants by turns. None where there is no order.
-fn search_by_restarts<A: Allocator + Copy>(
-    alloc: A,
-    shape: &Shape<A>,
-    solver: &mut Solver<A>,
+fn search_by_restarts(
+    alloc: Global,
+    shape: &Shape,
+    solver: &mut Solver,
     effort: Effort,
-) -> Result<Option<Solved<A>>, OutOfMemory> {
+) -> Result<Option<Solved>, OutOfMemory> {
     let rows = solver.problem.spans.len();
     let mut schedule = schedule_for(rows);
     for _ in 0..u64::MAX {
@@ -320,7 +300,7 @@ fn search_by_restarts<A: Allocator + Copy>(
 }
 
 /// The refutation that the search wrote down, if it did.
-fn refuted<A: Allocator + Copy>(alloc: A, solver: &Solver<A>) -> Result<Solved<A>, OutOfMemory> {
+fn refuted(alloc: Global, solver: &Solver) -> Result<Solved, OutOfMemory> {
     let found = refutation_of(alloc, &solver.problem, &solver.log.steps, solver.log.last)?;
     match found {
         Some(refutation) => Ok(Solved::Refuted(refutation)),
@@ -329,12 +309,7 @@ fn refuted<A: Allocator + Copy>(alloc: A, solver: &Solver<A>) -> Result<Solved<A
 }
 
 /// The law that the transaction breaks which contradicts itself on the cell.
-fn law_of_clash<A: Allocator + Copy>(
-    shape: &Shape<A>,
-    tx: u32,
-    object: u16,
-    cell: Cell,
-) -> ObjectLaw {
+fn law_of_clash(shape: &Shape, tx: u32, object: u16, cell: Cell) -> ObjectLaw {
     match shape.plan().object(usize::from(object)) {
         Some(decl) if decl.kind == ObjKind::Counter => ObjectLaw::Sum(SumLaw::Clash(tx, object)),
         _ => ObjectLaw::Cell(CellLaw::Clash(tx, object, cell)),
@@ -342,21 +317,21 @@ fn law_of_clash<A: Allocator + Copy>(
 }
 
 /// The refutation of a history by one law.
-fn refuted_by<A: Allocator + Copy>(alloc: A, law: ObjectLaw) -> Result<Solved<A>, OutOfMemory> {
+fn refuted_by(alloc: Global, law: ObjectLaw) -> Result<Solved, OutOfMemory> {
     let mut steps = Vec::new(alloc);
-    steps.push(Step::new(Vec::new(alloc), Reason::Law(law)))?;
+    push(&mut steps, Step::new(Vec::new(alloc), Reason::Law(law)))?;
     let atoms = Vec::new(alloc);
     Ok(Solved::Refuted(Refutation { atoms, steps }))
 }
 
 /// Searches, and gives the order that it found or the steps that it wrote down. None where there is no order, and nothing was written
 /// down of that.
-fn search_for<A: Allocator + Copy>(
-    alloc: A,
-    shape: &Shape<A>,
-    solver: &mut Solver<A>,
+fn search_for(
+    alloc: Global,
+    shape: &Shape,
+    solver: &mut Solver,
     effort: Effort,
-) -> Result<Option<Solved<A>>, OutOfMemory> {
+) -> Result<Option<Solved>, OutOfMemory> {
     prepare(solver)?;
     if begin(solver)? {
         let found = search_by_restarts(alloc, shape, solver, effort)?;
@@ -371,24 +346,24 @@ fn search_for<A: Allocator + Copy>(
 }
 
 /// Searches for an order of the problem.
-fn search_problem<A: Allocator + Copy>(
-    alloc: A,
-    shape: &Shape<A>,
-    problem: Problem<A>,
+fn search_problem(
+    alloc: Global,
+    shape: &Shape,
+    problem: Problem,
     effort: Effort,
     logs: bool,
-) -> Result<Option<Solved<A>>, OutOfMemory> {
+) -> Result<Option<Solved>, OutOfMemory> {
     let mut solver = solver_of(alloc, problem, logs)?;
     search_for(alloc, shape, &mut solver, effort)
 }
 
 /// Searches once, and writes its steps down, if that is asked for.
-fn search_once<A: Allocator + Copy>(
-    alloc: A,
-    shape: &Shape<A>,
+fn search_once(
+    alloc: Global,
+    shape: &Shape,
     effort: Effort,
     logs: bool,
-) -> Result<Option<Solved<A>>, OutOfMemory> {
+) -> Result<Option<Solved>, OutOfMemory> {
     let allowance = Allowance {
         work: 0,
         most: effort.work,
@@ -406,11 +381,7 @@ fn search_once<A: Allocator + Copy>(
 
 /// Searches for an order that shows the history, or for steps that refute it, within the effort. The order is tried; whoever needs it
 /// proved tries it again. Where the steps were not written down, the same search is made again.
-pub fn solve<A: Allocator + Copy>(
-    alloc: A,
-    shape: &Shape<A>,
-    effort: Effort,
-) -> Result<Solved<A>, OutOfMemory> {
+pub fn solve(alloc: Global, shape: &Shape, effort: Effort) -> Result<Solved, OutOfMemory> {
     if let Some(answer) = search_once(alloc, shape, effort, false)? {
         return Ok(answer);
     }

@@ -4,22 +4,21 @@ use crate::betweens::clause_of;
 use crate::cells::Cells;
 use crate::encoding::{LITERALS, Origin, Role};
 use crate::known::{Antecedent, Assigned, Conflict, Known, UNKNOWN, place_if, value};
-use crate::literals::{FALSE, NONE, TRUE, at, neg, range, var};
+use crate::literals::{FALSE, NONE, TRUE, at, neg, push, range, var};
 use crate::spans::{Span, before};
 use crate::sums::{NO_SUM, NO_TERM, Sum, Sums, Term};
 use aud_event::OutOfMemory;
-use std::alloc::Allocator;
 
 /// What explanations are read from.
 #[derive(Drop)]
-pub(crate) struct View<'a, A: Allocator + Copy> {
+pub(crate) struct View<'a> {
     pub values: &'a [i8],
     pub states: &'a [Assigned],
     pub arena: &'a [u32],
     pub origins: &'a [Origin],
     pub roles: &'a [Role],
     pub spans: &'a [Span],
-    pub cells: &'a Cells<A>,
+    pub cells: &'a Cells,
     pub sums: &'a [Sum],
     pub terms: &'a [Term],
 }
@@ -33,14 +32,10 @@ pub(crate) struct Contribution {
 }
 
 /// Adds the opposites of the clause's literals other than the forced one. They hold.
-fn add_others<A: Allocator + Copy>(
-    literals: &[u32],
-    forced: u32,
-    out: &mut Vec<u32, A>,
-) -> Result<(), OutOfMemory> {
+fn add_others(literals: &[u32], forced: u32, out: &mut Vec<u32>) -> Result<(), OutOfMemory> {
     for literal in literals {
         if *literal != forced && var(*literal) != 0 {
-            out.push(neg(*literal))?;
+            push(out, neg(*literal))?;
         }
     }
     Ok(())
@@ -69,17 +64,17 @@ pub(crate) fn pair_of(roles: &[Role], literal: u32) -> Option<(usize, usize)> {
 }
 
 /// The literals of a circle over the pair, but for the one that the first row stands before the last.
-fn add_circle<A: Allocator + Copy>(
+fn add_circle(
     spans: &[Span],
     ends: (usize, usize),
     pair: (usize, usize),
-    out: &mut Vec<u32, A>,
+    out: &mut Vec<u32>,
 ) -> Result<(), OutOfMemory> {
     let steps = [(ends.0, pair.0), pair, (pair.1, ends.1)];
     for (row, other) in &steps {
         let literal = before(spans, *row, *other);
         if *row != *other && literal != TRUE {
-            out.push(literal)?;
+            push(out, literal)?;
         }
     }
     Ok(())
@@ -104,52 +99,48 @@ fn contributes_at(values: &[i8], states: &[Assigned], term: &Term, rises: bool) 
 }
 
 /// Adds the literals by which the term contributes.
-fn add_contribution<A: Allocator + Copy>(
+fn add_contribution(
     values: &[i8],
     states: &[Assigned],
     term: &Term,
     rises: bool,
-    out: &mut Vec<u32, A>,
+    out: &mut Vec<u32>,
 ) -> Result<(), OutOfMemory> {
     let [first, second] = term.literals;
     if rises {
         for literal in &term.literals {
             if *literal != TRUE {
-                out.push(*literal)?;
+                push(out, *literal)?;
             }
         }
         return Ok(());
     }
     let one = place_if(values, states, first, -1);
     let other = place_if(values, states, second, -1);
-    out.push(neg(if one <= other { first } else { second }))?;
+    push(out, neg(if one <= other { first } else { second }))?;
     Ok(())
 }
 
 /// Adds the literal of the term beside that one, unless it holds in any case.
-fn add_partner<A: Allocator + Copy>(
-    literals: [u32; 2],
-    one: u32,
-    out: &mut Vec<u32, A>,
-) -> Result<(), OutOfMemory> {
+fn add_partner(literals: [u32; 2], one: u32, out: &mut Vec<u32>) -> Result<(), OutOfMemory> {
     let [first, second] = literals;
     let other = if first == one { second } else { first };
     if other != TRUE {
-        out.push(other)?;
+        push(out, other)?;
     }
     Ok(())
 }
 
 /// Finds the terms that contribute to the bound before the limit, the forced literal's own term aside, whose other literal is added. It gives
 /// what the contributions have to add up to so that the bound is crossed.
-fn find_contributions<A: Allocator + Copy>(
-    view: &View<'_, A>,
+fn find_contributions(
+    view: &View<'_>,
     sum: &Sum,
     is_low: bool,
     forced: u32,
     limit: u32,
-    contributions: &mut Vec<Contribution, A>,
-    out: &mut Vec<u32, A>,
+    contributions: &mut Vec<Contribution>,
+    out: &mut Vec<u32>,
 ) -> Result<i64, OutOfMemory> {
     let sign: i64 = if is_low { 1 } else { -1 };
     let mut lacks = sum.wanted.wrapping_mul(sign).wrapping_add(1);
@@ -174,11 +165,14 @@ fn find_contributions<A: Allocator + Copy>(
         let came = contributes_at(view.values, view.states, &term, rises);
         if came < limit {
             let gain = gain.wrapping_abs();
-            contributions.push(Contribution {
-                place: came,
-                gain,
-                term: place,
-            })?;
+            push(
+                contributions,
+                Contribution {
+                    place: came,
+                    gain,
+                    term: place,
+                },
+            )?;
         }
     }
     Ok(lacks)
@@ -186,14 +180,14 @@ fn find_contributions<A: Allocator + Copy>(
 
 /// The literals that force the least of the sum above what is wanted, or the greatest below it, before the limit: the earliest ones that
 /// suffice. The forced literal, if there is one, is no part of them.
-pub(crate) fn add_bound<A: Allocator + Copy>(
-    view: &View<'_, A>,
+pub(crate) fn add_bound(
+    view: &View<'_>,
     number: u32,
     is_low: bool,
     forced: u32,
     limit: u32,
-    contributions: &mut Vec<Contribution, A>,
-    out: &mut Vec<u32, A>,
+    contributions: &mut Vec<Contribution>,
+    out: &mut Vec<u32>,
 ) -> Result<(), OutOfMemory> {
     let sum = at(view.sums, number as usize, NO_SUM);
     contributions.clear();
@@ -214,17 +208,17 @@ pub(crate) fn add_bound<A: Allocator + Copy>(
         )?;
     }
     if sum.guard != TRUE && forced != neg(sum.guard) {
-        out.push(sum.guard)?;
+        push(out, sum.guard)?;
     }
     Ok(())
 }
 
 /// Adds the literals that force this one.
-pub(crate) fn explain<A: Allocator + Copy>(
-    view: &View<'_, A>,
+pub(crate) fn explain(
+    view: &View<'_>,
     literal: u32,
-    contributions: &mut Vec<Contribution, A>,
-    out: &mut Vec<u32, A>,
+    contributions: &mut Vec<Contribution>,
+    out: &mut Vec<u32>,
 ) -> Result<(), OutOfMemory> {
     let state = at(view.states, var(literal), UNKNOWN);
     match state.antecedent {
@@ -260,18 +254,18 @@ pub(crate) fn explain<A: Allocator + Copy>(
 }
 
 /// Adds the literals that hold, and cannot all do.
-pub(crate) fn explain_conflict<A: Allocator + Copy>(
-    view: &View<'_, A>,
+pub(crate) fn explain_conflict(
+    view: &View<'_>,
     conflict: Conflict,
-    contributions: &mut Vec<Contribution, A>,
-    out: &mut Vec<u32, A>,
+    contributions: &mut Vec<Contribution>,
+    out: &mut Vec<u32>,
 ) -> Result<(), OutOfMemory> {
     match conflict {
         Conflict::Clause(clause) => add_others(literals_of(view.arena, clause), FALSE, out),
         Conflict::Circle(row, from, to, other) => {
             let literal = before(view.spans, other, row);
             if row != other && literal != TRUE {
-                out.push(literal)?;
+                push(out, literal)?;
             }
             add_circle(view.spans, (row, other), (from, to), out)
         }

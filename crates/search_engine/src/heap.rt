@@ -3,23 +3,23 @@
 
 use crate::literals::{NONE, at, fill, set, short};
 use aud_event::OutOfMemory;
-use std::alloc::{Allocator, Global};
+use std::alloc::Global;
 
 /// A heap of variables by their weights.
 #[derive(Drop)]
-pub(crate) struct Heap<A: Allocator + Copy = Global> {
-    pub weights: Vec<f64, A>,
+pub(crate) struct Heap {
+    pub weights: Vec<f64>,
     /// What a conflict weighs now.
     pub step: f64,
-    heap: Vec<u32, A>,
+    heap: Vec<u32>,
     count: usize,
     /// Where in the heap each variable stands, or none.
-    places: Vec<u32, A>,
+    places: Vec<u32>,
 }
 
-impl<A: Allocator + Copy> Heap<A> {
+impl Heap {
     /// Of no variables. It does not allocate.
-    pub(crate) fn empty(alloc: A) -> Heap<A> {
+    pub(crate) fn empty(alloc: Global) -> Heap {
         Heap {
             weights: Vec::new(alloc),
             step: 1.0,
@@ -31,10 +31,7 @@ impl<A: Allocator + Copy> Heap<A> {
 }
 
 /// Room for so many variables.
-pub(crate) fn make_heap<A: Allocator + Copy>(
-    heap: &mut Heap<A>,
-    count: usize,
-) -> Result<(), OutOfMemory> {
+pub(crate) fn make_heap(heap: &mut Heap, count: usize) -> Result<(), OutOfMemory> {
     fill(&mut heap.weights, count, 0.0)?;
     fill(&mut heap.heap, count, 0)?;
     fill(&mut heap.places, count, NONE)
@@ -97,7 +94,7 @@ fn sink(weights: &[f64], heap: &mut [u32], places: &mut [u32], count: usize) {
 }
 
 /// Adds the variable, if it is not there.
-pub(crate) fn insert<A: Allocator + Copy>(heap: &mut Heap<A>, variable: usize) {
+pub(crate) fn insert(heap: &mut Heap, variable: usize) {
     if at(&heap.places, variable, 0) == NONE {
         set(&mut heap.heap, heap.count, short(variable));
         rise(&heap.weights, &mut heap.heap, &mut heap.places, heap.count);
@@ -106,7 +103,7 @@ pub(crate) fn insert<A: Allocator + Copy>(heap: &mut Heap<A>, variable: usize) {
 }
 
 /// The heaviest variable.
-pub(crate) fn heaviest<A: Allocator + Copy>(heap: &Heap<A>) -> Option<u32> {
+pub(crate) fn heaviest(heap: &Heap) -> Option<u32> {
     if heap.count == 0 {
         None
     } else {
@@ -115,7 +112,7 @@ pub(crate) fn heaviest<A: Allocator + Copy>(heap: &Heap<A>) -> Option<u32> {
 }
 
 /// Takes the heaviest variable.
-pub(crate) fn take_heaviest<A: Allocator + Copy>(heap: &mut Heap<A>) -> Option<u32> {
+pub(crate) fn take_heaviest(heap: &mut Heap) -> Option<u32> {
     if heap.count == 0 {
         return None;
     }
@@ -131,7 +128,7 @@ pub(crate) fn take_heaviest<A: Allocator + Copy>(heap: &mut Heap<A>) -> Option<u
 }
 
 /// All weights, and the step, become so much less.
-fn scale<A: Allocator + Copy>(heap: &mut Heap<A>) {
+fn scale(heap: &mut Heap) {
     for weight in heap.weights.iter_mut() {
         *weight *= 1e-100;
     }
@@ -139,7 +136,7 @@ fn scale<A: Allocator + Copy>(heap: &mut Heap<A>) {
 }
 
 /// A conflict was about the variable.
-pub(crate) fn bump<A: Allocator + Copy>(heap: &mut Heap<A>, variable: usize) {
+pub(crate) fn bump(heap: &mut Heap, variable: usize) {
     let now = at(&heap.weights, variable, 0.0) + heap.step;
     set(&mut heap.weights, variable, now);
     if now > 1e100 {

@@ -2,7 +2,7 @@
 
 use crate::literals::{FALSE, NONE, TRUE, at, fill, neg, set, short, var};
 use aud_event::OutOfMemory;
-use std::alloc::{Allocator, Global};
+use std::alloc::Global;
 
 /// Why a literal holds.
 #[derive(Clone, Copy)]
@@ -45,24 +45,24 @@ pub(crate) enum Conflict {
 
 /// The literals that hold, in the order in which they came to.
 #[derive(Drop)]
-pub(crate) struct Known<A: Allocator + Copy = Global> {
+pub(crate) struct Known {
     /// Of each literal 1 if it holds, -1 if it fails, and else 0.
-    pub values: Vec<i8, A>,
-    pub states: Vec<Assigned, A>,
-    pub trail: Vec<u32, A>,
+    pub values: Vec<i8>,
+    pub states: Vec<Assigned>,
+    pub trail: Vec<u32>,
     pub count: usize,
     /// How many of them were followed by clauses, and by the rest.
     pub seen: usize,
     pub propagated: usize,
     /// Where each level begins.
-    pub levels: Vec<usize, A>,
+    pub levels: Vec<usize>,
     /// The work that was done.
     pub work: u64,
 }
 
-impl<A: Allocator + Copy> Known<A> {
+impl Known {
     /// Nothing is known. It does not allocate.
-    pub(crate) fn empty(alloc: A) -> Known<A> {
+    pub(crate) fn empty(alloc: Global) -> Known {
         Known {
             values: Vec::new(alloc),
             states: Vec::new(alloc),
@@ -77,10 +77,7 @@ impl<A: Allocator + Copy> Known<A> {
 }
 
 /// Room for so many variables.
-pub(crate) fn make_room<A: Allocator + Copy>(
-    known: &mut Known<A>,
-    count: usize,
-) -> Result<(), OutOfMemory> {
+pub(crate) fn make_room(known: &mut Known, count: usize) -> Result<(), OutOfMemory> {
     fill(&mut known.values, count.saturating_mul(2), 0)?;
     fill(&mut known.states, count, UNKNOWN)?;
     fill(&mut known.trail, count, TRUE)?;
@@ -95,11 +92,7 @@ pub(crate) fn value(values: &[i8], literal: u32) -> i8 {
 }
 
 /// The literal holds from now on.
-pub(crate) fn assign<A: Allocator + Copy>(
-    known: &mut Known<A>,
-    literal: u32,
-    antecedent: Antecedent,
-) {
+pub(crate) fn assign(known: &mut Known, literal: u32, antecedent: Antecedent) {
     set(&mut known.values, literal as usize, 1);
     set(&mut known.values, neg(literal) as usize, -1);
     let state = Assigned {

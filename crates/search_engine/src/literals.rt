@@ -1,7 +1,6 @@
 //! Literals as numbers, and items of lists by their places, where a place may be none.
 
 use aud_event::OutOfMemory;
-use std::alloc::Allocator;
 
 /// The literal that always holds, and the one that never does.
 pub(crate) const TRUE: u32 = 0;
@@ -53,14 +52,26 @@ pub(crate) fn short(number: usize) -> u32 {
     }
 }
 
+/// Puts the item at the end. One function meets the refusal for all lists, so the others are proved faster.
+pub(crate) fn push<T: Drop>(items: &mut Vec<T>, item: T) -> Result<(), OutOfMemory> {
+    items.push(item)?;
+    Ok(())
+}
+
+/// Puts the items at the end.
+pub(crate) fn extend_by<T: Copy>(items: &mut Vec<T>, more: &[T]) -> Result<(), OutOfMemory> {
+    items.extend_from_slice(more)?;
+    Ok(())
+}
+
 /// Makes the list so long, with the item at the places that are new.
-pub(crate) fn fill<T: Copy + Drop, A: Allocator>(
-    items: &mut Vec<T, A>,
+pub(crate) fn fill<T: Copy + Drop>(
+    items: &mut Vec<T>,
     count: usize,
     item: T,
 ) -> Result<(), OutOfMemory> {
     for _ in items.len()..count {
-        items.push(item)?;
+        push(items, item)?;
     }
     Ok(())
 }

@@ -4,10 +4,10 @@ use crate::analysis::Analysis;
 use crate::encoding::{ORIGIN, Origin, STEP};
 use crate::explanation::{Contribution, View, explain, literals_of, pair_of};
 use crate::known::{Antecedent, Conflict, UNKNOWN};
-use crate::literals::{NONE, at, fill, neg, range, set, short, var};
+use crate::literals::{NONE, at, extend_by, fill, neg, push, range, set, short, var};
 use crate::sums::NO_SUM;
 use aud_event::OutOfMemory;
-use std::alloc::{Allocator, Global};
+use std::alloc::Global;
 
 /// What a step follows from: its origin alone, or the steps that the hints between these places name.
 #[derive(Clone, Copy)]
@@ -32,10 +32,10 @@ pub(crate) const NOT_LOGGED: Logged = Logged {
 
 /// The steps, with their literals and hints.
 #[derive(Drop)]
-pub(crate) struct StepLog<A: Allocator + Copy = Global> {
-    pub steps: Vec<Logged, A>,
-    pub literals: Vec<u32, A>,
-    pub hints: Vec<u32, A>,
+pub(crate) struct StepLog {
+    pub steps: Vec<Logged>,
+    pub literals: Vec<u32>,
+    pub hints: Vec<u32>,
 }
 
 /// A literal or a step by the place of the trail that it is about.
@@ -52,25 +52,25 @@ const NOT_PLACED: Placed = Placed {
 
 /// What is written down of a search, if anything is.
 #[derive(Drop)]
-pub(crate) struct Log<A: Allocator + Copy = Global> {
+pub(crate) struct Log {
     pub is_on: bool,
-    pub steps: StepLog<A>,
+    pub steps: StepLog,
     /// The step of the last conflict.
     pub last: u32,
     /// For each origin of a clause the step that gives it; for each variable the step that gives the literal which holds in any case, and
     /// the last step that it was forced by.
-    origins: Vec<u32, A>,
-    units: Vec<u32, A>,
-    forced: Vec<u32, A>,
-    is_needed: Vec<bool, A>,
-    needed: Vec<Placed, A>,
-    todo: Vec<u32, A>,
-    clause: Vec<u32, A>,
+    origins: Vec<u32>,
+    units: Vec<u32>,
+    forced: Vec<u32>,
+    is_needed: Vec<bool>,
+    needed: Vec<Placed>,
+    todo: Vec<u32>,
+    clause: Vec<u32>,
 }
 
-impl<A: Allocator + Copy> Log<A> {
+impl Log {
     /// Without a step; steps are noted where it is on. It does not allocate.
-    pub(crate) fn empty(alloc: A, is_on: bool) -> Log<A> {
+    pub(crate) fn empty(alloc: Global, is_on: bool) -> Log {
         Log {
             is_on,
             steps: StepLog {
@@ -91,11 +91,7 @@ impl<A: Allocator + Copy> Log<A> {
 }
 
 /// Room for so many variables and origins.
-pub(crate) fn make_log<A: Allocator + Copy>(
-    log: &mut Log<A>,
-    variables: usize,
-    origins: usize,
-) -> Result<(), OutOfMemory> {
+pub(crate) fn make_log(log: &mut Log, variables: usize, origins: usize) -> Result<(), OutOfMemory> {
     fill(&mut log.origins, origins, NONE)?;
     fill(&mut log.units, variables, NONE)?;
     fill(&mut log.forced, variables, NONE)?;
@@ -103,31 +99,27 @@ pub(crate) fn make_log<A: Allocator + Copy>(
 }
 
 /// How many bytes the steps take, about.
-pub(crate) fn bytes_logged<A: Allocator + Copy>(steps: &StepLog<A>) -> usize {
+pub(crate) fn bytes_logged(steps: &StepLog) -> usize {
     let words = steps.literals.len().saturating_add(steps.hints.len());
     let heads = steps.steps.len().saturating_mul(48);
     words.saturating_mul(4).saturating_add(heads)
 }
 
 /// Adds a step, and gives its number.
-fn add_step<A: Allocator + Copy>(
-    steps: &mut StepLog<A>,
-    literals: &[u32],
-    why: Why,
-) -> Result<u32, OutOfMemory> {
+fn add_step(steps: &mut StepLog, literals: &[u32], why: Why) -> Result<u32, OutOfMemory> {
     let number = short(steps.steps.len());
     let from = steps.literals.len();
-    steps.literals.extend_from_slice(literals)?;
+    extend_by(&mut steps.literals, literals)?;
     let to = steps.literals.len();
-    steps.steps.push(Logged { from, to, why })?;
+    push(&mut steps.steps, Logged { from, to, why })?;
     Ok(number)
 }
 
 /// The step that gives the clause.
-fn step_of_clause<A: Allocator + Copy>(
-    steps: &mut StepLog<A>,
+fn step_of_clause(
+    steps: &mut StepLog,
     origins: &mut [u32],
-    view: &View<'_, A>,
+    view: &View<'_>,
     clause: u32,
 ) -> Result<u32, OutOfMemory> {
     let place = clause as usize;
@@ -146,11 +138,7 @@ fn step_of_clause<A: Allocator + Copy>(
 }
 
 /// Why the literals force this one, where no clause does.
-fn origin_of<A: Allocator + Copy>(
-    view: &View<'_, A>,
-    literal: u32,
-    antecedent: Antecedent,
-) -> Origin {
+fn origin_of(view: &View<'_>, literal: u32, antecedent: Antecedent) -> Origin {
     match antecedent {
         Antecedent::Circle(row, other) => match pair_of(view.roles, literal) {
             Some((first, last)) => Origin::Circle(short(first), row, other, short(last)),
@@ -163,7 +151,7 @@ fn origin_of<A: Allocator + Copy>(
 }
 
 /// Whether the step has these literals.
-fn is_step<A: Allocator + Copy>(steps: &StepLog<A>, number: u32, literals: &[u32]) -> bool {
+fn is_step(steps: &StepLog, number: u32, literals: &[u32]) -> bool {
     match steps.steps.get(number as usize) {
         Some(step) => *range(&steps.literals, step.from, step.to) == *literals,
         None => false,
@@ -178,24 +166,24 @@ fn turn_all(literals: &mut [u32]) {
 }
 
 /// Puts the literals to the clause by which they force this one.
-fn make_clause<A: Allocator + Copy>(
-    clause: &mut Vec<u32, A>,
-    view: &View<'_, A>,
-    contributions: &mut Vec<Contribution, A>,
+fn make_clause(
+    clause: &mut Vec<u32>,
+    view: &View<'_>,
+    contributions: &mut Vec<Contribution>,
     literal: u32,
 ) -> Result<(), OutOfMemory> {
     clause.clear();
     explain(view, literal, contributions, clause)?;
     turn_all(clause);
-    clause.push(literal)?;
+    push(clause, literal)?;
     Ok(())
 }
 
 /// The step whose clause forced the literal. If it is the same as when one was last made of it, that one is taken.
-fn step_of<A: Allocator + Copy>(
-    log: &mut Log<A>,
-    view: &View<'_, A>,
-    contributions: &mut Vec<Contribution, A>,
+fn step_of(
+    log: &mut Log,
+    view: &View<'_>,
+    contributions: &mut Vec<Contribution>,
     literal: u32,
 ) -> Result<u32, OutOfMemory> {
     let antecedent = at(view.states, var(literal), UNKNOWN).antecedent;
@@ -214,7 +202,7 @@ fn step_of<A: Allocator + Copy>(
 }
 
 /// Why the conflict cannot be, if it is of no clause.
-fn origin_of_conflict<A: Allocator + Copy>(view: &View<'_, A>, conflict: Conflict) -> Origin {
+fn origin_of_conflict(view: &View<'_>, conflict: Conflict) -> Origin {
     match conflict {
         Conflict::Clause(_) => Origin::Tried,
         Conflict::Circle(row, from, to, other) => {
@@ -226,9 +214,9 @@ fn origin_of_conflict<A: Allocator + Copy>(view: &View<'_, A>, conflict: Conflic
 }
 
 /// Notes the step of what cannot be. The literals are those that hold and cannot all do.
-pub(crate) fn log_conflict<A: Allocator + Copy>(
-    log: &mut Log<A>,
-    view: &View<'_, A>,
+pub(crate) fn log_conflict(
+    log: &mut Log,
+    view: &View<'_>,
     conflict: Conflict,
     literals: &[u32],
 ) -> Result<(), OutOfMemory> {
@@ -237,7 +225,7 @@ pub(crate) fn log_conflict<A: Allocator + Copy>(
         return Ok(());
     }
     log.clause.clear();
-    log.clause.extend_from_slice(literals)?;
+    extend_by(&mut log.clause, literals)?;
     turn_all(&mut log.clause);
     let why = Why::Origin(origin_of_conflict(view, conflict));
     log.last = add_step(&mut log.steps, &log.clause, why)?;
@@ -245,7 +233,7 @@ pub(crate) fn log_conflict<A: Allocator + Copy>(
 }
 
 /// Takes the next literal of which no step is needed yet, and notes that one is.
-fn take_needed<A: Allocator + Copy>(todo: &mut Vec<u32, A>, is_needed: &mut [bool]) -> Option<u32> {
+fn take_needed(todo: &mut Vec<u32>, is_needed: &mut [bool]) -> Option<u32> {
     for _ in 0..todo.len() {
         let literal = todo.pop()?;
         if var(literal) != 0 && !at(is_needed, var(literal), true) {
@@ -264,21 +252,21 @@ fn forget_needed(needed: &[Placed], is_needed: &mut [bool]) {
 }
 
 /// Finds what the literals need that hold in any case, themselves too, as far as no step gives it yet; in the order of the trail.
-fn find_needed<A: Allocator + Copy>(
-    log: &mut Log<A>,
-    view: &View<'_, A>,
-    contributions: &mut Vec<Contribution, A>,
+fn find_needed(
+    log: &mut Log,
+    view: &View<'_>,
+    contributions: &mut Vec<Contribution>,
     literals: &[u32],
 ) -> Result<(), OutOfMemory> {
     log.needed.clear();
     log.todo.clear();
-    log.todo.extend_from_slice(literals)?;
+    extend_by(&mut log.todo, literals)?;
     for _ in 0..u64::MAX {
         let Some(number) = take_needed(&mut log.todo, &mut log.is_needed) else {
             break;
         };
         let place = at(view.states, var(number), UNKNOWN).place;
-        log.needed.push(Placed { place, number })?;
+        push(&mut log.needed, Placed { place, number })?;
         if at(&log.units, var(number), NONE) == NONE {
             explain(view, number, contributions, &mut log.todo)?;
         }
@@ -289,10 +277,10 @@ fn find_needed<A: Allocator + Copy>(
 }
 
 /// Adds the step that the literal holds in any case, which follows from the step that forced it and from earlier such ones.
-fn log_unit<A: Allocator + Copy>(
-    log: &mut Log<A>,
-    view: &View<'_, A>,
-    contributions: &mut Vec<Contribution, A>,
+fn log_unit(
+    log: &mut Log,
+    view: &View<'_>,
+    contributions: &mut Vec<Contribution>,
     literal: u32,
 ) -> Result<(), OutOfMemory> {
     let step = step_of(log, view, contributions, literal)?;
@@ -300,11 +288,11 @@ fn log_unit<A: Allocator + Copy>(
     log.clause.clear();
     explain(view, literal, contributions, &mut log.clause)?;
     for other in log.clause.iter() {
-        log.steps.hints.push(at(&log.units, var(*other), NONE))?;
+        push(&mut log.steps.hints, at(&log.units, var(*other), NONE))?;
     }
     let mut number = step;
     if !log.clause.is_empty() {
-        log.steps.hints.push(step)?;
+        push(&mut log.steps.hints, step)?;
         let to = log.steps.hints.len();
         number = add_step(&mut log.steps, &[literal], Why::Units(from, to))?;
     }
@@ -313,10 +301,10 @@ fn log_unit<A: Allocator + Copy>(
 }
 
 /// Adds the steps that the literals hold in any case.
-fn log_units<A: Allocator + Copy>(
-    log: &mut Log<A>,
-    view: &View<'_, A>,
-    contributions: &mut Vec<Contribution, A>,
+fn log_units(
+    log: &mut Log,
+    view: &View<'_>,
+    contributions: &mut Vec<Contribution>,
     literals: &[u32],
 ) -> Result<(), OutOfMemory> {
     find_needed(log, view, contributions, literals)?;
@@ -330,11 +318,11 @@ fn log_units<A: Allocator + Copy>(
 }
 
 /// Puts the steps that give the literals to the hints, each once.
-fn push_units<A: Allocator + Copy>(log: &mut Log<A>, sure: &[u32]) -> Result<(), OutOfMemory> {
+fn push_units(log: &mut Log, sure: &[u32]) -> Result<(), OutOfMemory> {
     for literal in sure {
         if !at(&log.is_needed, var(*literal), true) {
             set(&mut log.is_needed, var(*literal), true);
-            log.steps.hints.push(at(&log.units, var(*literal), NONE))?;
+            push(&mut log.steps.hints, at(&log.units, var(*literal), NONE))?;
         }
     }
     for literal in sure {
@@ -344,17 +332,17 @@ fn push_units<A: Allocator + Copy>(log: &mut Log<A>, sure: &[u32]) -> Result<(),
 }
 
 /// The steps that forced the literals, in the order of the trail.
-fn find_steps<A: Allocator + Copy>(
-    log: &mut Log<A>,
-    view: &View<'_, A>,
-    contributions: &mut Vec<Contribution, A>,
+fn find_steps(
+    log: &mut Log,
+    view: &View<'_>,
+    contributions: &mut Vec<Contribution>,
     literals: &[u32],
 ) -> Result<(), OutOfMemory> {
     log.needed.clear();
     for literal in literals {
         let number = step_of(log, view, contributions, *literal)?;
         let place = at(view.states, var(*literal), UNKNOWN).place;
-        log.needed.push(Placed { place, number })?;
+        push(&mut log.needed, Placed { place, number })?;
     }
     log.needed.sort_unstable();
     Ok(())
@@ -362,26 +350,26 @@ fn find_steps<A: Allocator + Copy>(
 
 /// Adds the step of a learned clause: it follows from those that give what holds in any case, from those that forced the literals that
 /// were used, and from the last conflict.
-pub(crate) fn log_learned<A: Allocator + Copy>(
-    log: &mut Log<A>,
-    view: &View<'_, A>,
-    analysis: &mut Analysis<A>,
+pub(crate) fn log_learned(
+    log: &mut Log,
+    view: &View<'_>,
+    analysis: &mut Analysis,
 ) -> Result<u32, OutOfMemory> {
     log_units(log, view, &mut analysis.contributions, &analysis.sure)?;
     find_steps(log, view, &mut analysis.contributions, &analysis.used)?;
     let from = log.steps.hints.len();
     push_units(log, &analysis.sure)?;
     push_needed(&mut log.steps.hints, &log.needed)?;
-    log.steps.hints.push(log.last)?;
+    push(&mut log.steps.hints, log.last)?;
     let to = log.steps.hints.len();
     add_step(&mut log.steps, &analysis.clause, Why::Units(from, to))
 }
 
 /// The steps that give or force the literals that are needed, in their place.
-fn find_last_steps<A: Allocator + Copy>(
-    log: &mut Log<A>,
-    view: &View<'_, A>,
-    contributions: &mut Vec<Contribution, A>,
+fn find_last_steps(
+    log: &mut Log,
+    view: &View<'_>,
+    contributions: &mut Vec<Contribution>,
 ) -> Result<(), OutOfMemory> {
     for place in 0..log.needed.len() {
         let mut found = at(&log.needed, place, NOT_PLACED);
@@ -397,21 +385,18 @@ fn find_last_steps<A: Allocator + Copy>(
 }
 
 /// Puts the steps to the hints that were found.
-fn push_needed<A: Allocator + Copy>(
-    hints: &mut Vec<u32, A>,
-    needed: &[Placed],
-) -> Result<(), OutOfMemory> {
+fn push_needed(hints: &mut Vec<u32>, needed: &[Placed]) -> Result<(), OutOfMemory> {
     for found in needed {
-        hints.push(found.number)?;
+        push(hints, found.number)?;
     }
     Ok(())
 }
 
 /// Adds the step with no literal, where the last conflict needs but what holds in any case.
-pub(crate) fn log_end<A: Allocator + Copy>(
-    log: &mut Log<A>,
-    view: &View<'_, A>,
-    contributions: &mut Vec<Contribution, A>,
+pub(crate) fn log_end(
+    log: &mut Log,
+    view: &View<'_>,
+    contributions: &mut Vec<Contribution>,
     literals: &[u32],
 ) -> Result<(), OutOfMemory> {
     if is_step(&log.steps, log.last, &[]) {
@@ -421,7 +406,7 @@ pub(crate) fn log_end<A: Allocator + Copy>(
     find_last_steps(log, view, contributions)?;
     let from = log.steps.hints.len();
     push_needed(&mut log.steps.hints, &log.needed)?;
-    log.steps.hints.push(log.last)?;
+    push(&mut log.steps.hints, log.last)?;
     let to = log.steps.hints.len();
     log.last = add_step(&mut log.steps, &[], Why::Units(from, to))?;
     Ok(())

@@ -3,14 +3,14 @@
 use crate::closure::is_before;
 use crate::encoding::{LITERALS, Origin, add_clause};
 use crate::known::{Antecedent, assign, value};
-use crate::literals::{FALSE, NONE, TRUE, at, neg, set, short};
+use crate::literals::{FALSE, NONE, TRUE, at, neg, push, set, short};
 use crate::solver::{Solver, backjump};
 use crate::spans::{Span, before, instant, span_of};
 use crate::watches::watch_both;
 use aud_event::OutOfMemory;
 use aud_order::{Cursor, Shape};
 use aud_witness::{Decision, Fate};
-use std::alloc::Allocator;
+use std::alloc::Global;
 
 /// The next row of a topological order: of those that are not placed and wait for no row, the one that took effect first; or the number of
 /// rows, where there is none.
@@ -30,10 +30,7 @@ fn first_free(spans: &[Span], counts: &[u32]) -> usize {
 }
 
 /// How many rows stand before each one.
-fn count_before<A: Allocator + Copy>(
-    counts: &mut Vec<u32, A>,
-    solver: &Solver<A>,
-) -> Result<(), OutOfMemory> {
+fn count_before(counts: &mut Vec<u32>, solver: &Solver) -> Result<(), OutOfMemory> {
     let words = solver.closure.words;
     for row in 0..solver.problem.spans.len() {
         let mut count: u32 = 0;
@@ -41,7 +38,7 @@ fn count_before<A: Allocator + Copy>(
         for word in crate::literals::range(&solver.closure.before, from, from.wrapping_add(words)) {
             count = count.wrapping_add(word.count_ones());
         }
-        counts.push(count)?;
+        push(counts, count)?;
     }
     Ok(())
 }
@@ -58,10 +55,7 @@ fn release(counts: &mut [u32], after: &[u64], words: usize, row: usize) {
 }
 
 /// The rows in an order that the search found.
-pub(crate) fn order_of<A: Allocator + Copy>(
-    alloc: A,
-    solver: &Solver<A>,
-) -> Result<Vec<usize, A>, OutOfMemory> {
+pub(crate) fn order_of(alloc: Global, solver: &Solver) -> Result<Vec<usize>, OutOfMemory> {
     let spans = &solver.problem.spans[..];
     let mut counts = Vec::new(alloc);
     count_before(&mut counts, solver)?;
@@ -74,32 +68,35 @@ pub(crate) fn order_of<A: Allocator + Copy>(
             solver.closure.words,
             row,
         );
-        order.push(row)?;
+        push(&mut order, row)?;
     }
     Ok(order)
 }
 
 /// The rows in their order as decisions.
-pub(crate) fn decisions_of<A: Allocator + Copy>(
-    alloc: A,
-    solver: &Solver<A>,
+pub(crate) fn decisions_of(
+    alloc: Global,
+    solver: &Solver,
     order: &[usize],
-) -> Result<Vec<Decision, A>, OutOfMemory> {
+) -> Result<Vec<Decision>, OutOfMemory> {
     let mut decisions = Vec::new(alloc);
     for row in order {
         let found = span_of(&solver.problem.spans, *row);
         let commits = value(&solver.known.values, found.commits) == 1;
-        decisions.push(Decision {
-            tx: found.tx,
-            fate: if commits { Fate::C } else { Fate::A },
-        })?;
+        push(
+            &mut decisions,
+            Decision {
+                tx: found.tx,
+                fate: if commits { Fate::C } else { Fate::A },
+            },
+        )?;
     }
     Ok(decisions)
 }
 
 /// The place of the first decision that is not good after those of the cursor, if there is one.
-fn first_refused<A: Allocator + Copy>(
-    cursor: &mut Cursor<'_, A>,
+fn first_refused(
+    cursor: &mut Cursor<'_>,
     decisions: &[Decision],
 ) -> Result<Option<usize>, OutOfMemory> {
     for (place, decision) in decisions.iter().enumerate() {
@@ -114,9 +111,9 @@ fn first_refused<A: Allocator + Copy>(
 }
 
 /// The place of the first decision that is not good, if there is one.
-pub(crate) fn first_bad<A: Allocator + Copy>(
-    alloc: A,
-    shape: &Shape<A>,
+pub(crate) fn first_bad(
+    alloc: Global,
+    shape: &Shape,
     decisions: &[Decision],
 ) -> Result<Option<usize>, OutOfMemory> {
     let mut cursor = Cursor::root(alloc, shape)?;
@@ -124,9 +121,9 @@ pub(crate) fn first_bad<A: Allocator + Copy>(
 }
 
 /// Adds the literals that those that commit before the place do not stand there in this order.
-fn deny_before<A: Allocator + Copy>(
-    clause: &mut Vec<u32, A>,
-    solver: &Solver<A>,
+fn deny_before(
+    clause: &mut Vec<u32>,
+    solver: &Solver,
     order: &[usize],
     place: usize,
 ) -> Result<(), OutOfMemory> {
@@ -137,10 +134,10 @@ fn deny_before<A: Allocator + Copy>(
         let is_last = at(order, place, 0) == *row;
         if is_last || value(&solver.known.values, commits) == 1 {
             if last != NONE as usize {
-                clause.push(before(spans, *row, last))?;
+                push(clause, before(spans, *row, last))?;
             }
             if !is_last {
-                clause.push(neg(commits))?;
+                push(clause, neg(commits))?;
             }
             last = *row;
         }
@@ -149,9 +146,9 @@ fn deny_before<A: Allocator + Copy>(
 }
 
 /// Adds the literals that another one commits and stands before the row at the place.
-fn deny_after<A: Allocator + Copy>(
-    clause: &mut Vec<u32, A>,
-    solver: &Solver<A>,
+fn deny_after(
+    clause: &mut Vec<u32>,
+    solver: &Solver,
     order: &[usize],
     place: usize,
 ) -> Result<(), OutOfMemory> {
@@ -162,9 +159,9 @@ fn deny_after<A: Allocator + Copy>(
         let holds = value(&solver.known.values, commits) == 1;
         if index != place && commits != FALSE {
             if holds && index > place {
-                clause.push(before(spans, *other, row))?;
+                push(clause, before(spans, *other, row))?;
             } else if !holds {
-                clause.push(commits)?;
+                push(clause, commits)?;
             }
         }
     }
@@ -188,9 +185,9 @@ fn sort_open(literals: &mut [u32], values: &[i8]) -> usize {
 
 /// The row at the place is not legal after exactly those that commit before it, in this order: the search goes on without that. False
 /// where nothing is left.
-pub(crate) fn block<A: Allocator + Copy>(
-    alloc: A,
-    solver: &mut Solver<A>,
+pub(crate) fn block(
+    alloc: Global,
+    solver: &mut Solver,
     order: &[usize],
     place: usize,
 ) -> Result<bool, OutOfMemory> {

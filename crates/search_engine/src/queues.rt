@@ -1,12 +1,12 @@
 //! Queues: which addition is taken, how many are taken and added before, and what was added before is taken before.
 
 use crate::encoding::{Clauses, Origin, Role, Variables, add_clause, add_variable, ask};
-use crate::literals::{FALSE, NONE, TRUE, at, neg, range, set, short};
+use crate::literals::{FALSE, NONE, TRUE, at, neg, push, range, set, short};
 use crate::problem::{Problem, is_large, spend};
 use crate::spans::{Span, before, instant, span_of};
 use crate::sums::{Concurrent, add_all_terms, add_terms, end_sum, find_concurrent, sum_ended};
 use aud_event::OutOfMemory;
-use std::alloc::{Allocator, Global};
+use std::alloc::Global;
 
 /// What a transaction does on a queue.
 #[derive(Clone, Copy, PartialEq, Eq)]
@@ -66,15 +66,15 @@ pub(crate) const NO_ITEM: ItemOf = ItemOf {
 
 /// What the clauses of queues are about, by numbers.
 #[derive(Drop)]
-pub(crate) struct QueueItems<A: Allocator + Copy = Global> {
-    pub takes: Vec<TakeOf, A>,
-    pub items: Vec<ItemOf, A>,
-    pub gone: Vec<GoneOf, A>,
+pub(crate) struct QueueItems {
+    pub takes: Vec<TakeOf>,
+    pub items: Vec<ItemOf>,
+    pub gone: Vec<GoneOf>,
 }
 
-impl<A: Allocator + Copy> QueueItems<A> {
+impl QueueItems {
     /// No items. It does not allocate.
-    pub(crate) fn empty(alloc: A) -> QueueItems<A> {
+    pub(crate) fn empty(alloc: Global) -> QueueItems {
         QueueItems {
             takes: Vec::new(alloc),
             items: Vec::new(alloc),
@@ -104,24 +104,24 @@ struct Added {
 
 /// What is known of one queue while its clauses are made.
 #[derive(Drop)]
-struct QueueUse<A: Allocator + Copy = Global> {
+struct QueueUse {
     /// The rows that touch it, and how many each one takes, and less how many it adds, if it may commit; and both together.
-    rows: Vec<usize, A>,
-    takes: Vec<i64, A>,
-    adds: Vec<i64, A>,
-    both: Vec<i64, A>,
+    rows: Vec<usize>,
+    takes: Vec<i64>,
+    adds: Vec<i64>,
+    both: Vec<i64>,
     /// Who adds and who takes each value.
-    adders: Vec<Holding, A>,
-    takers: Vec<Holding, A>,
-    added: Vec<Added, A>,
+    adders: Vec<Holding>,
+    takers: Vec<Holding>,
+    added: Vec<Added>,
 }
 
 /// For each row how many those take that had ended before it, less how many they add, and both together.
 #[derive(Drop)]
-struct EndedTotals<A: Allocator + Copy = Global> {
-    takes: Vec<i64, A>,
-    adds: Vec<i64, A>,
-    both: Vec<i64, A>,
+struct EndedTotals {
+    takes: Vec<i64>,
+    adds: Vec<i64>,
+    both: Vec<i64>,
 }
 
 const NOT_HELD: Holding = Holding {
@@ -165,10 +165,7 @@ fn count(counts: &mut [i64], place: usize, amount: i64) {
 }
 
 /// Reads who adds what, as which of its own additions.
-fn read_adders<A: Allocator + Copy>(
-    adders: &mut Vec<Holding, A>,
-    ops: &[PlacedOp],
-) -> Result<(), OutOfMemory> {
+fn read_adders(adders: &mut Vec<Holding>, ops: &[PlacedOp]) -> Result<(), OutOfMemory> {
     let mut index: u32 = 0;
     let mut last = usize::MAX;
     for found in ops {
@@ -178,11 +175,14 @@ fn read_adders<A: Allocator + Copy>(
             last = place;
         }
         if let QueueOp::Adds(value) = found.op {
-            adders.push(Holding {
-                value,
-                place,
-                index,
-            })?;
+            push(
+                adders,
+                Holding {
+                    value,
+                    place,
+                    index,
+                },
+            )?;
             index = index.wrapping_add(1);
         }
     }
@@ -191,8 +191,8 @@ fn read_adders<A: Allocator + Copy>(
 }
 
 /// Reads who takes what, of those that may commit.
-fn read_takers<A: Allocator + Copy>(
-    takers: &mut Vec<Holding, A>,
+fn read_takers(
+    takers: &mut Vec<Holding>,
     rows: &[usize],
     spans: &[Span],
     ops: &[PlacedOp],
@@ -202,11 +202,14 @@ fn read_takers<A: Allocator + Copy>(
         if let QueueOp::Takes(value) = found.op {
             if span_of(spans, at(rows, place, 0)).commits != FALSE {
                 let index = 0;
-                takers.push(Holding {
-                    value,
-                    place,
-                    index,
-                })?;
+                push(
+                    takers,
+                    Holding {
+                        value,
+                        place,
+                        index,
+                    },
+                )?;
             }
         }
     }
@@ -244,15 +247,11 @@ fn first_end(takers: &[Holding], rows: &[usize], spans: &[Span]) -> u32 {
 
 /// Lists the values that are added by those that may commit, in the order of their rows, after one that is none. A row's value after
 /// itself counts once.
-fn list_added<A: Allocator + Copy>(
-    queue: &mut QueueUse<A>,
-    spans: &[Span],
-    ops: &[PlacedOp],
-) -> Result<(), OutOfMemory> {
+fn list_added(queue: &mut QueueUse, spans: &[Span], ops: &[PlacedOp]) -> Result<(), OutOfMemory> {
     let mut last = NOT_ADDED;
     last.place = usize::MAX;
     last.next = 1;
-    queue.added.push(last)?;
+    push(&mut queue.added, last)?;
     for found in ops {
         let QueueOp::Adds(value) = found.op else {
             continue;
@@ -273,7 +272,7 @@ fn list_added<A: Allocator + Copy>(
             taken: first_end(found_takers, &queue.rows, spans),
             next: queue.added.len().wrapping_add(1),
         };
-        queue.added.push(last)?;
+        push(&mut queue.added, last)?;
     }
     Ok(())
 }
@@ -289,11 +288,11 @@ struct Demand {
 }
 
 /// The clause that the value, which was added before, is taken before.
-fn add_gone<A: Allocator + Copy>(
-    alloc: A,
-    queue: &QueueUse<A>,
-    variables: &mut Variables<A>,
-    clauses: &mut Clauses<A>,
+fn add_gone(
+    alloc: Global,
+    queue: &QueueUse,
+    variables: &mut Variables,
+    clauses: &mut Clauses,
     spans: &[Span],
     asked: Demand,
     added: Added,
@@ -303,15 +302,15 @@ fn add_gone<A: Allocator + Copy>(
 ) -> Result<(), OutOfMemory> {
     let commits = span_of(spans, at(&queue.rows, added.place, 0)).commits;
     let mut clause = Vec::new(alloc);
-    clause.push(neg(ahead))?;
-    clause.push(neg(guard))?;
-    clause.push(neg(commits))?;
+    push(&mut clause, neg(ahead))?;
+    push(&mut clause, neg(guard))?;
+    push(&mut clause, neg(commits))?;
     let mut last = usize::MAX;
     for taker in range(&queue.takers, added.takers, added.takers_end) {
         if taker.place != asked.place && taker.place != last {
             last = taker.place;
             let row = at(&queue.rows, taker.place, 0);
-            clause.push(before(spans, row, asked.take.row))?;
+            push(&mut clause, before(spans, row, asked.take.row))?;
         }
     }
     for literal in clause.iter() {
@@ -347,10 +346,10 @@ fn next_added(added: &mut [Added], known: usize, began: u32) -> usize {
 }
 
 /// The value that another row added before the item is taken before: the law, and its clause.
-fn add_one_gone<A: Allocator + Copy>(
-    alloc: A,
-    queue: &QueueUse<A>,
-    problem: &mut Problem<A>,
+fn add_one_gone(
+    alloc: Global,
+    queue: &QueueUse,
+    problem: &mut Problem,
     asked: Demand,
     added: Added,
     ahead: u32,
@@ -358,12 +357,15 @@ fn add_one_gone<A: Allocator + Copy>(
     item: u32,
 ) -> Result<(), OutOfMemory> {
     let number = short(problem.items.gone.len());
-    problem.items.gone.push(GoneOf {
-        take: asked.take,
-        item,
-        row: at(&queue.rows, added.place, 0),
-        value: added.value,
-    })?;
+    push(
+        &mut problem.items.gone,
+        GoneOf {
+            take: asked.take,
+            item,
+            row: at(&queue.rows, added.place, 0),
+            value: added.value,
+        },
+    )?;
     let (variables, clauses) = (&mut problem.variables, &mut problem.clauses);
     let spans = &problem.spans[..];
     add_gone(
@@ -372,10 +374,10 @@ fn add_one_gone<A: Allocator + Copy>(
 }
 
 /// What was added before the item of the row at that place, or before the queue is empty, is taken before.
-fn add_all_gone<A: Allocator + Copy>(
-    alloc: A,
-    queue: &mut QueueUse<A>,
-    problem: &mut Problem<A>,
+fn add_all_gone(
+    alloc: Global,
+    queue: &mut QueueUse,
+    problem: &mut Problem,
     own: &[PlacedOp],
     asked: Demand,
     adder: usize,
@@ -413,9 +415,9 @@ fn may_be_taken(queue_rows: &[usize], spans: &[Span], adder: usize, place: usize
 }
 
 /// The additions that the row may take the value from: first its own ones before, then those of others.
-fn find_items<A: Allocator + Copy>(
-    found: &mut Vec<Holding, A>,
-    queue: &QueueUse<A>,
+fn find_items(
+    found: &mut Vec<Holding>,
+    queue: &QueueUse,
     spans: &[Span],
     own: &[PlacedOp],
     asked: Demand,
@@ -429,11 +431,14 @@ fn find_items<A: Allocator + Copy>(
         if let QueueOp::Adds(added) = known.op {
             if added == value {
                 let place = asked.place;
-                found.push(Holding {
-                    value,
-                    place,
-                    index,
-                })?;
+                push(
+                    found,
+                    Holding {
+                        value,
+                        place,
+                        index,
+                    },
+                )?;
             }
             index = index.wrapping_add(1);
         }
@@ -442,15 +447,15 @@ fn find_items<A: Allocator + Copy>(
     let to = place_of(&queue.adders, value, true);
     for held in range(&queue.adders, from, to) {
         if held.place != asked.place && may_be_taken(&queue.rows, spans, held.place, asked.place) {
-            found.push(*held)?;
+            push(found, *held)?;
         }
     }
     Ok(())
 }
 
 /// An addition that is taken stands before the taker, and commits.
-fn add_stands<A: Allocator + Copy>(
-    problem: &mut Problem<A>,
+fn add_stands(
+    problem: &mut Problem,
     row: usize,
     taker: usize,
     literal: u32,
@@ -466,11 +471,11 @@ fn add_stands<A: Allocator + Copy>(
 
 /// As many are taken before the row at the first place as are added before that at the second, less what is wanted, where the literal
 /// holds.
-fn add_place<A: Allocator + Copy>(
-    queue: &QueueUse<A>,
-    ended: &EndedTotals<A>,
-    concurrent: &Concurrent<A>,
-    problem: &mut Problem<A>,
+fn add_place(
+    queue: &QueueUse,
+    ended: &EndedTotals,
+    concurrent: &Concurrent,
+    problem: &mut Problem,
     (place, adder): (usize, usize),
     wanted: i64,
     literal: u32,
@@ -495,11 +500,11 @@ fn add_place<A: Allocator + Copy>(
 }
 
 /// As many are taken before the row at the place as are added, less what is wanted, where the literal holds.
-fn add_own_place<A: Allocator + Copy>(
-    queue: &QueueUse<A>,
-    ended: &EndedTotals<A>,
-    concurrent: &Concurrent<A>,
-    problem: &mut Problem<A>,
+fn add_own_place(
+    queue: &QueueUse,
+    ended: &EndedTotals,
+    concurrent: &Concurrent,
+    problem: &mut Problem,
     place: usize,
     wanted: i64,
     literal: u32,
@@ -512,11 +517,11 @@ fn add_own_place<A: Allocator + Copy>(
 }
 
 /// An addition that is taken stands before the taker, commits, and as many are taken before as were added before it.
-fn add_item<A: Allocator + Copy>(
-    queue: &QueueUse<A>,
-    ended: &EndedTotals<A>,
-    concurrent: &Concurrent<A>,
-    problem: &mut Problem<A>,
+fn add_item(
+    queue: &QueueUse,
+    ended: &EndedTotals,
+    concurrent: &Concurrent,
+    problem: &mut Problem,
     asked: Demand,
     held: Holding,
     literal: u32,
@@ -550,12 +555,12 @@ fn favoured(found: &[Holding], queue_rows: &[usize], spans: &[Span], row: usize)
 }
 
 /// Adds what a take of the value asks.
-fn add_take<A: Allocator + Copy>(
-    alloc: A,
-    queue: &mut QueueUse<A>,
-    ended: &EndedTotals<A>,
-    concurrent: &Concurrent<A>,
-    problem: &mut Problem<A>,
+fn add_take(
+    alloc: Global,
+    queue: &mut QueueUse,
+    ended: &EndedTotals,
+    concurrent: &Concurrent,
+    problem: &mut Problem,
     own: &[PlacedOp],
     asked: Demand,
     value: i64,
@@ -565,20 +570,23 @@ fn add_take<A: Allocator + Copy>(
     find_items(&mut found, queue, &problem.spans, own, asked, value)?;
     let best = favoured(&found, &queue.rows, &problem.spans, asked.take.row);
     let take = short(problem.items.takes.len());
-    problem.items.takes.push(asked.take)?;
+    push(&mut problem.items.takes, asked.take)?;
     let mut clause = Vec::new(alloc);
     for (index, held) in found.iter().enumerate() {
         let row = at(&queue.rows, held.place, 0);
         let item = short(problem.items.items.len());
-        problem.items.items.push(ItemOf {
-            take,
-            row,
-            addition: held.index,
-            sum: short(problem.sums.sums.len()),
-        })?;
+        push(
+            &mut problem.items.items,
+            ItemOf {
+                take,
+                row,
+                addition: held.index,
+                sum: short(problem.sums.sums.len()),
+            },
+        )?;
         let role = Role::Item(item);
         let literal = add_variable(&mut problem.variables, role, index == best, true)?;
-        clause.push(literal)?;
+        push(&mut clause, literal)?;
         add_item(
             queue, ended, concurrent, problem, asked, *held, literal, item,
         )?;
@@ -588,12 +596,12 @@ fn add_take<A: Allocator + Copy>(
 }
 
 /// Adds what it asks that the queue is seen empty.
-fn add_empty<A: Allocator + Copy>(
-    alloc: A,
-    queue: &mut QueueUse<A>,
-    ended: &EndedTotals<A>,
-    concurrent: &Concurrent<A>,
-    problem: &mut Problem<A>,
+fn add_empty(
+    alloc: Global,
+    queue: &mut QueueUse,
+    ended: &EndedTotals,
+    concurrent: &Concurrent,
+    problem: &mut Problem,
     own: &[PlacedOp],
     asked: Demand,
 ) -> Result<(), OutOfMemory> {
@@ -627,12 +635,12 @@ fn demand_of(rows: &[usize], found: PlacedOp, object: u16, (taken, added): (i64,
 }
 
 /// Adds what the operations of one row ask.
-fn add_row<A: Allocator + Copy>(
-    alloc: A,
-    queue: &mut QueueUse<A>,
-    ended: &EndedTotals<A>,
-    concurrent: &Concurrent<A>,
-    problem: &mut Problem<A>,
+fn add_row(
+    alloc: Global,
+    queue: &mut QueueUse,
+    ended: &EndedTotals,
+    concurrent: &Concurrent,
+    problem: &mut Problem,
     own: &[PlacedOp],
     object: u16,
 ) -> Result<(), OutOfMemory> {
@@ -657,7 +665,7 @@ fn add_row<A: Allocator + Copy>(
 }
 
 /// The queue of these rows, before its operations are read.
-fn queue_of<A: Allocator + Copy>(alloc: A, rows: Vec<usize, A>) -> QueueUse<A> {
+fn queue_of(alloc: Global, rows: Vec<usize>) -> QueueUse {
     QueueUse {
         rows,
         takes: Vec::new(alloc),
@@ -670,11 +678,7 @@ fn queue_of<A: Allocator + Copy>(alloc: A, rows: Vec<usize, A>) -> QueueUse<A> {
 }
 
 /// Reads the operations.
-fn read_queue<A: Allocator + Copy>(
-    queue: &mut QueueUse<A>,
-    spans: &[Span],
-    ops: &[PlacedOp],
-) -> Result<(), OutOfMemory> {
+fn read_queue(queue: &mut QueueUse, spans: &[Span], ops: &[PlacedOp]) -> Result<(), OutOfMemory> {
     let count = queue.rows.len();
     crate::literals::fill(&mut queue.takes, count, 0)?;
     crate::literals::fill(&mut queue.adds, count, 0)?;
@@ -684,16 +688,16 @@ fn read_queue<A: Allocator + Copy>(
     count_ops(takes, adds, &queue.rows, spans, ops);
     for place in 0..count {
         let both = at(&queue.takes, place, 0).wrapping_add(at(&queue.adds, place, 0));
-        queue.both.push(both)?;
+        push(&mut queue.both, both)?;
     }
     list_added(queue, spans, ops)
 }
 
 /// Adds up what ended before each row.
-fn read_ended<A: Allocator + Copy>(
-    ended: &mut EndedTotals<A>,
-    queue: &QueueUse<A>,
-    concurrent: &Concurrent<A>,
+fn read_ended(
+    ended: &mut EndedTotals,
+    queue: &QueueUse,
+    concurrent: &Concurrent,
     spans: &[Span],
 ) -> Result<(), OutOfMemory> {
     let (rows, places) = (&queue.rows[..], &concurrent.ended[..]);
@@ -703,12 +707,12 @@ fn read_ended<A: Allocator + Copy>(
 }
 
 /// Adds a queue: the rows that touch it, and their operations in the order of the rows and of their blocks.
-pub(crate) fn add_queue<A: Allocator + Copy>(
-    alloc: A,
-    problem: &mut Problem<A>,
-    concurrent: &mut Concurrent<A>,
+pub(crate) fn add_queue(
+    alloc: Global,
+    problem: &mut Problem,
+    concurrent: &mut Concurrent,
     object: u16,
-    rows: Vec<usize, A>,
+    rows: Vec<usize>,
     ops: &[PlacedOp],
 ) -> Result<(), OutOfMemory> {
     let mut queue = queue_of(alloc, rows);

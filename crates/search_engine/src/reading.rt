@@ -3,7 +3,7 @@
 use crate::cell_index::{mark_cells, sort_feeds};
 use crate::cells::{Touch, add_cell, sort_uses};
 use crate::encoding::{Origin, add_pairs};
-use crate::literals::{TRUE, at, range, short};
+use crate::literals::{TRUE, at, push, range, short};
 use crate::problem::{Allowance, Problem, is_large, sort_occurrences, spend};
 use crate::queues::{PlacedOp, QueueOp, add_queue};
 use crate::spans::{NOBODY, Span, count_pairs, spans_of};
@@ -14,13 +14,13 @@ use aud_order::Shape;
 use search_model::{
     Cell, Need, added_item, asks, cell_of, count_change, count_seen, meets, puts, taken_item,
 };
-use std::alloc::{Allocator, Global};
+use std::alloc::Global;
 
 /// What a history asks: an order, as a problem, or nothing, as one transaction contradicts itself on a cell, or more than there is room
 /// for.
 #[derive(Drop)]
-pub(crate) enum Encoded<A: Allocator + Copy> {
-    Problem(Problem<A>),
+pub(crate) enum Encoded {
+    Problem(Problem),
     Clash(u32, u16, Cell),
     Large,
 }
@@ -62,20 +62,20 @@ pub(crate) fn cell_with(kind: ObjKind, key: i64) -> Cell {
 }
 
 /// All executions, by their cells.
-fn read_executions<A: Allocator + Copy>(
-    executions: &mut Vec<Execution, A>,
-    rows: &[TxRow<A>],
-) -> Result<(), OutOfMemory> {
+fn read_executions(executions: &mut Vec<Execution>, rows: &[TxRow]) -> Result<(), OutOfMemory> {
     for (row, found) in rows.iter().enumerate() {
         for (number, x) in found.block().executions().iter().enumerate() {
-            executions.push(Execution {
-                object: x.object,
-                key: key_of(x.op),
-                row,
-                number,
-                op: x.op,
-                answer: x.answer,
-            })?;
+            push(
+                executions,
+                Execution {
+                    object: x.object,
+                    key: key_of(x.op),
+                    row,
+                    number,
+                    op: x.op,
+                    answer: x.answer,
+                },
+            )?;
         }
     }
     executions.sort_unstable();
@@ -113,8 +113,8 @@ fn add_left(touch: &mut Touch, content: &mut Option<Option<i64>>, left: Option<O
 }
 
 /// What each row does with a cell, by its executions there; or the row that contradicts itself.
-fn read_touches<A: Allocator + Copy>(
-    touches: &mut Vec<Touch, A>,
+fn read_touches(
+    touches: &mut Vec<Touch>,
     executions: &[Execution],
     kind: ObjKind,
 ) -> Result<Option<usize>, OutOfMemory> {
@@ -125,11 +125,14 @@ fn read_touches<A: Allocator + Copy>(
             None => false,
         };
         if !is_same {
-            touches.push(Touch {
-                row: found.row,
-                need: None,
-                leaves: None,
-            })?;
+            push(
+                touches,
+                Touch {
+                    row: found.row,
+                    need: None,
+                    leaves: None,
+                },
+            )?;
             content = None;
         }
         let cell = cell_with(kind, found.key);
@@ -161,8 +164,8 @@ fn add_count(count: &mut Count, op: Op, answer: Answer) -> bool {
 }
 
 /// What each row does with a counter; or the row that contradicts itself.
-fn read_counts<A: Allocator + Copy>(
-    counts: &mut Vec<Count, A>,
+fn read_counts(
+    counts: &mut Vec<Count>,
     executions: &[Execution],
 ) -> Result<Option<usize>, OutOfMemory> {
     for found in executions {
@@ -171,11 +174,14 @@ fn read_counts<A: Allocator + Copy>(
             None => false,
         };
         if !is_same {
-            counts.push(Count {
-                row: found.row,
-                need: None,
-                gain: 0,
-            })?;
+            push(
+                counts,
+                Count {
+                    row: found.row,
+                    need: None,
+                    gain: 0,
+                },
+            )?;
         }
         let last = counts.len().wrapping_sub(1);
         if let Some(count) = counts.get_mut(last) {
@@ -188,10 +194,7 @@ fn read_counts<A: Allocator + Copy>(
 }
 
 /// What the rows do with an element of a set, as a count of 0 or 1.
-fn count_members<A: Allocator + Copy>(
-    counts: &mut Vec<Count, A>,
-    touches: &[Touch],
-) -> Result<(), OutOfMemory> {
+fn count_members(counts: &mut Vec<Count>, touches: &[Touch]) -> Result<(), OutOfMemory> {
     for touch in touches {
         let need = match touch.need {
             Some(need) => Some(i64::from(need != Need::Absent)),
@@ -201,23 +204,26 @@ fn count_members<A: Allocator + Copy>(
             (Some(need), Some(left)) if !meets(need, left) => if left.is_some() { 1 } else { -1 },
             _ => 0,
         };
-        counts.push(Count {
-            row: touch.row,
-            need,
-            gain,
-        })?;
+        push(
+            counts,
+            Count {
+                row: touch.row,
+                need,
+                gain,
+            },
+        )?;
     }
     Ok(())
 }
 
 /// Adds a sum for each reader of a counter, or of an element of a set, as far as there is room.
-fn add_all_sums<A: Allocator + Copy>(
-    problem: &mut Problem<A>,
-    concurrent: &Concurrent<A>,
+fn add_all_sums(
+    problem: &mut Problem,
+    concurrent: &Concurrent,
     counts: &[Count],
     named: (u16, Option<i64>),
     opening: i64,
-    tables: &Tables<A>,
+    tables: &Tables,
 ) -> Result<(), OutOfMemory> {
     for (place, count) in counts.iter().enumerate() {
         let Some(need) = count.need else {
@@ -240,17 +246,17 @@ fn add_all_sums<A: Allocator + Copy>(
 
 /// The rows that touch a counter, what each one adds, and what those add that had ended before it began.
 #[derive(Drop)]
-struct Tables<A: Allocator + Copy = Global> {
-    rows: Vec<usize, A>,
-    gains: Vec<i64, A>,
-    ended: Vec<i64, A>,
+struct Tables {
+    rows: Vec<usize>,
+    gains: Vec<i64>,
+    ended: Vec<i64>,
 }
 
 /// Adds the sum of what stands before the row at the place.
-fn add_sum<A: Allocator + Copy>(
-    problem: &mut Problem<A>,
-    concurrent: &Concurrent<A>,
-    tables: &Tables<A>,
+fn add_sum(
+    problem: &mut Problem,
+    concurrent: &Concurrent,
+    tables: &Tables,
     place: usize,
     wanted: i64,
     origin: Origin,
@@ -263,15 +269,15 @@ fn add_sum<A: Allocator + Copy>(
 }
 
 /// Reads the tables of the counts.
-fn read_tables<A: Allocator + Copy>(
-    tables: &mut Tables<A>,
-    concurrent: &mut Concurrent<A>,
+fn read_tables(
+    tables: &mut Tables,
+    concurrent: &mut Concurrent,
     spans: &[Span],
     counts: &[Count],
 ) -> Result<(), OutOfMemory> {
     for count in counts {
-        tables.rows.push(count.row)?;
-        tables.gains.push(count.gain)?;
+        push(&mut tables.rows, count.row)?;
+        push(&mut tables.gains, count.gain)?;
     }
     find_concurrent(concurrent, spans, &tables.rows)?;
     let (rows, gains) = (&tables.rows[..], &tables.gains[..]);
@@ -279,10 +285,10 @@ fn read_tables<A: Allocator + Copy>(
 }
 
 /// Adds what is asked of a counter, or of an element of a set.
-fn add_counts<A: Allocator + Copy>(
-    alloc: A,
-    problem: &mut Problem<A>,
-    concurrent: &mut Concurrent<A>,
+fn add_counts(
+    alloc: Global,
+    problem: &mut Problem,
+    concurrent: &mut Concurrent,
     counts: &[Count],
     named: (u16, Option<i64>),
     opening: i64,
@@ -308,9 +314,9 @@ fn queue_op_of(op: Op, answer: Answer) -> QueueOp {
 }
 
 /// The operations of the rows on a queue, and the rows.
-fn read_queue_executions<A: Allocator + Copy>(
-    ops: &mut Vec<PlacedOp, A>,
-    rows: &mut Vec<usize, A>,
+fn read_queue_executions(
+    ops: &mut Vec<PlacedOp>,
+    rows: &mut Vec<usize>,
     executions: &[Execution],
 ) -> Result<(), OutOfMemory> {
     for found in executions {
@@ -319,23 +325,26 @@ fn read_queue_executions<A: Allocator + Copy>(
             None => false,
         };
         if !is_same {
-            rows.push(found.row)?;
+            push(rows, found.row)?;
         }
         let op = queue_op_of(found.op, found.answer);
-        ops.push(PlacedOp {
-            place: rows.len().wrapping_sub(1),
-            number: short(found.number),
-            op,
-        })?;
+        push(
+            ops,
+            PlacedOp {
+                place: rows.len().wrapping_sub(1),
+                number: short(found.number),
+                op,
+            },
+        )?;
     }
     Ok(())
 }
 
 /// Adds what is asked of a queue.
-fn add_queue_executions<A: Allocator + Copy>(
-    alloc: A,
-    problem: &mut Problem<A>,
-    concurrent: &mut Concurrent<A>,
+fn add_queue_executions(
+    alloc: Global,
+    problem: &mut Problem,
+    concurrent: &mut Concurrent,
     executions: &[Execution],
     object: u16,
 ) -> Result<(), OutOfMemory> {
@@ -346,10 +355,10 @@ fn add_queue_executions<A: Allocator + Copy>(
 }
 
 /// Adds what is asked of an element of a set.
-fn add_members<A: Allocator + Copy>(
-    alloc: A,
-    problem: &mut Problem<A>,
-    concurrent: &mut Concurrent<A>,
+fn add_members(
+    alloc: Global,
+    problem: &mut Problem,
+    concurrent: &mut Concurrent,
     touches: &[Touch],
     named: (u16, i64),
 ) -> Result<(), OutOfMemory> {
@@ -366,9 +375,9 @@ fn add_members<A: Allocator + Copy>(
 }
 
 /// Adds what is asked of a cell of a register or a map.
-fn add_values<A: Allocator + Copy>(
-    alloc: A,
-    problem: &mut Problem<A>,
+fn add_values(
+    alloc: Global,
+    problem: &mut Problem,
     touches: &[Touch],
     named: (u16, i64),
     declared: (ObjKind, i64),
@@ -382,10 +391,10 @@ fn add_values<A: Allocator + Copy>(
 }
 
 /// Adds what is asked of a cell; or gives the row that contradicts itself on it.
-fn add_cell_executions<A: Allocator + Copy>(
-    alloc: A,
-    problem: &mut Problem<A>,
-    concurrent: &mut Concurrent<A>,
+fn add_cell_executions(
+    alloc: Global,
+    problem: &mut Problem,
+    concurrent: &mut Concurrent,
     executions: &[Execution],
     named: (u16, i64),
     declared: (ObjKind, i64),
@@ -404,10 +413,10 @@ fn add_cell_executions<A: Allocator + Copy>(
 }
 
 /// Adds what is asked by the executions of one object and key; or gives the row that contradicts itself there.
-fn add_uses<A: Allocator + Copy>(
-    alloc: A,
-    problem: &mut Problem<A>,
-    concurrent: &mut Concurrent<A>,
+fn add_uses(
+    alloc: Global,
+    problem: &mut Problem,
+    concurrent: &mut Concurrent,
     executions: &[Execution],
     named: (u16, i64),
     declared: (ObjKind, i64),
@@ -437,7 +446,7 @@ fn add_uses<A: Allocator + Copy>(
 }
 
 /// The kind of the object, and what it opens with.
-fn declared_as<A: Allocator>(objects: &[ObjDecl<A>], object: u16) -> (ObjKind, i64) {
+fn declared_as(objects: &[ObjDecl], object: u16) -> (ObjKind, i64) {
     match objects.get(object as usize) {
         Some(found) => (found.kind, found.opening),
         None => (ObjKind::Register, 0),
@@ -445,10 +454,10 @@ fn declared_as<A: Allocator>(objects: &[ObjDecl<A>], object: u16) -> (ObjKind, i
 }
 
 /// Adds what is asked of all objects; or gives the row that contradicts itself, on that object and key.
-fn add_all<A: Allocator + Copy>(
-    alloc: A,
-    problem: &mut Problem<A>,
-    objects: &[ObjDecl<A>],
+fn add_all(
+    alloc: Global,
+    problem: &mut Problem,
+    objects: &[ObjDecl],
     executions: &[Execution],
 ) -> Result<Option<Execution>, OutOfMemory> {
     let mut concurrent = Concurrent::empty(alloc);
@@ -476,10 +485,10 @@ fn add_all<A: Allocator + Copy>(
 }
 
 /// Adds what is asked of all objects, and sorts it; or gives the row that contradicts itself, on that object and key.
-fn add_history<A: Allocator + Copy>(
-    alloc: A,
-    problem: &mut Problem<A>,
-    shape: &Shape<A>,
+fn add_history(
+    alloc: Global,
+    problem: &mut Problem,
+    shape: &Shape,
 ) -> Result<Option<Execution>, OutOfMemory> {
     let rows = shape.table().rows();
     add_pairs(&mut problem.variables, &mut problem.spans)?;
@@ -494,11 +503,11 @@ fn add_history<A: Allocator + Copy>(
 }
 
 /// What the history asks of an order, if so much work and so many bytes suffice for it.
-pub(crate) fn read<A: Allocator + Copy>(
-    alloc: A,
-    shape: &Shape<A>,
+pub(crate) fn read(
+    alloc: Global,
+    shape: &Shape,
     allowance: Allowance,
-) -> Result<Encoded<A>, OutOfMemory> {
+) -> Result<Encoded, OutOfMemory> {
     let spans = spans_of(alloc, shape.table().rows())?;
     if count_pairs(&spans).saturating_mul(100) > allowance.bytes {
         return Ok(Encoded::Large);

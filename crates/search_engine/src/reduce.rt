@@ -2,10 +2,10 @@
 
 use crate::encoding::{Clauses, LEVELS, LINK, LITERALS, ORIGIN};
 use crate::known::{Antecedent, Assigned, Known, UNKNOWN};
-use crate::literals::{NONE, at, set, short, var};
+use crate::literals::{NONE, at, push, set, short, var};
 use crate::watches::watch_all;
 use aud_event::OutOfMemory;
-use std::alloc::Allocator;
+use std::alloc::Global;
 
 /// A learned clause by its use: the fewer levels and literals the better.
 #[derive(Clone, Copy, PartialEq, Eq, PartialOrd, Ord)]
@@ -26,14 +26,17 @@ fn set_word(arena: &mut [u32], clause: u32, which: usize, to: u32) {
 }
 
 /// Marks the worse half of the learned clauses, but for the best ones, by no levels.
-fn mark<A: Allocator + Copy>(alloc: A, clauses: &mut Clauses<A>) -> Result<(), OutOfMemory> {
+fn mark(alloc: Global, clauses: &mut Clauses) -> Result<(), OutOfMemory> {
     let mut ranks = Vec::new(alloc);
     for clause in clauses.learned.iter() {
-        ranks.push(ClauseRank {
-            levels: word(&clauses.arena, *clause, LEVELS),
-            length: word(&clauses.arena, *clause, 0),
-            clause: *clause,
-        })?;
+        push(
+            &mut ranks,
+            ClauseRank {
+                levels: word(&clauses.arena, *clause, LEVELS),
+                length: word(&clauses.arena, *clause, 0),
+                clause: *clause,
+            },
+        )?;
     }
     ranks.sort_unstable();
     for place in ranks.len() / 2..ranks.len() {
@@ -108,10 +111,7 @@ fn pack(arena: &mut [u32], states: &mut [Assigned]) -> u32 {
 }
 
 /// Lists the learned ones among the clauses.
-fn list_learned<A: Allocator + Copy>(
-    learned: &mut Vec<u32, A>,
-    arena: &[u32],
-) -> Result<(), OutOfMemory> {
+fn list_learned(learned: &mut Vec<u32>, arena: &[u32]) -> Result<(), OutOfMemory> {
     learned.clear();
     let mut clause: u32 = 0;
     for _ in 0..arena.len() {
@@ -119,7 +119,7 @@ fn list_learned<A: Allocator + Copy>(
             break;
         }
         if word(arena, clause, ORIGIN) == NONE {
-            learned.push(clause)?;
+            push(learned, clause)?;
         }
         clause = next_clause(arena, clause);
     }
@@ -127,10 +127,10 @@ fn list_learned<A: Allocator + Copy>(
 }
 
 /// Drops the worse half of the learned clauses. Those that something follows from stay, and so do the best ones.
-pub(crate) fn reduce<A: Allocator + Copy>(
-    alloc: A,
-    clauses: &mut Clauses<A>,
-    known: &mut Known<A>,
+pub(crate) fn reduce(
+    alloc: Global,
+    clauses: &mut Clauses,
+    known: &mut Known,
 ) -> Result<(), OutOfMemory> {
     mark(alloc, clauses)?;
     let trail = crate::literals::range(&known.trail, 0, known.count);

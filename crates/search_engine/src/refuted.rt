@@ -2,7 +2,7 @@
 
 use crate::cells::{NO_CELL, NO_READER, NO_SOURCE, NO_WRITER};
 use crate::encoding::{Origin, Role};
-use crate::literals::{NONE, at, fill, range, set, short, var};
+use crate::literals::{NONE, at, fill, push, range, set, short, var};
 use crate::log::{Logged, NOT_LOGGED, StepLog, Why};
 use crate::problem::Problem;
 use crate::queues::{NO_ITEM, NO_TAKE, TakeOf};
@@ -10,15 +10,15 @@ use crate::spans::span_of;
 use aud_event::OutOfMemory;
 use judge_clauses::{Atom, Literal, Read, Reason, Refutation, Step, Take};
 use judge_laws::{CellLaw, FrontItem, ObjectLaw, QueueLaw, SumLaw};
-use std::alloc::{Allocator, Global};
+use std::alloc::Global;
 
 /// The transaction of the row.
-fn tx_of<A: Allocator + Copy>(problem: &Problem<A>, row: usize) -> u32 {
+fn tx_of(problem: &Problem, row: usize) -> u32 {
     span_of(&problem.spans, row).tx
 }
 
 /// What the reader of that number reads.
-fn read_of<A: Allocator + Copy>(problem: &Problem<A>, reader: u32) -> Read {
+fn read_of(problem: &Problem, reader: u32) -> Read {
     let found = at(&problem.cells.readers, reader as usize, NO_READER);
     let cell = at(&problem.cells.cells, found.cell as usize, NO_CELL);
     Read {
@@ -29,7 +29,7 @@ fn read_of<A: Allocator + Copy>(problem: &Problem<A>, reader: u32) -> Read {
 }
 
 /// The transaction of the writer, if there is one.
-fn writer_of<A: Allocator + Copy>(problem: &Problem<A>, writer: u32) -> Option<u32> {
+fn writer_of(problem: &Problem, writer: u32) -> Option<u32> {
     match problem.cells.writers.get(writer as usize) {
         Some(found) => Some(tx_of(problem, found.row)),
         None => None,
@@ -37,7 +37,7 @@ fn writer_of<A: Allocator + Copy>(problem: &Problem<A>, writer: u32) -> Option<u
 }
 
 /// The take as laws name it.
-fn take_of<A: Allocator + Copy>(problem: &Problem<A>, take: TakeOf) -> Take {
+fn take_of(problem: &Problem, take: TakeOf) -> Take {
     Take {
         taker: tx_of(problem, take.row),
         object: take.object,
@@ -46,7 +46,7 @@ fn take_of<A: Allocator + Copy>(problem: &Problem<A>, take: TakeOf) -> Take {
 }
 
 /// The take of the item, and the addition that it is.
-fn item_of<A: Allocator + Copy>(problem: &Problem<A>, item: u32) -> (Take, u32, u32) {
+fn item_of(problem: &Problem, item: u32) -> (Take, u32, u32) {
     let found = at(&problem.items.items, item as usize, NO_ITEM);
     let take = at(&problem.items.takes, found.take as usize, NO_TAKE);
     let adder = tx_of(problem, found.row);
@@ -54,7 +54,7 @@ fn item_of<A: Allocator + Copy>(problem: &Problem<A>, item: u32) -> (Take, u32, 
 }
 
 /// The source: what is read, and by whom it was written, or that it was there from the beginning.
-fn source_of<A: Allocator + Copy>(problem: &Problem<A>, source: u32) -> (Read, Option<u32>) {
+fn source_of(problem: &Problem, source: u32) -> (Read, Option<u32>) {
     let found = at(&problem.cells.sources, source as usize, NO_SOURCE);
     (
         read_of(problem, found.reader),
@@ -63,7 +63,7 @@ fn source_of<A: Allocator + Copy>(problem: &Problem<A>, source: u32) -> (Read, O
 }
 
 /// What the variable says.
-fn atom_of<A: Allocator + Copy>(problem: &Problem<A>, variable: usize) -> Atom {
+fn atom_of(problem: &Problem, variable: usize) -> Atom {
     match at(&problem.variables.roles, variable, Role::Nothing) {
         Role::Nothing => Atom::Commits(0),
         Role::Precedence(row, other) => {
@@ -83,7 +83,7 @@ fn atom_of<A: Allocator + Copy>(problem: &Problem<A>, variable: usize) -> Atom {
 }
 
 /// The law that what was added before is taken before.
-fn gone_of<A: Allocator + Copy>(problem: &Problem<A>, number: u32) -> Option<QueueLaw> {
+fn gone_of(problem: &Problem, number: u32) -> Option<QueueLaw> {
     let found = problem.items.gone.get(number as usize)?;
     let front = FrontItem {
         adder: tx_of(problem, found.row),
@@ -99,7 +99,7 @@ fn gone_of<A: Allocator + Copy>(problem: &Problem<A>, number: u32) -> Option<Que
 }
 
 /// The law of a cell that the origin is, if it is one.
-fn cell_law<A: Allocator + Copy>(problem: &Problem<A>, origin: Origin) -> Option<CellLaw> {
+fn cell_law(problem: &Problem, origin: Origin) -> Option<CellLaw> {
     match origin {
         Origin::Sources(reader) => Some(CellLaw::Sources(read_of(problem, reader))),
         Origin::SourceStands(source) => {
@@ -115,7 +115,7 @@ fn cell_law<A: Allocator + Copy>(problem: &Problem<A>, origin: Origin) -> Option
 }
 
 /// The law of a sum that the origin is, if it is one.
-fn sum_law<A: Allocator + Copy>(problem: &Problem<A>, origin: Origin) -> Option<SumLaw> {
+fn sum_law(problem: &Problem, origin: Origin) -> Option<SumLaw> {
     match origin {
         Origin::Counter(row, object) => {
             Some(SumLaw::Counter(tx_of(problem, row as usize), object))
@@ -131,7 +131,7 @@ fn sum_law<A: Allocator + Copy>(problem: &Problem<A>, origin: Origin) -> Option<
 }
 
 /// The law of a queue that the origin is, if it is one.
-fn queue_law<A: Allocator + Copy>(problem: &Problem<A>, origin: Origin) -> Option<QueueLaw> {
+fn queue_law(problem: &Problem, origin: Origin) -> Option<QueueLaw> {
     match origin {
         Origin::Items(take) => {
             let found = at(&problem.items.takes, take as usize, NO_TAKE);
@@ -154,7 +154,7 @@ fn queue_law<A: Allocator + Copy>(problem: &Problem<A>, origin: Origin) -> Optio
 }
 
 /// The law of the origin, if it is one of objects.
-fn law_of<A: Allocator + Copy>(problem: &Problem<A>, origin: Origin) -> Option<ObjectLaw> {
+fn law_of(problem: &Problem, origin: Origin) -> Option<ObjectLaw> {
     if let Some(law) = cell_law(problem, origin) {
         return Some(ObjectLaw::Cell(law));
     }
@@ -169,9 +169,9 @@ fn law_of<A: Allocator + Copy>(problem: &Problem<A>, origin: Origin) -> Option<O
 
 /// The steps that the last one needs, with their numbers among these, and the numbers of the atoms.
 #[derive(Drop)]
-struct Renumbering<A: Allocator + Copy = Global> {
-    steps: Vec<u32, A>,
-    atoms: Vec<u32, A>,
+struct Renumbering {
+    steps: Vec<u32>,
+    atoms: Vec<u32>,
 }
 
 /// Marks the steps that the last one needs.
@@ -202,38 +202,41 @@ fn number_needed(numbers: &mut [u32]) {
 }
 
 /// Adds the atoms of the literals that are new.
-fn add_atoms<A: Allocator + Copy>(
-    atoms: &mut Vec<Atom, A>,
+fn add_atoms(
+    atoms: &mut Vec<Atom>,
     numbers: &mut [u32],
-    problem: &Problem<A>,
+    problem: &Problem,
     literals: &[u32],
 ) -> Result<(), OutOfMemory> {
     for literal in literals {
         if at(numbers, var(*literal), 0) == NONE {
             set(numbers, var(*literal), short(atoms.len()));
-            atoms.push(atom_of(problem, var(*literal)))?;
+            push(atoms, atom_of(problem, var(*literal)))?;
         }
     }
     Ok(())
 }
 
 /// The clause, those of its literals first that deny a source or an item.
-fn clause_of<A: Allocator + Copy>(
-    alloc: A,
-    problem: &Problem<A>,
+fn clause_of(
+    alloc: Global,
+    problem: &Problem,
     numbers: &[u32],
     literals: &[u32],
-) -> Result<Vec<Literal, A>, OutOfMemory> {
+) -> Result<Vec<Literal>, OutOfMemory> {
     let mut clause = Vec::new(alloc);
     for is_first in &[true, false] {
         for literal in literals {
             let role = at(&problem.variables.roles, var(*literal), Role::Nothing);
             let is_guard = matches!(role, Role::Source(_) | Role::Item(_)) && literal & 1 == 1;
             if is_guard == *is_first {
-                clause.push(Literal {
-                    atom: at(numbers, var(*literal), NONE),
-                    holds: literal & 1 == 0,
-                })?;
+                push(
+                    &mut clause,
+                    Literal {
+                        atom: at(numbers, var(*literal), NONE),
+                        holds: literal & 1 == 0,
+                    },
+                )?;
             }
         }
     }
@@ -241,42 +244,34 @@ fn clause_of<A: Allocator + Copy>(
 }
 
 /// The transactions of a circle.
-fn circle_of<A: Allocator + Copy>(
-    alloc: A,
-    problem: &Problem<A>,
-    rows: [u32; 4],
-) -> Result<Vec<u32, A>, OutOfMemory> {
+fn circle_of(alloc: Global, problem: &Problem, rows: [u32; 4]) -> Result<Vec<u32>, OutOfMemory> {
     let mut circle = Vec::new(alloc);
     for row in &rows {
         let tx = tx_of(problem, *row as usize);
         if !circle.contains(&tx) {
-            circle.push(tx)?;
+            push(&mut circle, tx)?;
         }
     }
     Ok(circle)
 }
 
 /// The numbers of the hints between those places.
-fn hints_of<A: Allocator + Copy>(
-    alloc: A,
-    hints: &[u32],
-    numbers: &[u32],
-) -> Result<Vec<u32, A>, OutOfMemory> {
+fn hints_of(alloc: Global, hints: &[u32], numbers: &[u32]) -> Result<Vec<u32>, OutOfMemory> {
     let mut found = Vec::new(alloc);
     for hint in hints {
-        found.push(at(numbers, *hint as usize, NONE))?;
+        push(&mut found, at(numbers, *hint as usize, NONE))?;
     }
     Ok(found)
 }
 
 /// What the step follows from, if that can be said.
-fn reason_of<A: Allocator + Copy>(
-    alloc: A,
-    problem: &Problem<A>,
-    steps: &StepLog<A>,
+fn reason_of(
+    alloc: Global,
+    problem: &Problem,
+    steps: &StepLog,
     numbers: &[u32],
     why: Why,
-) -> Result<Option<Reason<ObjectLaw, A>>, OutOfMemory> {
+) -> Result<Option<Reason<ObjectLaw>>, OutOfMemory> {
     match why {
         Why::Units(from, to) => {
             let hints = range(&steps.hints, from, to);
@@ -294,8 +289,8 @@ fn reason_of<A: Allocator + Copy>(
 }
 
 /// Room for the numbers of steps and atoms.
-fn make_numbers<A: Allocator + Copy>(
-    numbers: &mut Renumbering<A>,
+fn make_numbers(
+    numbers: &mut Renumbering,
     steps: usize,
     variables: usize,
 ) -> Result<(), OutOfMemory> {
@@ -304,12 +299,12 @@ fn make_numbers<A: Allocator + Copy>(
 }
 
 /// The numbers of the steps that the last one needs, and room for those of atoms.
-fn numbers_of<A: Allocator + Copy>(
-    alloc: A,
-    problem: &Problem<A>,
-    steps: &StepLog<A>,
+fn numbers_of(
+    alloc: Global,
+    problem: &Problem,
+    steps: &StepLog,
     last: u32,
-) -> Result<Renumbering<A>, OutOfMemory> {
+) -> Result<Renumbering, OutOfMemory> {
     let mut numbers = Renumbering {
         steps: Vec::new(alloc),
         atoms: Vec::new(alloc),
@@ -325,12 +320,12 @@ fn numbers_of<A: Allocator + Copy>(
 }
 
 /// Adds the step to the refutation. False where its reason cannot be said.
-fn add_step<A: Allocator + Copy>(
-    alloc: A,
-    refutation: &mut Refutation<ObjectLaw, A>,
-    numbers: &mut Renumbering<A>,
-    problem: &Problem<A>,
-    steps: &StepLog<A>,
+fn add_step(
+    alloc: Global,
+    refutation: &mut Refutation<ObjectLaw>,
+    numbers: &mut Renumbering,
+    problem: &Problem,
+    steps: &StepLog,
     logged: Logged,
 ) -> Result<bool, OutOfMemory> {
     let literals = range(&steps.literals, logged.from, logged.to);
@@ -340,17 +335,17 @@ fn add_step<A: Allocator + Copy>(
     let Some(reason) = found else {
         return Ok(false);
     };
-    refutation.steps.push(Step::new(clause, reason))?;
+    push(&mut refutation.steps, Step::new(clause, reason))?;
     Ok(true)
 }
 
 /// Adds the steps to the refutation that are needed. False where a reason cannot be said.
-fn add_steps<A: Allocator + Copy>(
-    alloc: A,
-    refutation: &mut Refutation<ObjectLaw, A>,
-    numbers: &mut Renumbering<A>,
-    problem: &Problem<A>,
-    steps: &StepLog<A>,
+fn add_steps(
+    alloc: Global,
+    refutation: &mut Refutation<ObjectLaw>,
+    numbers: &mut Renumbering,
+    problem: &Problem,
+    steps: &StepLog,
 ) -> Result<bool, OutOfMemory> {
     for (number, logged) in steps.steps.iter().enumerate() {
         if at(&numbers.steps, number, NONE) != NONE {
@@ -364,12 +359,12 @@ fn add_steps<A: Allocator + Copy>(
 }
 
 /// The refutation that ends with the step, with no step that it does not need; or none, where a step cannot be said.
-pub(crate) fn refutation_of<A: Allocator + Copy>(
-    alloc: A,
-    problem: &Problem<A>,
-    steps: &StepLog<A>,
+pub(crate) fn refutation_of(
+    alloc: Global,
+    problem: &Problem,
+    steps: &StepLog,
     last: u32,
-) -> Result<Option<Refutation<ObjectLaw, A>>, OutOfMemory> {
+) -> Result<Option<Refutation<ObjectLaw>>, OutOfMemory> {
     let mut numbers = numbers_of(alloc, problem, steps, last)?;
     let mut refutation = Refutation {
         atoms: Vec::new(alloc),

@@ -8,7 +8,7 @@ use crate::encoding::{LITERALS, Role, append};
 use crate::explanation::{View, pair_of};
 use crate::heap::{Heap, heaviest, insert, make_heap, take_heaviest};
 use crate::known::{Antecedent, Conflict, Known, assign, make_room, value};
-use crate::literals::{NONE, TRUE, at, neg, range, set, short, var};
+use crate::literals::{NONE, TRUE, at, extend_by, neg, push, range, set, short, var};
 use crate::log::{Log, bytes_logged, log_conflict, log_end, log_learned, make_log};
 use crate::problem::{Problem, bytes_of};
 use crate::queues::NO_ITEM;
@@ -17,7 +17,7 @@ use crate::spans::{Span, instant, span_of};
 use crate::sums::Sums;
 use crate::watches::{follow_clauses, watch_all, watch_both};
 use aud_event::OutOfMemory;
-use std::alloc::{Allocator, Global};
+use std::alloc::Global;
 
 /// After so many conflicts the worse half of the learned clauses goes.
 const REDUCE_EVERY: u64 = 3000;
@@ -34,19 +34,19 @@ struct Late {
 
 /// A search, as far as it is.
 #[derive(Drop)]
-pub(crate) struct Solver<A: Allocator + Copy = Global> {
-    pub alloc: A,
-    pub problem: Problem<A>,
-    pub known: Known<A>,
-    pub closure: Closure<A>,
-    pub heap: Heap<A>,
-    pub analysis: Analysis<A>,
-    pub log: Log<A>,
+pub(crate) struct Solver {
+    pub alloc: Global,
+    pub problem: Problem,
+    pub known: Known,
+    pub closure: Closure,
+    pub heap: Heap,
+    pub analysis: Analysis,
+    pub log: Log,
     pub conflicts: u64,
     /// Literals that are taken to hold for a while.
-    pub assumed: Vec<u32, A>,
+    pub assumed: Vec<u32>,
     /// The phases of the longest trail, its length, how many of its first literals still hold, and whether its phases are tried.
-    best: Vec<bool, A>,
+    best: Vec<bool>,
     best_count: usize,
     best_kept: usize,
     pub tries_best: bool,
@@ -56,7 +56,7 @@ pub(crate) struct Solver<A: Allocator + Copy = Global> {
     at_conflict: u64,
     /// How many levels the search goes back, where more would be far.
     stride: u32,
-    late: Vec<Late, A>,
+    late: Vec<Late>,
 }
 
 /// What a search came to.
@@ -73,11 +73,11 @@ pub(crate) enum Found {
 }
 
 /// A search of the problem, for which no room is made yet.
-pub(crate) fn solver_of<A: Allocator + Copy>(
-    alloc: A,
-    problem: Problem<A>,
+pub(crate) fn solver_of(
+    alloc: Global,
+    problem: Problem,
     logs: bool,
-) -> Result<Solver<A>, OutOfMemory> {
+) -> Result<Solver, OutOfMemory> {
     let closure = close_spans(alloc, &problem.spans)?;
     Ok(Solver {
         alloc,
@@ -102,10 +102,7 @@ pub(crate) fn solver_of<A: Allocator + Copy>(
 }
 
 /// Makes room for what is known and learned.
-fn make_room_to_learn<A: Allocator + Copy>(
-    solver: &mut Solver<A>,
-    count: usize,
-) -> Result<(), OutOfMemory> {
+fn make_room_to_learn(solver: &mut Solver, count: usize) -> Result<(), OutOfMemory> {
     make_heap(&mut solver.heap, count)?;
     make_marks(&mut solver.analysis, count)?;
     let origins = solver.problem.clauses.origins.len();
@@ -113,7 +110,7 @@ fn make_room_to_learn<A: Allocator + Copy>(
 }
 
 /// Makes room.
-fn make_all_room<A: Allocator + Copy>(solver: &mut Solver<A>) -> Result<(), OutOfMemory> {
+fn make_all_room(solver: &mut Solver) -> Result<(), OutOfMemory> {
     let count = solver.problem.variables.roles.len();
     make_room(&mut solver.known, count)?;
     solver.known.work = solver.problem.allowance.work;
@@ -145,7 +142,7 @@ fn weigh_pairs(roles: &[Role], spans: &[Span], phases: &mut [bool], weights: &mu
 }
 
 /// All whose values may be chosen wait for that.
-fn insert_all<A: Allocator + Copy>(heap: &mut Heap<A>, choices: &[bool]) {
+fn insert_all(heap: &mut Heap, choices: &[bool]) {
     for variable in 1..choices.len() {
         if choices[variable] {
             insert(heap, variable);
@@ -154,7 +151,7 @@ fn insert_all<A: Allocator + Copy>(heap: &mut Heap<A>, choices: &[bool]) {
 }
 
 /// Makes room, and decides first what comes first.
-pub(crate) fn prepare<A: Allocator + Copy>(solver: &mut Solver<A>) -> Result<(), OutOfMemory> {
+pub(crate) fn prepare(solver: &mut Solver) -> Result<(), OutOfMemory> {
     make_all_room(solver)?;
     let variables = &mut solver.problem.variables;
     let (spans, weights) = (&solver.problem.spans[..], &mut solver.heap.weights);
@@ -164,10 +161,10 @@ pub(crate) fn prepare<A: Allocator + Copy>(solver: &mut Solver<A>) -> Result<(),
 }
 
 /// Follows the next literal that holds by all but clauses.
-fn propagate_next<A: Allocator + Copy>(
-    problem: &mut Problem<A>,
-    known: &mut Known<A>,
-    closure: &mut Closure<A>,
+fn propagate_next(
+    problem: &mut Problem,
+    known: &mut Known,
+    closure: &mut Closure,
 ) -> Option<Conflict> {
     let literal = at(&known.trail, known.propagated, 0);
     known.propagated = known.propagated.wrapping_add(1);
@@ -196,11 +193,7 @@ fn propagate_next<A: Allocator + Copy>(
 }
 
 /// Follows what holds as far as it forces more.
-fn propagate<A: Allocator + Copy>(
-    problem: &mut Problem<A>,
-    known: &mut Known<A>,
-    closure: &mut Closure<A>,
-) -> Option<Conflict> {
+fn propagate(problem: &mut Problem, known: &mut Known, closure: &mut Closure) -> Option<Conflict> {
     for _ in 0..u64::MAX {
         let conflict = follow_clauses(known, &mut problem.clauses);
         if conflict.is_some() {
@@ -232,11 +225,11 @@ fn reopen_literal(values: &mut [i8], phases: &mut [bool], literal: u32) {
 }
 
 /// The literal no longer holds.
-fn unassign<A: Allocator + Copy>(
-    problem: &mut Problem<A>,
-    known: &mut Known<A>,
-    closure: &mut Closure<A>,
-    heap: &mut Heap<A>,
+fn unassign(
+    problem: &mut Problem,
+    known: &mut Known,
+    closure: &mut Closure,
+    heap: &mut Heap,
     literal: u32,
 ) {
     if let Some((row, other)) = pair_of(&problem.variables.roles, literal) {
@@ -249,18 +242,18 @@ fn unassign<A: Allocator + Copy>(
 }
 
 /// The literals between those places of the trail hold no longer, as the terms count them.
-fn uncount<A: Allocator + Copy>(sums: &mut Sums<A>, trail: &[u32], from: usize, to: usize) {
+fn uncount(sums: &mut Sums, trail: &[u32], from: usize, to: usize) {
     for literal in range(trail, from, to) {
         let _count = count_terms(sums, *literal, false);
     }
 }
 
 /// The literals of the trail from the place on hold no longer.
-fn unassign_from<A: Allocator + Copy>(
-    problem: &mut Problem<A>,
-    known: &mut Known<A>,
-    closure: &mut Closure<A>,
-    heap: &mut Heap<A>,
+fn unassign_from(
+    problem: &mut Problem,
+    known: &mut Known,
+    closure: &mut Closure,
+    heap: &mut Heap,
     from: usize,
 ) {
     for place in from..known.count {
@@ -273,7 +266,7 @@ fn unassign_from<A: Allocator + Copy>(
 }
 
 /// Goes back to the level.
-pub(crate) fn backjump<A: Allocator + Copy>(solver: &mut Solver<A>, level: u32) {
+pub(crate) fn backjump(solver: &mut Solver, level: u32) {
     if solver.known.levels.len() <= level as usize {
         return;
     }
@@ -289,12 +282,7 @@ pub(crate) fn backjump<A: Allocator + Copy>(solver: &mut Solver<A>, level: u32) 
 }
 
 /// What late clauses forced that are of this level or of lower ones they force again. It gives how many these are; they come first.
-fn force_late<A: Allocator + Copy>(
-    known: &mut Known<A>,
-    arena: &[u32],
-    late: &mut [Late],
-    level: u32,
-) -> usize {
+fn force_late(known: &mut Known, arena: &[u32], late: &mut [Late], level: u32) -> usize {
     let mut kept: usize = 0;
     for place in 0..late.len() {
         let found = late[place];
@@ -313,13 +301,13 @@ fn force_late<A: Allocator + Copy>(
 
 /// Notes the phases of the first literals of the trail, so many, if none longer was noted. Those that held when the last one was noted, and
 /// still do, are noted already.
-fn note_best<A: Allocator + Copy>(solver: &mut Solver<A>, count: usize) -> Result<(), OutOfMemory> {
+fn note_best(solver: &mut Solver, count: usize) -> Result<(), OutOfMemory> {
     if count <= solver.best_count {
         return Ok(());
     }
     if solver.best.is_empty() {
         let phases = &solver.problem.variables.phases[..];
-        solver.best.extend_from_slice(phases)?;
+        extend_by(&mut solver.best, phases)?;
     }
     for literal in range(&solver.known.trail, solver.best_kept, count) {
         set(&mut solver.best, var(*literal), *literal & 1 == 0);
@@ -347,12 +335,7 @@ macro_rules! view_of {
 }
 
 /// Adds the learned clause, and what it forces since the level.
-fn add_learned<A: Allocator + Copy>(
-    solver: &mut Solver<A>,
-    levels: u32,
-    step: u32,
-    level: u32,
-) -> Result<(), OutOfMemory> {
+fn add_learned(solver: &mut Solver, levels: u32, step: u32, level: u32) -> Result<(), OutOfMemory> {
     let clauses = &mut solver.problem.clauses;
     let clause = append(
         &mut clauses.arena,
@@ -361,24 +344,20 @@ fn add_learned<A: Allocator + Copy>(
         NONE,
         step,
     )?;
-    clauses.learned.push(clause)?;
+    push(&mut clauses.learned, clause)?;
     watch_both(&mut clauses.arena, &mut clauses.heads, clause);
     let first = at(&solver.analysis.clause, 0, 0);
     if value(&solver.known.values, first) == 0 {
         assign(&mut solver.known, first, Antecedent::Clause(clause));
     }
     if level < short(solver.known.levels.len()) {
-        solver.late.push(Late { clause, level })?;
+        push(&mut solver.late, Late { clause, level })?;
     }
     Ok(())
 }
 
 /// Notes what the conflict needs. Its literals are those that hold and cannot all do.
-fn note_conflict<A: Allocator + Copy>(
-    solver: &mut Solver<A>,
-    conflict: Conflict,
-    is_end: bool,
-) -> Result<(), OutOfMemory> {
+fn note_conflict(solver: &mut Solver, conflict: Conflict, is_end: bool) -> Result<(), OutOfMemory> {
     let view = view_of!(solver);
     let literals = &solver.analysis.todo[..];
     log_conflict(&mut solver.log, &view, conflict, literals)?;
@@ -394,14 +373,14 @@ fn note_conflict<A: Allocator + Copy>(
 }
 
 /// Makes a clause of the conflict, whose highest level is given; and gives the level at which the clause forces a literal.
-fn make_clause<A: Allocator + Copy>(solver: &mut Solver<A>, top: u32) -> Result<u32, OutOfMemory> {
+fn make_clause(solver: &mut Solver, top: u32) -> Result<u32, OutOfMemory> {
     let view = view_of!(solver);
     let trail = range(&solver.known.trail, 0, solver.known.count);
     learn(&mut solver.analysis, &mut solver.heap, &view, trail, top)
 }
 
 /// Writes down what the clause follows from, if that is asked for, and gives the step.
-fn write_clause<A: Allocator + Copy>(solver: &mut Solver<A>) -> Result<u32, OutOfMemory> {
+fn write_clause(solver: &mut Solver) -> Result<u32, OutOfMemory> {
     if !solver.log.is_on {
         return Ok(NONE);
     }
@@ -411,7 +390,7 @@ fn write_clause<A: Allocator + Copy>(solver: &mut Solver<A>) -> Result<u32, OutO
 
 /// The level to which the search goes back, where the clause forces a literal from that one on. Where that is far, it is one below the
 /// highest, and further with each conflict since the last choice: what was chosen between stays.
-fn backjump_level<A: Allocator + Copy>(solver: &mut Solver<A>, level: u32, top: u32) -> u32 {
+fn backjump_level(solver: &mut Solver, level: u32, top: u32) -> u32 {
     if solver.choice_count > solver.at_conflict {
         solver.stride = 1;
     } else {
@@ -426,7 +405,7 @@ fn backjump_level<A: Allocator + Copy>(solver: &mut Solver<A>, level: u32, top: 
 }
 
 /// Learns a clause from the conflict, whose highest level is given, and goes back to where the clause forces a literal.
-fn learn_clause<A: Allocator + Copy>(solver: &mut Solver<A>, top: u32) -> Result<(), OutOfMemory> {
+fn learn_clause(solver: &mut Solver, top: u32) -> Result<(), OutOfMemory> {
     let level = make_clause(solver, top)?;
     let levels = count_levels(&mut solver.analysis, &solver.known.states);
     let step = write_clause(solver)?;
@@ -436,7 +415,7 @@ fn learn_clause<A: Allocator + Copy>(solver: &mut Solver<A>, top: u32) -> Result
 }
 
 /// Drops learned clauses, if it is time.
-fn reduce_if_due<A: Allocator + Copy>(solver: &mut Solver<A>) -> Result<(), OutOfMemory> {
+fn reduce_if_due(solver: &mut Solver) -> Result<(), OutOfMemory> {
     if solver.conflicts >= solver.reduce_at {
         reduce(solver.alloc, &mut solver.problem.clauses, &mut solver.known)?;
         solver.late.clear();
@@ -446,10 +425,7 @@ fn reduce_if_due<A: Allocator + Copy>(solver: &mut Solver<A>) -> Result<(), OutO
 }
 
 /// Reads what the conflict needs, and notes it, if that is asked for or is the end. The highest level of it is given.
-fn read_top<A: Allocator + Copy>(
-    solver: &mut Solver<A>,
-    conflict: Conflict,
-) -> Result<u32, OutOfMemory> {
+fn read_top(solver: &mut Solver, conflict: Conflict) -> Result<u32, OutOfMemory> {
     let view = view_of!(solver);
     let top = read_conflict(&mut solver.analysis, &view, conflict)?;
     if solver.log.is_on || (top == 0 && solver.problem.clauses.learned.is_empty()) {
@@ -459,10 +435,7 @@ fn read_top<A: Allocator + Copy>(
 }
 
 /// Learns from the conflict, and goes back. None where the search goes on.
-fn handle_conflict<A: Allocator + Copy>(
-    solver: &mut Solver<A>,
-    conflict: Conflict,
-) -> Result<Option<Found>, OutOfMemory> {
+fn handle_conflict(solver: &mut Solver, conflict: Conflict) -> Result<Option<Found>, OutOfMemory> {
     solver.conflicts = solver.conflicts.wrapping_add(1);
     let last = solver.known.levels.len().wrapping_sub(1);
     let begun = at(&solver.known.levels, last, 0);
@@ -483,7 +456,7 @@ fn handle_conflict<A: Allocator + Copy>(
 }
 
 /// Takes the literal to hold, if it is open. False where that cannot be.
-fn assume_one<A: Allocator + Copy>(solver: &mut Solver<A>, literal: u32) -> bool {
+fn assume_one(solver: &mut Solver, literal: u32) -> bool {
     if value(&solver.known.values, literal) != 0 {
         return true;
     }
@@ -492,8 +465,8 @@ fn assume_one<A: Allocator + Copy>(solver: &mut Solver<A>, literal: u32) -> bool
 }
 
 /// Takes the assumed literals to hold, at a level of their own. False where they cannot all.
-fn assume<A: Allocator + Copy>(solver: &mut Solver<A>) -> Result<bool, OutOfMemory> {
-    solver.known.levels.push(solver.known.count)?;
+fn assume(solver: &mut Solver) -> Result<bool, OutOfMemory> {
+    push(&mut solver.known.levels, solver.known.count)?;
     for place in 0..solver.assumed.len() {
         let literal = at(&solver.assumed, place, 0);
         if !assume_one(solver, literal) {
@@ -504,7 +477,7 @@ fn assume<A: Allocator + Copy>(solver: &mut Solver<A>) -> Result<bool, OutOfMemo
 }
 
 /// Which of the variable's literals is tried first.
-fn first_literal<A: Allocator + Copy>(solver: &Solver<A>, variable: u32) -> u32 {
+fn first_literal(solver: &Solver, variable: u32) -> u32 {
     let phases = if solver.tries_best && solver.best_count > 0 {
         &solver.best[..]
     } else {
@@ -519,7 +492,7 @@ fn first_literal<A: Allocator + Copy>(solver: &Solver<A>, variable: u32) -> u32 
 }
 
 /// Decides the next variable. False where none is left.
-fn choose<A: Allocator + Copy>(solver: &mut Solver<A>) -> Result<bool, OutOfMemory> {
+fn choose(solver: &mut Solver) -> Result<bool, OutOfMemory> {
     for _ in 0..solver.known.values.len() {
         let Some(variable) = take_heaviest(&mut solver.heap) else {
             return Ok(false);
@@ -527,7 +500,7 @@ fn choose<A: Allocator + Copy>(solver: &mut Solver<A>) -> Result<bool, OutOfMemo
         if value(&solver.known.values, variable.wrapping_mul(2)) == 0 {
             let literal = first_literal(solver, variable);
             solver.choice_count = solver.choice_count.wrapping_add(1);
-            solver.known.levels.push(solver.known.count)?;
+            push(&mut solver.known.levels, solver.known.count)?;
             assign(&mut solver.known, literal, Antecedent::Choice);
             return Ok(true);
         }
@@ -536,7 +509,7 @@ fn choose<A: Allocator + Copy>(solver: &mut Solver<A>) -> Result<bool, OutOfMemo
 }
 
 /// The clauses of one literal hold. The first that cannot is given.
-fn begin_clauses<A: Allocator + Copy>(solver: &mut Solver<A>) -> Option<Conflict> {
+fn begin_clauses(solver: &mut Solver) -> Option<Conflict> {
     let mut place: usize = 0;
     for _ in 0..solver.problem.clauses.arena.len() {
         if place >= solver.problem.clauses.arena.len() {
@@ -562,7 +535,7 @@ fn begin_clauses<A: Allocator + Copy>(solver: &mut Solver<A>) -> Option<Conflict
 }
 
 /// Follows what holds in any case. False where that cannot be.
-pub(crate) fn begin<A: Allocator + Copy>(solver: &mut Solver<A>) -> Result<bool, OutOfMemory> {
+pub(crate) fn begin(solver: &mut Solver) -> Result<bool, OutOfMemory> {
     let Some(conflict) = begin_clauses(solver) else {
         return Ok(true);
     };
@@ -581,19 +554,19 @@ pub(crate) struct Limits {
 }
 
 /// How many bytes the search takes, about.
-pub(crate) fn bytes_held<A: Allocator + Copy>(solver: &Solver<A>) -> usize {
+pub(crate) fn bytes_held(solver: &Solver) -> usize {
     bytes_of(&solver.problem).saturating_add(bytes_logged(&solver.log.steps))
 }
 
 /// Whether the search is past its limits.
-fn is_spent<A: Allocator + Copy>(solver: &Solver<A>, limits: Limits) -> bool {
+fn is_spent(solver: &Solver, limits: Limits) -> bool {
     solver.conflicts >= limits.conflicts
         || solver.known.work >= limits.work
         || bytes_held(solver) > limits.bytes
 }
 
 /// The weight of the variable whose value would be chosen next.
-fn next_weight<A: Allocator + Copy>(heap: &mut Heap<A>, values: &[i8]) -> f64 {
+fn next_weight(heap: &mut Heap, values: &[i8]) -> f64 {
     for _ in 0..values.len() {
         let Some(variable) = heaviest(heap) else {
             break;
@@ -618,7 +591,7 @@ fn levels_kept(levels: &[usize], trail: &[u32], weights: &[f64], next: f64) -> u
 }
 
 /// Goes back to where other variables would be chosen now.
-fn begin_again<A: Allocator + Copy>(solver: &mut Solver<A>) {
+fn begin_again(solver: &mut Solver) {
     if !solver.assumed.is_empty() {
         backjump(solver, 0);
         return;
@@ -630,10 +603,7 @@ fn begin_again<A: Allocator + Copy>(solver: &mut Solver<A>) {
 }
 
 /// Searches within the limits.
-pub(crate) fn search<A: Allocator + Copy>(
-    solver: &mut Solver<A>,
-    limits: Limits,
-) -> Result<Found, OutOfMemory> {
+pub(crate) fn search(solver: &mut Solver, limits: Limits) -> Result<Found, OutOfMemory> {
     for _ in 0..u64::MAX {
         let conflict = propagate(&mut solver.problem, &mut solver.known, &mut solver.closure);
         if let Some(conflict) = conflict {

@@ -1,9 +1,9 @@
 //! When transactions ran, and the variables of the pairs that real time leaves open.
 
-use crate::literals::{FALSE, NONE, TRUE, at, neg, short};
+use crate::literals::{FALSE, NONE, TRUE, at, neg, push, short};
 use aud_event::OutOfMemory;
 use aud_history::{Status, TxRow};
-use std::alloc::Allocator;
+use std::alloc::Global;
 
 /// When a transaction ran.
 #[derive(Clone, Copy)]
@@ -88,10 +88,7 @@ fn first_after(spans: &[Span], stamp: u32) -> usize {
 }
 
 /// The rows' spans. The literals that those commit whose fates are open are still none.
-pub(crate) fn spans_of<A: Allocator + Copy>(
-    alloc: A,
-    rows: &[TxRow<A>],
-) -> Result<Vec<Span, A>, OutOfMemory> {
+pub(crate) fn spans_of(alloc: Global, rows: &[TxRow]) -> Result<Vec<Span>, OutOfMemory> {
     let mut spans = Vec::new(alloc);
     for row in rows {
         let (last, commits) = match row.status() {
@@ -100,15 +97,18 @@ pub(crate) fn spans_of<A: Allocator + Copy>(
             Status::CommitPending => (NONE, NONE),
             Status::Live => (NONE, FALSE),
         };
-        spans.push(Span {
-            tx: row.tx(),
-            first: row.first(),
-            last,
-            until: row.last(),
-            end: 0,
-            base: 0,
-            commits,
-        })?;
+        push(
+            &mut spans,
+            Span {
+                tx: row.tx(),
+                first: row.first(),
+                last,
+                until: row.last(),
+                end: 0,
+                base: 0,
+                commits,
+            },
+        )?;
     }
     number_pairs(&mut spans);
     Ok(spans)

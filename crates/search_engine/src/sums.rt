@@ -1,11 +1,11 @@
 //! Sums: of those that stand before one, each changes a count, and what that sees is the sum.
 
 use crate::encoding::{Origin, Variables, ask};
-use crate::literals::{FALSE, NONE, TRUE, at, fill, set, short, var};
+use crate::literals::{FALSE, NONE, TRUE, at, extend_by, fill, push, set, short, var};
 use crate::problem::Problem;
 use crate::spans::{Span, before, span_of};
 use aud_event::OutOfMemory;
-use std::alloc::{Allocator, Global};
+use std::alloc::Global;
 
 /// What is added if both literals hold.
 #[derive(Clone, Copy)]
@@ -64,20 +64,20 @@ pub(crate) const NO_SUM: Sum = Sum {
 
 /// The sums with their terms.
 #[derive(Drop)]
-pub(crate) struct Sums<A: Allocator + Copy = Global> {
-    pub sums: Vec<Sum, A>,
-    pub slacks: Vec<Slack, A>,
-    pub terms: Vec<Term, A>,
+pub(crate) struct Sums {
+    pub sums: Vec<Sum>,
+    pub slacks: Vec<Slack>,
+    pub terms: Vec<Term>,
     /// The terms of each variable, as twice their number, and one more where it is the opposite; and where those of each begin.
-    pub occurrences: Vec<u32, A>,
-    pub starts: Vec<u32, A>,
+    pub occurrences: Vec<u32>,
+    pub starts: Vec<u32>,
     /// The sums that wait.
-    pub waiting: Vec<u32, A>,
+    pub waiting: Vec<u32>,
 }
 
-impl<A: Allocator + Copy> Sums<A> {
+impl Sums {
     /// No sums. It does not allocate.
-    pub(crate) fn empty(alloc: A) -> Sums<A> {
+    pub(crate) fn empty(alloc: Global) -> Sums {
         Sums {
             sums: Vec::new(alloc),
             slacks: Vec::new(alloc),
@@ -91,17 +91,17 @@ impl<A: Allocator + Copy> Sums<A> {
 
 /// For the rows that touch one object, in their order: which of them ran beside each one, and after which each one had ended.
 #[derive(Drop)]
-pub(crate) struct Concurrent<A: Allocator + Copy = Global> {
-    pub starts: Vec<usize, A>,
-    pub others: Vec<usize, A>,
+pub(crate) struct Concurrent {
+    pub starts: Vec<usize>,
+    pub others: Vec<usize>,
     /// The first of the rows that began after it ended.
-    pub ended: Vec<usize, A>,
-    active: Vec<usize, A>,
+    pub ended: Vec<usize>,
+    active: Vec<usize>,
 }
 
-impl<A: Allocator + Copy> Concurrent<A> {
+impl Concurrent {
     /// Of no rows. It does not allocate.
-    pub(crate) fn empty(alloc: A) -> Concurrent<A> {
+    pub(crate) fn empty(alloc: Global) -> Concurrent {
         Concurrent {
             starts: Vec::new(alloc),
             others: Vec::new(alloc),
@@ -134,8 +134,8 @@ fn drop_ended(
 }
 
 /// Finds which of the rows ran beside which.
-pub(crate) fn find_concurrent<A: Allocator + Copy>(
-    concurrent: &mut Concurrent<A>,
+pub(crate) fn find_concurrent(
+    concurrent: &mut Concurrent,
     spans: &[Span],
     rows: &[usize],
 ) -> Result<(), OutOfMemory> {
@@ -153,18 +153,18 @@ pub(crate) fn find_concurrent<A: Allocator + Copy>(
             place,
         );
         concurrent.active.truncate(kept);
-        concurrent.starts.push(concurrent.others.len())?;
-        concurrent.others.extend_from_slice(&concurrent.active)?;
+        push(&mut concurrent.starts, concurrent.others.len())?;
+        extend_by(&mut concurrent.others, &concurrent.active)?;
         let end = span_of(spans, rows[place]).end;
         for later in place.wrapping_add(1)..rows.len() {
             if rows[later] >= end {
                 break;
             }
-            concurrent.others.push(later)?;
+            push(&mut concurrent.others, later)?;
         }
-        concurrent.active.push(place)?;
+        push(&mut concurrent.active, place)?;
     }
-    concurrent.starts.push(concurrent.others.len())?;
+    push(&mut concurrent.starts, concurrent.others.len())?;
     Ok(())
 }
 
@@ -189,8 +189,8 @@ fn sum_up(sums: &mut [i64]) {
 }
 
 /// For each of the rows what those add up to that had ended before it began and commit.
-pub(crate) fn sum_ended<A: Allocator + Copy>(
-    sums: &mut Vec<i64, A>,
+pub(crate) fn sum_ended(
+    sums: &mut Vec<i64>,
     ended: &[usize],
     spans: &[Span],
     rows: &[usize],
@@ -204,8 +204,8 @@ pub(crate) fn sum_ended<A: Allocator + Copy>(
 }
 
 /// Adds a term to the sum that is being made: the row stands before the other one, and commits.
-pub(crate) fn add_term<A: Allocator + Copy>(
-    terms: &mut Vec<Term, A>,
+pub(crate) fn add_term(
+    terms: &mut Vec<Term>,
     choices: &mut [bool],
     spans: &[Span],
     sum: u32,
@@ -219,22 +219,25 @@ pub(crate) fn add_term<A: Allocator + Copy>(
         return Ok(());
     }
     ask(choices, stands);
-    terms.push(Term {
-        gain,
-        literals: [stands, commits],
-        sum,
-        holding: u8::from(stands == TRUE).wrapping_add(u8::from(commits == TRUE)),
-        failing: 0,
-    })?;
+    push(
+        terms,
+        Term {
+            gain,
+            literals: [stands, commits],
+            sum,
+            holding: u8::from(stands == TRUE).wrapping_add(u8::from(commits == TRUE)),
+            failing: 0,
+        },
+    )?;
     Ok(())
 }
 
 /// Adds the terms of those that ran beside the row of that place, but for the one that is skipped.
-pub(crate) fn add_terms<A: Allocator + Copy>(
-    sums: &mut Sums<A>,
+pub(crate) fn add_terms(
+    sums: &mut Sums,
     choices: &mut [bool],
     spans: &[Span],
-    concurrent: &Concurrent<A>,
+    concurrent: &Concurrent,
     rows: &[usize],
     gains: &[i64],
     place: usize,
@@ -252,9 +255,9 @@ pub(crate) fn add_terms<A: Allocator + Copy>(
 }
 
 /// Adds the terms of all that ran beside the row of that place.
-pub(crate) fn add_all_terms<A: Allocator + Copy>(
-    problem: &mut Problem<A>,
-    concurrent: &Concurrent<A>,
+pub(crate) fn add_all_terms(
+    problem: &mut Problem,
+    concurrent: &Concurrent,
     rows: &[usize],
     gains: &[i64],
     place: usize,
@@ -323,23 +326,26 @@ fn remainder_or_sum(terms: &[Term], origin: Origin, wanted: i64, high: i64) -> (
 }
 
 /// Room for what is known of the sum, where its least and greatest are these and no term changes more.
-fn add_slack<A: Allocator + Copy>(
-    slacks: &mut Vec<Slack, A>,
+fn add_slack(
+    slacks: &mut Vec<Slack>,
     (low, high, most): (i64, i64, i64),
     wanted: i64,
 ) -> Result<(), OutOfMemory> {
-    slacks.push(Slack {
-        below: wanted.saturating_sub(low),
-        above: high.saturating_sub(wanted),
-        most,
-        waits: true,
-    })?;
+    push(
+        slacks,
+        Slack {
+            below: wanted.saturating_sub(low),
+            above: high.saturating_sub(wanted),
+            most,
+            waits: true,
+        },
+    )?;
     Ok(())
 }
 
 /// Ends the sum of the terms from the place on. Where it cannot be reached, the slack says so.
-pub(crate) fn end_sum<A: Allocator + Copy>(
-    sums: &mut Sums<A>,
+pub(crate) fn end_sum(
+    sums: &mut Sums,
     from: usize,
     guard: u32,
     wanted: i64,
@@ -361,15 +367,18 @@ pub(crate) fn end_sum<A: Allocator + Copy>(
     let terms = crate::literals::range(&sums.terms, from, sums.terms.len());
     let (origin, wanted) = remainder_or_sum(terms, origin, wanted, high);
     let wanted = wanted.max(-4 * GREATEST).min(4 * GREATEST);
-    sums.waiting.push(short(sums.sums.len()))?;
+    push(&mut sums.waiting, short(sums.sums.len()))?;
     add_slack(&mut sums.slacks, (low, high, most), wanted)?;
     let to = sums.terms.len();
-    sums.sums.push(Sum {
-        origin,
-        guard,
-        from,
-        to,
-        wanted,
-    })?;
+    push(
+        &mut sums.sums,
+        Sum {
+            origin,
+            guard,
+            from,
+            to,
+            wanted,
+        },
+    )?;
     Ok(())
 }

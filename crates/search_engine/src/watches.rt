@@ -4,7 +4,6 @@ use crate::encoding::{Clauses, LENGTH, LINK, LITERALS};
 use crate::known::{Antecedent, Conflict, Known, assign, value};
 use crate::literals::{NONE, at, fill, neg, set};
 use aud_event::OutOfMemory;
-use std::alloc::Allocator;
 
 /// Puts the clause at the front of those that watch the literal, which is its first or second.
 fn watch(arena: &mut [u32], heads: &mut [u32], clause: u32, side: usize, literal: u32) {
@@ -26,10 +25,7 @@ pub(crate) fn watch_both(arena: &mut [u32], heads: &mut [u32], clause: u32) {
 }
 
 /// Watches all clauses anew, by their first two literals.
-pub(crate) fn watch_all<A: Allocator + Copy>(
-    clauses: &mut Clauses<A>,
-    count: usize,
-) -> Result<(), OutOfMemory> {
+pub(crate) fn watch_all(clauses: &mut Clauses, count: usize) -> Result<(), OutOfMemory> {
     clauses.heads.clear();
     fill(&mut clauses.heads, count, NONE)?;
     let mut place: usize = 0;
@@ -103,11 +99,7 @@ fn keep(arena: &mut [u32], heads: &mut [u32], clause: u32, failing: u32) {
 }
 
 /// Looks at the clauses in which a literal fails, as its opposite holds. Where a clause fails the rest is not looked at.
-fn visit_all<A: Allocator + Copy>(
-    known: &mut Known<A>,
-    clauses: &mut Clauses<A>,
-    failing: u32,
-) -> Option<Conflict> {
+fn visit_all(known: &mut Known, clauses: &mut Clauses, failing: u32) -> Option<Conflict> {
     let mut next = at(&clauses.heads, failing as usize, NONE);
     set(&mut clauses.heads, failing as usize, NONE);
     let mut conflict = None;
@@ -142,10 +134,7 @@ fn visit_all<A: Allocator + Copy>(
 }
 
 /// Follows the clauses from all literals that they have not seen.
-pub(crate) fn follow_clauses<A: Allocator + Copy>(
-    known: &mut Known<A>,
-    clauses: &mut Clauses<A>,
-) -> Option<Conflict> {
+pub(crate) fn follow_clauses(known: &mut Known, clauses: &mut Clauses) -> Option<Conflict> {
     for _ in known.seen..known.trail.len() {
         if known.seen >= known.count {
             break;

@@ -5,7 +5,7 @@ use Rattle.aud_order.specs.Shapes.{objects_of, history_of}
 use Rattle.aud_search.proofs.deciding.decide_on.Goals as goal
 
 pub returns-in-Refuted : goal.returns-in-Refuted
-returns-in-Refuted g c =
+returns-in-Refuted c =
     let objects = objects_of c.args.shape.now in
     let h = history_of c.args.shape.now in
     let refuted : Refuted objects h [] = subst (Refuted objects h) (c.decisions.ensures ∙ c.empty-empty.ensures) (rw c.in-Refuted.is at c.in_ok-witness.ensures.reported) in
