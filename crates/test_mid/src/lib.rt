@@ -18,3 +18,5 @@ mod splits;
 mod sums_and_queues;
 #[cfg(test)]
 mod text;
+#[cfg(test)]
+mod worlds;
