@@ -2,7 +2,7 @@
 use Rattle.std.proofs.Common.{◌≡◌, ℕ, suc, ◌+◌, ◌<◌, ◌≤◌, ◌⊎◌, inl, inr, List, [], ◌∷◌, length, refl, sym, ap, ◌∙◌, arith}
 use Rattle.std.specs.Prelude.{⊤, Bool, true, false, not, ◌||◌, ◌&&◌, if◌then◌else◌, Option, Some, None, nat_le, nat_eq, map}
 use Rattle.std.specs.List.{AllByRecursion, list_any, filter}
-use Rattle.base_trees.specs.Sets.{has, with_item, by_order}
+use Rattle.base_sorted.specs.Sets.{has, with_item, by_order}
 use Rattle.std.specs.declared.cmp.Ordering.{Ordering}
 use Rattle.std.specs.declared.cmp.Ordering.TheVariants.{Less, Equal, Greater}
 use Rattle.std.specs.Ordering.{is_eq}

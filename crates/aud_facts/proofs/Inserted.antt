@@ -3,7 +3,7 @@ use Rattle.std.proofs.Common.{Bool, true, false, cond, not, List, [], ◌∷◌}
 use Rattle.std.specs.List.{AllByRecursion}
 use Rattle.std.specs.declared.cmp.Ordering.{Ordering}
 use Rattle.std.specs.declared.cmp.Ordering.TheVariants.{Less, Equal, Greater}
-use Rattle.base_trees.specs.Sets.{by_order, has, with_item, without, inserted, union}
+use Rattle.base_sorted.specs.Sets.{by_order, has, with_item, without, inserted, union}
 
 by_cases : {K : Type 0} (P : K → Type 0) (o : Ordering) (k x : K) (xs ys : List K) → P k → P x → AllByRecursion P xs → AllByRecursion P ys → AllByRecursion P (by_order o (k ∷ x ∷ xs) (x ∷ xs) (x ∷ ys))
 by_cases P Less k x xs ys pk px pxs pys = (pk, (px, pxs))

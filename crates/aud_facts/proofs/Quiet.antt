@@ -11,9 +11,9 @@ use Rattle.aud_event.specs.Meanings.{PlanOf}
 use Rattle.aud_event.specs.declared.fact.Fact.{Fact}
 use Rattle.aud_event.specs.contracts.fact.FactOrd.TheImpl as fact
 use Rattle.aud_event.specs.contracts.fact.FactOrd.TheImpl.Laws as laws
-use Rattle.base_trees.proofs.Members.{member_of, contains_with_item, same_members}
-use Rattle.base_trees.specs.Sets.{has, with_item}
-use Rattle.base_trees.proofs.Strict.{some_passes, one_passes}
+use Rattle.base_sorted.proofs.Members.{member_of, contains_with_item, same_members}
+use Rattle.base_sorted.specs.Sets.{has, with_item}
+use Rattle.base_sorted.proofs.Strict.{some_passes, one_passes}
 use Rattle.aud_facts.specs.declared.status.Kind.{Kind}
 use Rattle.aud_facts.specs.declared.status.Kind.TheVariants.{TwoRecords, StampTwice, TwoCounts, PastCount, StampOrder}
 use Rattle.aud_facts.specs.declared.status.FactStatus.TheVariants.{Sealed}

@@ -10,8 +10,8 @@ use Rattle.aud_event.specs.declared.fact.Fact.{Fact}
 use Rattle.aud_event.specs.declared.fact.Fact.TheVariants.{Rec, End}
 use Rattle.aud_event.specs.contracts.fact.FactOrd.TheImpl as fact_ord
 use Rattle.aud_event.specs.contracts.fact.FactOrd.TheImpl.Laws as fact_laws
-use Rattle.base_trees.specs.Sets.{inserted}
-use Rattle.base_trees.proofs.Members.{inserted_is}
+use Rattle.base_sorted.specs.Sets.{inserted}
+use Rattle.base_sorted.proofs.Members.{inserted_is}
 use Rattle.aud_facts.specs.Order.{AreOrdered}
 use Rattle.aud_facts.specs.Shares.{is_of_share, share_of}
 

@@ -3,9 +3,9 @@ use Rattle.std.proofs.Common.{◌||◌, sym, ap, ◌∙◌}
 use Rattle.std.specs.declared.cmp.Ordering.{Ordering}
 use Rattle.std.specs.Cmp.{IsTotalOrder}
 use Rattle.base_values.specs.Exact.{IsExact}
-use Rattle.base_trees.specs.Sets.{has, union}
-use Rattle.base_trees.specs.Sorted.{has-union, sorted_union, same_sorted}
-use Rattle.base_trees.proofs.Pours.{union_swap}
+use Rattle.base_sorted.specs.Sets.{has, union}
+use Rattle.base_sorted.specs.Sorted.{has-union, sorted_union, same_sorted}
+use Rattle.base_sorted.proofs.Pours.{union_swap}
 use Rattle.aud_facts.specs.Joins.{UnionsCommute, UnionsAssociate, UnionsRepeat}
 use Rattle.base_values.proofs.Bools.{or_assoc, or_same}
 

@@ -4,7 +4,7 @@ use Rattle.aud_event.specs.Meanings.{PlanOf}
 use Rattle.aud_event.specs.Facts.{first_fact_fault}
 use Rattle.aud_event.specs.declared.fact.Fact.{Fact}
 use Rattle.aud_event.specs.contracts.fact.FactOrd.TheImpl as fact
-use Rattle.base_trees.specs.Sets.{has, with_item}
+use Rattle.base_sorted.specs.Sets.{has, with_item}
 use Rattle.aud_facts.specs.declared.status.FactStatus.{FactStatus}
 use Rattle.aud_facts.specs.declared.status.FactStatus.TheVariants.{Conflict, Waiting, Gap, Sealed}
 use Rattle.aud_facts.specs.Order.{AreOrdered}

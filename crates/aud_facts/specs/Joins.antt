@@ -3,7 +3,7 @@ use Rattle.std.specs.Prelude.{◌≡◌, List}
 use Rattle.std.specs.declared.cmp.Ordering.{Ordering}
 use Rattle.std.specs.List.Sorted.{IsStrictlySortedBy}
 use Rattle.aud_event.specs.contracts.fact.FactOrd.TheImpl as fact
-use Rattle.base_trees.specs.Sets.{union}
+use Rattle.base_sorted.specs.Sets.{union}
 use Rattle.aud_facts.specs.Order.{AreOrdered}
 use Rattle.aud_facts.specs.Sets.{FactsOf}
 

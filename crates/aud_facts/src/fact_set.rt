@@ -3,7 +3,7 @@
 ghost use Rattle.std.specs.Prelude.{◌≡◌, IfOk, OnOk, OnErr, IsTrue, ◌↔◌, ◌<◌, [], None, MatchOption, All, false, MatchResult};
 ghost use Rattle.aud_event.specs.Facts.{first_fact_fault};
 ghost use Rattle.aud_event.specs.contracts.fact.FactOrd.TheImpl as fact_ord;
-ghost use Rattle.base_trees.specs.Sets.{has, with_item, inserted, union};
+ghost use Rattle.base_sorted.specs.Sets.{has, with_item, inserted, union};
 ghost use Rattle.aud_facts.specs.Growth.{AreInConflict};
 ghost use Rattle.aud_facts.specs.Joins.{joined};
 ghost use Rattle.aud_facts.specs.Order.{AreOrdered};

@@ -13,12 +13,12 @@ use Rattle.aud_event.specs.Meanings.{PlanOf}
 use Rattle.aud_event.specs.Exactness.{fact_exact}
 use Rattle.aud_event.specs.declared.fact.Fact.{Fact}
 use Rattle.aud_event.specs.contracts.fact.FactOrd.TheImpl as fact_order
-use Rattle.base_trees.specs.Sets.{by_order, has, union}
-use Rattle.base_trees.specs.Sorted.{has-union, sorted_union, same_sorted}
-use Rattle.base_trees.proofs.Members.{has_is}
+use Rattle.base_sorted.specs.Sets.{by_order, has, union}
+use Rattle.base_sorted.specs.Sorted.{has-union, sorted_union, same_sorted}
+use Rattle.base_sorted.proofs.Members.{has_is}
 use Rattle.aud_lattice.specs.Covers.{begins, covers, IsCover, cover_union}
 use Rattle.aud_lattice.specs.Covering.{covers-cover_union, cover_cover_union, same_cover}
-use Rattle.base_trees.proofs.Strict.{some_passes, one_passes}
+use Rattle.base_sorted.proofs.Strict.{some_passes, one_passes}
 use Rattle.aud_lattice.specs.Least.{least_of}
 use Rattle.aud_facts.specs.Sets.{AreSound}
 use Rattle.aud_facts.specs.Quiet.{AreQuiet}

@@ -14,11 +14,11 @@ use Rattle.aud_event.specs.Exactness.{fact_exact}
 use Rattle.aud_lattice.specs.Covers.{begins, IsFirst}
 use Rattle.aud_lattice.specs.Covering.{cover_sorted}
 use Rattle.aud_lattice.specs.Least.{reaches}
-use Rattle.base_trees.proofs.Members.{has_member, member_of}
+use Rattle.base_sorted.proofs.Members.{has_member, member_of}
 use Rattle.aud_lattice.proofs.Normed.{norm_of_firsts}
-use Rattle.base_trees.specs.Sets.{has}
-use Rattle.base_trees.specs.Sorted.{same_sorted}
-use Rattle.base_trees.proofs.Strict.{some_passes, one_passes}
+use Rattle.base_sorted.specs.Sets.{has}
+use Rattle.base_sorted.specs.Sorted.{same_sorted}
+use Rattle.base_sorted.proofs.Strict.{some_passes, one_passes}
 use Rattle.aud_witness.specs.declared.decision.Decision.{Decision}
 use Rattle.aud_witness.specs.DecisionOrder.{decision_cmp, decisions_total, decision_exact, prefix_exact}
 use Rattle.aud_know.specs.Norms.{shown, facts_of, refuted_of, shown_of}

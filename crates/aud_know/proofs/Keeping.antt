@@ -12,8 +12,8 @@ use Rattle.aud_event.specs.contracts.fact.FactOrd.TheImpl as fact_order
 use Rattle.aud_event.specs.contracts.fact.FactOrd.TheImpl.Laws as fact_laws
 use Rattle.aud_lattice.specs.Covers.{with_list}
 use Rattle.aud_lattice.specs.Least.{least_of}
-use Rattle.base_trees.proofs.Members.{member_of, has_member}
-use Rattle.base_trees.specs.Sets.{with_item, union}
+use Rattle.base_sorted.proofs.Members.{member_of, has_member}
+use Rattle.base_sorted.specs.Sets.{with_item, union}
 use Rattle.aud_facts.specs.Order.{AreOrdered}
 use Rattle.aud_facts.specs.Quiet.{AreQuiet, SealedIsAll}
 use Rattle.aud_facts.specs.Sets.{FactsOf, AreSound}

@@ -9,9 +9,9 @@ use Rattle.std.specs.FinSet.{slice_cmp-IsAntisymmetric}
 use Rattle.std.specs.List.{list_any, Contains}
 use Rattle.std.specs.List.Sorted.{IsStrictlySortedBy}
 use Rattle.base_values.specs.Exact.{IsExact}
-use Rattle.base_trees.specs.Sets.{has}
-use Rattle.base_trees.specs.Sorted.{has-union, sorted_union, same_sorted}
-use Rattle.base_trees.proofs.Strict.{some_passes, one_passes}
+use Rattle.base_sorted.specs.Sets.{has}
+use Rattle.base_sorted.specs.Sorted.{has-union, sorted_union, same_sorted}
+use Rattle.base_sorted.proofs.Strict.{some_passes, one_passes}
 use Rattle.aud_lattice.specs.Covers.{covers, IsCover}
 use Rattle.aud_lattice.specs.Covering.{cover_cover_union, covers-cover_union, same_cover}
 use Rattle.aud_lattice.specs.Least.{reaches}

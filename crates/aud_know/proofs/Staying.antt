@@ -6,7 +6,7 @@ use Rattle.std.specs.Ordering.{eq_by_cmp, is_eq}
 use Rattle.std.proofs.Common.{sym, ap, subst, ◌∙◌}
 use Rattle.aud_lattice.specs.Covers.{begins, covers, IsCover, with_list, cover_union, HasBeginning}
 use Rattle.aud_lattice.specs.Covering.{begins_trans, covers-with_list, covers-cover_union, cover_with_list, cover_cover_union, same_cover}
-use Rattle.base_trees.proofs.Strict.{some_passes, one_passes}
+use Rattle.base_sorted.proofs.Strict.{some_passes, one_passes}
 use Rattle.aud_witness.specs.declared.decision.Decision.{Decision}
 use Rattle.aud_witness.specs.DecisionOrder.{decision_cmp, decisions_total, decision_exact, prefix_exact}
 

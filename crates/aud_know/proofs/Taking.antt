@@ -6,8 +6,8 @@ use Rattle.std.specs.Cmp.{IsTotalOrder}
 use Rattle.std.specs.Cmp.Lexicographic.{slice_cmp}
 use Rattle.base_values.specs.Exact.{IsExact}
 use Rattle.std.specs.List.Sorted.{IsStrictlySortedBy}
-use Rattle.base_trees.specs.Sets.{has, union, with_item}
-use Rattle.base_trees.specs.Sorted.{has-union, has-with_item, sorted_union, sorted_with_item, same_sorted}
+use Rattle.base_sorted.specs.Sets.{has, union, with_item}
+use Rattle.base_sorted.specs.Sorted.{has-union, has-with_item, sorted_union, sorted_with_item, same_sorted}
 use Rattle.aud_lattice.specs.Covers.{IsCover, covers, cover_union, with_list, normal_form}
 use Rattle.aud_lattice.specs.Covering.{covers-with_list, covers-cover_union, cover_with_list, cover_cover_union, same_cover}
 use Rattle.aud_lattice.specs.Least.{least_of}

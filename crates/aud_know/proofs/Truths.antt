@@ -8,8 +8,8 @@ use Rattle.std.specs.Cmp.{IsTotalOrder}
 use Rattle.std.specs.Cmp.Lexicographic.{slice_cmp}
 use Rattle.std.specs.List.Sorted.{IsStrictlySortedBy}
 use Rattle.base_values.specs.Exact.{IsExact}
-use Rattle.base_trees.specs.Sets.{has, union, by_order}
-use Rattle.base_trees.specs.Sorted.{has-union, sorted_union}
+use Rattle.base_sorted.specs.Sets.{has, union, by_order}
+use Rattle.base_sorted.specs.Sorted.{has-union, sorted_union}
 use Rattle.aud_lattice.specs.Covers.{cover_union}
 use Rattle.aud_lattice.proofs.Minimal.{kept}
 use Rattle.aud_lattice.specs.Least.{least_of}

@@ -3,7 +3,7 @@ use Rattle.std.specs.Prelude.{List, [], ◌∷◌, ◌++◌, map, Option, Some, 
 use Rattle.std.specs.declared.cmp.Ordering.{Ordering}
 use Rattle.std.specs.Cmp.Lexicographic.{slice_cmp}
 use Rattle.std.specs.List.Sorted.{IsStrictlySortedBy}
-use Rattle.base_trees.specs.Sets.{union}
+use Rattle.base_sorted.specs.Sets.{union}
 use Rattle.aud_lattice.specs.Covers.{IsCover, cover_union, normal_form}
 use Rattle.aud_lattice.specs.Least.{least_of}
 

@@ -5,7 +5,7 @@ use Rattle.std.specs.declared.cmp.Ordering.{Ordering}
 use Rattle.aud_lattice.specs.declared.mark.Mark.TheVariants.{Covered, Inner, Outside}
 use Rattle.aud_lattice.specs.Covers.{begins, covers, extends, HasBeginning, BeginsOne}
 use Rattle.aud_lattice.specs.Marks.{mark_of}
-use Rattle.base_trees.proofs.Strict.{some_passes, one_passes}
+use Rattle.base_sorted.proofs.Strict.{some_passes, one_passes}
 
 covered_only : (b c : Bool) → (if b then Covered else (if c then Inner else Outside)) ≡ Covered → b ≡ true
 covered_only true c e = refl

@@ -8,7 +8,7 @@ use Rattle.std.proofs.lemmas.List.{get_or_default}
 use Rattle.base_values.specs.Exact.{IsExact}
 use Rattle.aud_lattice.specs.Covers.{cover_cmp, begins, IsCover, covers, cover_union, HasBeginning, IsKept}
 use Rattle.aud_lattice.specs.Covering.{begins_itself, begins_trans, begins_ties, begun_ties, same_list, covers-cover_union, cover_cover_union, Less≢Equal}
-use Rattle.base_trees.proofs.Strict.{strict_at, some_passes, one_passes}
+use Rattle.base_sorted.proofs.Strict.{strict_at, some_passes, one_passes}
 
 module _ {D : Type 0} {R : D → D → Ordering} (o : IsTotalOrder R) (ex : IsExact R) where
   -- what covers is a member

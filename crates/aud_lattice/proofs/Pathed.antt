@@ -13,7 +13,7 @@ use Rattle.std.specs.declared.collections.BTreeMap.{BTreeMap}
 use Rattle.base_values.specs.Exact.{IsExact}
 use Rattle.aud_lattice.specs.Eithers.{either}
 use Rattle.aud_lattice.specs.Covers.{cover_cmp, begins, covers, extends, IsCover, with_list, cover_union, HasBeginning}
-use Rattle.base_trees.proofs.Strict.{any_at, some_passes, one_passes}
+use Rattle.base_sorted.proofs.Strict.{any_at, some_passes, one_passes}
 use Rattle.aud_lattice.specs.Covering.{begins_itself, begins_trans, same_cover, cover_with_list, covers-with_list, cover_cover_union, covers-cover_union}
 use Rattle.aud_lattice.specs.declared.trie.Trie.{Trie, out-Trie, roll-Trie, out-roll-Trie}
 use Rattle.aud_lattice.specs.declared.trie.Trie.TheOpen.{Trie-F, Member, Fork}

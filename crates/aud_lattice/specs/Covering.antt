@@ -11,7 +11,7 @@ use Rattle.std.specs.List.Sorted.{IsStrictlySortedBy}
 use Rattle.std.proofs.lemmas.Bool.{and_parts, and_from, cases_Bool, cond_both}
 use Rattle.base_values.specs.Exact.{IsExact}
 use Rattle.aud_lattice.specs.Covers.{cover_cmp, begins, IsCover, covers, with_list, cover_union}
-use Rattle.base_trees.specs.Sorted.{three_ways}
+use Rattle.base_sorted.specs.Sorted.{three_ways}
 use Rattle.base_values.proofs.Bools.{or_assoc, or_swap}
 
 -- a test that another test passes too adds nothing

@@ -5,7 +5,7 @@ use Rattle.std.specs.declared.cmp.Ordering.TheVariants.{Equal}
 use Rattle.std.specs.Ordering.{is_eq, ordering_then}
 use Rattle.std.specs.List.{list_any, Contains}
 use Rattle.std.specs.List.Sorted.{IsStrictlySortedBy}
-use Rattle.base_trees.specs.Sets.{by_order}
+use Rattle.base_sorted.specs.Sets.{by_order}
 
 -- the order of the first elements that differ. Lists of which one begins the other tie
 abbrev pub cover_cmp : {D : Type 0} → (D → D → Ordering) → List D → List D → Ordering

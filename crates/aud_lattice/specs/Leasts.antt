@@ -8,7 +8,7 @@ use Rattle.std.specs.Cmp.{IsTotalOrder, tied_itself, alike_right}
 use Rattle.base_values.specs.Exact.{IsExact}
 use Rattle.aud_lattice.specs.Eithers.{either}
 use Rattle.aud_lattice.specs.Least.{least_of, reaches}
-use Rattle.base_trees.specs.Sorted.{three_ways}
+use Rattle.base_sorted.specs.Sorted.{three_ways}
 
 or-false : (a : Bool) → a ≡ (a || false)
 or-false true = refl

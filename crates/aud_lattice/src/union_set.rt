@@ -3,14 +3,14 @@
 ghost use Rattle.std.specs.Prelude.{◌≡◌, IfOk, OnOk, OnErr, IsTrue, ◌↔◌, ◌⊎◌, List, [], length, not, Bool, Contains};
 ghost use Rattle.std.specs.List.Sorted.{IsStrictlySortedBy};
 ghost use Rattle.aud_lattice.specs.Eithers.{either, either_laws};
-ghost use Rattle.base_trees.specs.Sets.{has, with_item, without, inserted, union};
-ghost use Rattle.base_trees.specs.Sorted.{has-union};
+ghost use Rattle.base_sorted.specs.Sets.{has, with_item, without, inserted, union};
+ghost use Rattle.base_sorted.specs.Sorted.{has-union};
 ghost use Rattle.base_trees.specs.Trees.{items_of};
 
 use crate::Lattice;
+use base_sorted::arranged;
 use base_trees::{
-    Iter, Link, all_of, arranged, contains, count, joined, ranked, same, shared, tree_of, with,
-    without,
+    Iter, Link, all_of, contains, count, joined, ranked, same, shared, tree_of, with, without,
 };
 use base_values::{Dup, Key, OutOfMemory, Rank};
 use std::alloc::{Allocator, Global};
@@ -73,7 +73,7 @@ impl<T: Key + Dup, A: Allocator + Clone> UnionSet<T, A> {
     }
 
     /// Whether the item is there. It does not allocate, and takes as many comparisons as the tree is deep.
-    #[tactic(auto, using(base_trees::proofs::Members::has_is))]
+    #[tactic(auto, using(base_sorted::proofs::Members::has_is))]
     pub fn contains(&self, item: &T) -> bool
         ensures test { result ≡ has T.Ord.cmp self.now item.now }
         ensures member { IsTrue result ↔ Contains self.now item.now }
@@ -98,7 +98,7 @@ impl<T: Key + Dup, A: Allocator + Clone> UnionSet<T, A> {
 
     /// The items that the other has not. The other is cut where this set's tree parts; what is left in runs is shared, and all is where
     /// nothing is taken away.
-    #[tactic(auto, using(base_trees::proofs::Leftovers::sorted_without))]
+    #[tactic(auto, using(base_sorted::proofs::Leftovers::sorted_without))]
     pub fn without(&self, other: &UnionSet<T, A>) -> Result<UnionSet<T, A>, OutOfMemory>
         ensures left { IfOk result (λ left. left ≡ without T.Ord.cmp self.now other.now) }
         ensures members { IfOk result (λ left. (x : T) → Contains left x ↔ (Contains self.now x × ¬ (Contains other.now x))) }
@@ -145,7 +145,7 @@ impl<T: Key + Dup, A: Allocator + Clone> Lattice for UnionSet<T, A> {
 
     ghost laws = { either_laws };
 
-    #[tactic(auto, using(base_trees::specs::Sorted::sorted_union, base_trees::proofs::Members::contains_union))]
+    #[tactic(auto, using(base_sorted::specs::Sorted::sorted_union, base_sorted::proofs::Members::contains_union))]
     // The smaller set is cut where the larger one's tree parts, whichever of the two is `self`; runs of either are shared.
     fn join(&mut self, other: &UnionSet<T, A>) -> Result<(), OutOfMemory>
         ensures ok { OnOk result (self.new ≡ union T.Ord.cmp self.old other.now) }
@@ -157,7 +157,7 @@ impl<T: Key + Dup, A: Allocator + Clone> Lattice for UnionSet<T, A> {
         Ok(())
     }
 
-    #[tactic(auto, using(base_trees::proofs::Pours::same_has))]
+    #[tactic(auto, using(base_sorted::proofs::Pours::same_has))]
     fn same(&self, other: &UnionSet<T, A>) -> bool {
         same(&self.root, &other.root)
     }

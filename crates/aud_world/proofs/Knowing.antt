@@ -11,9 +11,9 @@ use Rattle.aud_event.specs.Meanings.{PlanOf}
 use Rattle.aud_event.specs.Facts.{first_fact_fault}
 use Rattle.aud_event.specs.declared.fact.Fact.{Fact}
 use Rattle.aud_event.specs.Exactness.{fact_exact}
-use Rattle.base_trees.specs.Sets.{by_order}
-use Rattle.base_trees.specs.Sorted.{sorted_union}
-use Rattle.base_trees.proofs.Members.{contains_union}
+use Rattle.base_sorted.specs.Sets.{by_order}
+use Rattle.base_sorted.specs.Sorted.{sorted_union}
+use Rattle.base_sorted.proofs.Members.{contains_union}
 use Rattle.aud_lattice.specs.Covers.{IsCover}
 use Rattle.aud_lattice.specs.Covering.{cover_cover_union}
 use Rattle.aud_lattice.proofs.Minimal.{kept}

@@ -11,8 +11,8 @@ use Rattle.base_trees.specs.Cuts.{if_there, IsCut, AreAllIfAsMany}
 use Rattle.base_trees.specs.Trees.{items_of, all_taken}
 use Rattle.std.specs.Arc.{arc_value}
 use Rattle.std.specs.declared.sync.Arc.{Arc}
-use Rattle.base_trees.specs.Sets.{by_order, with_item, union}
-use Rattle.base_trees.specs.Sorted.{Below-less, sorted_union}
+use Rattle.base_sorted.specs.Sets.{by_order, with_item, union}
+use Rattle.base_sorted.specs.Sorted.{Below-less, sorted_union}
 use Rattle.base_trees.proofs.Splits.{below_middle, with_left, with_right, with_middle, length_with}
 
 -- what holds of all of two lists holds of all of both

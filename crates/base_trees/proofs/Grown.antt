@@ -4,7 +4,7 @@ use Rattle.std.specs.declared.cmp.Ordering.{Ordering}
 use Rattle.std.specs.declared.cmp.Ordering.TheVariants.{Less, Greater}
 use Rattle.std.specs.Cmp.{IsTotalOrder}
 use Rattle.std.specs.List.Sorted.{IsStrictlySortedBy}
-use Rattle.base_trees.specs.Sets.{has, with_item}
+use Rattle.base_sorted.specs.Sets.{has, with_item}
 use Rattle.base_trees.specs.Trees.{AreBalanced, NearlyBalanced}
 use Rattle.base_trees.proofs.Splits.{with_left, with_right, has_left, has_right, length_with}
 

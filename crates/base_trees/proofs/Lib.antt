@@ -1,11 +1,8 @@
-pub mod Leftovers
 pub mod Grown
 pub mod Cuts
 pub mod Remains
 pub mod Turns
 pub mod Crosses
-pub mod Strict
 pub mod Splits
-pub mod Pours
+pub mod Alike
 pub mod Parts
-pub mod Members

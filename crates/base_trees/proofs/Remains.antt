@@ -12,9 +12,9 @@ use Rattle.std.proofs.lemmas.List.Elements.{filter-append}
 use Rattle.std.proofs.lemmas.List.Filters.{length-filter_both}
 use Rattle.base_values.specs.Exact.{IsExact}
 use Rattle.base_trees.specs.Cuts.{if_there, IsCut, AreAllIfAsMany}
-use Rattle.base_trees.specs.Sets.{has, without}
-use Rattle.base_trees.specs.Sorted.{Below-less, absent_below, first_there}
-use Rattle.base_trees.proofs.Leftovers.{has-without}
+use Rattle.base_sorted.specs.Sets.{has, without}
+use Rattle.base_sorted.specs.Sorted.{Below-less, absent_below, first_there}
+use Rattle.base_sorted.proofs.Leftovers.{has-without}
 use Rattle.base_trees.proofs.Cuts.{greater, all_less, all_there, before_middle, after_middle}
 
 or_none : (a : Bool) → (a || false) ≡ a

@@ -7,8 +7,8 @@ use Rattle.std.specs.Ordering.{eq_by_cmp, is_eq, ordering_reverse}
 use Rattle.std.specs.Cmp.{IsTotalOrder}
 use Rattle.std.specs.List.{AllByRecursion}
 use Rattle.std.specs.List.Sorted.{IsStrictlySortedBy}
-use Rattle.base_trees.specs.Sets.{by_order, has, with_item}
-use Rattle.base_trees.specs.Sorted.{Below-less, absent_below}
+use Rattle.base_sorted.specs.Sets.{by_order, has, with_item}
+use Rattle.base_sorted.specs.Sorted.{Below-less, absent_below}
 use Rattle.base_trees.specs.Trees.{Found}
 use Rattle.base_values.proofs.Bools.{or_always}
 

@@ -1,6 +1,6 @@
 -- A tree turned to its lighter side.
-use Rattle.std.proofs.Common.{◌≡◌, ℕ, ◌+◌, ◌*◌, ◌<◌, ◌≤◌, List, ◌∷◌, ◌++◌, length, length-append, append_assoc, ap, ◌∙◌, arith}
-use Rattle.base_trees.specs.Trees.{AreBalanced, IsHeavy, IsToPart}
+use Rattle.std.proofs.Common.{◌≡◌, ℕ, ◌+◌, ◌*◌, ◌<◌, ◌≤◌, List, ◌∷◌, ◌++◌, length, length-append, append_assoc, sym, ap, ◌∙◌, arith}
+use Rattle.base_trees.specs.Trees.{AreBalanced, NearlyBalanced, IsHeavy, IsToPart}
 
 -- one tree for three: those of the outer side and of a first part, of a second part and the light side, and of both
 pub record AreTurned {T : Type 0} (first low high last : List T) (x z : T) : Type 0 where
@@ -57,6 +57,27 @@ moved_left outer light near heavy x z e (heavier, most) inner outside =
     let h : length heavy ≡ length near + length outer + 1 = ap length e ∙ length_around near x outer in
     let b : length (light ++ z ∷ near) ≡ length light + length near + 1 = length_around light z near in
     ((omega arith, omega arith), (omega arith, omega arith))
+
+-- a light tree joined to the inner side of a heavy one leaves a tree that is nearly balanced
+pub joined_right : {T : Type 0} (outer near copy heavy light grown : List T) (x z : T) → heavy ≡ outer ++ x ∷ near → 3 * (length light + 1) < length heavy + 1 → AreBalanced (length outer) (length near) → copy ≡ near → grown ≡ copy ++ z ∷ light → NearlyBalanced (length outer) (length grown)
+joined_right outer near copy heavy light grown x z e heavier inner s f =
+    let h : length heavy ≡ length outer + length near + 1 = ap length e ∙ length_around outer x near in
+    let a : length grown ≡ length copy + length light + 1 = ap length f ∙ length_around copy z light in
+    let same : length copy ≡ length near = ap length s in
+    (omega arith, omega arith)
+
+pub joined_left : {T : Type 0} (outer near copy heavy light grown : List T) (x z : T) → heavy ≡ near ++ x ∷ outer → 3 * (length light + 1) < length heavy + 1 → AreBalanced (length near) (length outer) → copy ≡ near → grown ≡ light ++ z ∷ copy → NearlyBalanced (length grown) (length outer)
+joined_left outer near copy heavy light grown x z e heavier inner s f =
+    let h : length heavy ≡ length near + length outer + 1 = ap length e ∙ length_around near x outer in
+    let a : length grown ≡ length light + length copy + 1 = ap length f ∙ length_around light z copy in
+    let same : length copy ≡ length near = ap length s in
+    (omega arith, omega arith)
+
+pub joined_items_right : {T : Type 0} (outer near copy heavy light grown : List T) (x z : T) → heavy ≡ outer ++ x ∷ near → copy ≡ near → grown ≡ copy ++ z ∷ light → outer ++ x ∷ grown ≡ heavy ++ z ∷ light
+joined_items_right outer near copy heavy light grown x z e s f = ap (λ l. outer ++ x ∷ l) (f ∙ ap (λ l. l ++ z ∷ light) s) ∙ sym (append_assoc outer (x ∷ near) (z ∷ light)) ∙ ap (λ l. l ++ z ∷ light) (sym e)
+
+pub joined_items_left : {T : Type 0} (outer near copy heavy light grown : List T) (x z : T) → heavy ≡ near ++ x ∷ outer → copy ≡ near → grown ≡ light ++ z ∷ copy → grown ++ x ∷ outer ≡ light ++ z ∷ heavy
+joined_items_left outer near copy heavy light grown x z e s f = ap (λ l. l ++ x ∷ outer) (f ∙ ap (λ l. light ++ z ∷ l) s) ∙ append_assoc light (z ∷ near) (x ∷ outer) ∙ ap (λ l. light ++ z ∷ l) (sym e)
 
 pub turned_items : {T : Type 0} (first low high last : List T) (x y z : T) → (first ++ x ∷ low) ++ y ∷ (high ++ z ∷ last) ≡ first ++ x ∷ ((low ++ y ∷ high) ++ z ∷ last)
 turned_items first low high last x y z = simp append_assoc

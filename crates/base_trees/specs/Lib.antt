@@ -1,4 +1,2 @@
-pub mod Sets
 pub mod Trees
 pub mod Cuts
-pub mod Sorted

@@ -3,7 +3,7 @@ use Rattle.std.proofs.Common.{◌≡◌, ℕ, ◌+◌, ◌*◌, ◌<◌, ◌≤�
 use Rattle.std.specs.declared.cmp.Ordering.{Ordering}
 use Rattle.std.specs.Arc.{arc_value}
 use Rattle.std.specs.declared.sync.Arc.{Arc}
-use Rattle.base_trees.specs.Sets.{has, with_item}
+use Rattle.base_sorted.specs.Sets.{has, with_item}
 
 -- the items of the tree under a link, least first
 abbrev pub items_of : {T Z : Type 0} → Option (Arc (List T) Z) → List T

@@ -6,7 +6,7 @@ ghost use Rattle.std.specs.List.Sorted.{IsStrictlySortedBy};
 ghost use Rattle.base_trees.specs.Cuts.{IsCut, AreAllIfAsMany};
 ghost use Rattle.base_trees.specs.Trees.{items_of};
 
-use crate::tree::{Link, Tree, balanced, count, node, shared};
+use crate::tree::{Link, Tree, balanced_left, balanced_right, count, node, shared};
 use base_values::{Dup, Key, OutOfMemory};
 use std::alloc::Allocator;
 use std::cmp::Ordering;
@@ -32,7 +32,7 @@ pub fn link<T: Dup, A: Allocator + Clone>(
                 ..
             } = &**tree;
             let grown = link(alloc, shared(near)?, item, right)?;
-            balanced(alloc, shared(outer)?, first.dup()?, grown)
+            balanced_right(alloc, outer, first, grown)
         }
         (_, Some(tree)) if r > 3 * l => {
             let Tree {
@@ -42,7 +42,7 @@ pub fn link<T: Dup, A: Allocator + Clone>(
                 ..
             } = &**tree;
             let grown = link(alloc, left, item, shared(near)?)?;
-            balanced(alloc, grown, last.dup()?, shared(outer)?)
+            balanced_left(alloc, grown, last, outer)
         }
         _ => node(alloc, left, item, right),
     }

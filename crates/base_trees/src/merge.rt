@@ -3,14 +3,15 @@
 
 ghost use Rattle.std.specs.Prelude.{◌≡◌, ◌∷◌, ◌++◌, [], IfOk, OnOk, IsTrue, ◌↔◌};
 ghost use Rattle.std.specs.List.Sorted.{IsStrictlySortedBy};
-ghost use Rattle.base_trees.specs.Sets.{with_item, without, union};
+ghost use Rattle.base_sorted.specs.Sets.{with_item, without, union};
 ghost use Rattle.base_trees.specs.Trees.{items_of};
 
-use crate::bulk::{arranged, tree_of};
+use crate::bulk::tree_of;
 use crate::copies::push_copy;
 use crate::iter::all_of;
 use crate::link::{beside, relinked, split};
 use crate::tree::{Link, Tree, contains, count, shared, with};
+use base_sorted::arranged;
 use base_values::{Dup, Key, OutOfMemory};
 use std::alloc::Allocator;
 use std::cmp::Ordering;
@@ -71,7 +72,7 @@ fn rebuilt<T: Key + Dup, A: Allocator + Clone>(
 }
 
 // The items of a list and of a tree in their order, each once. Both come in runs that are in order, so the sort merges two runs.
-#[tactic(auto, using(crate::proofs::Leftovers::union_of_both))]
+#[tactic(auto, using(base_sorted::proofs::Leftovers::union_of_both))]
 fn arranged_with<T: Key + Dup, A: Allocator>(
     new: Vec<T, A>,
     tree: &Link<T, A>,
@@ -98,7 +99,7 @@ fn push_all<T: Dup, A: Allocator>(all: &mut Vec<T, A>, tree: &Link<T, A>) -> Res
 
 // One tree with the items of another that is no larger. What is new is put in one by one while it is little, and shares the rest
 // with the tree.
-#[tactic(auto, using(crate::proofs::Leftovers::union_of_new))]
+#[tactic(auto, using(base_sorted::proofs::Leftovers::union_of_new))]
 fn grown<T: Key + Dup, A: Allocator + Clone>(
     alloc: &A,
     from: &Link<T, A>,
@@ -122,7 +123,7 @@ fn grown<T: Key + Dup, A: Allocator + Clone>(
 
 // Whether both are built alike of the same items. Trees of one source are, as far as neither grew; others may differ though
 // their items are the same.
-#[tactic(auto, using(crate::proofs::Pours::parts_same))]
+#[tactic(auto, using(crate::proofs::Alike::parts_same))]
 fn built_alike<T: Key + Dup, A: Allocator>(xs: &Link<T, A>, ys: &Link<T, A>) -> bool
     ensures { IsTrue result → items_of xs.now ≡ items_of ys.now }
 {
@@ -149,7 +150,7 @@ fn built_alike<T: Key + Dup, A: Allocator>(xs: &Link<T, A>, ys: &Link<T, A>) -> 
 
 // One tree with the items of another, which is cut where the tree parts. The parts of either that lie apart from the other are shared,
 // and so is each part to which the other brings nothing new.
-#[tactic(auto, using(crate::proofs::Pours::union_itself))]
+#[tactic(auto, using(base_sorted::proofs::Pours::union_itself))]
 fn merged<T: Key + Dup, A: Allocator + Clone>(
     alloc: &A,
     from: &Link<T, A>,
@@ -183,7 +184,7 @@ fn merged<T: Key + Dup, A: Allocator + Clone>(
 /// The items of both: those of the smaller tree are put into the larger one. What lies in runs of one of them is shared, and so is the
 /// larger tree where nothing new comes. Of two trees with the same items the answer is the second, so that who joins it once more
 /// finds it built alike, which takes no look-ups.
-#[tactic(auto, using(crate::proofs::Pours::union_swap))]
+#[tactic(auto, using(base_sorted::proofs::Pours::union_swap))]
 pub fn joined<T: Key + Dup, A: Allocator + Clone>(
     alloc: &A,
     xs: &Link<T, A>,
@@ -294,7 +295,7 @@ fn alike<T: Key>(x: &T, y: &T) -> bool
 }
 
 /// Whether both have the same items. It does not allocate. Trees that are built alike are compared node by node, others by two walks.
-#[tactic(auto, using(crate::proofs::Pours::tails_same, crate::proofs::Pours::heads_same))]
+#[tactic(auto, using(crate::proofs::Alike::tails_same, crate::proofs::Alike::heads_same))]
 pub fn same<T: Key + Dup, A: Allocator>(xs: &Link<T, A>, ys: &Link<T, A>) -> bool
     ensures { IsTrue result ↔ (items_of xs.now ≡ items_of ys.now) }
 {

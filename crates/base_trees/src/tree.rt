@@ -3,7 +3,7 @@
 ghost use Rattle.std.specs.Prelude.{◌≡◌, ◌∷◌, ◌++◌, ◌<◌, ◌^◌, ◌+◌, ◌*◌, length, IfOk};
 ghost use Rattle.std.specs.List.Sorted.{IsStrictlySortedBy};
 ghost use Rattle.std.specs.Option.{option_copied};
-ghost use Rattle.base_trees.specs.Sets.{has};
+ghost use Rattle.base_sorted.specs.Sets.{has};
 ghost use Rattle.base_trees.specs.Trees.{Found, items_of, AreBalanced, NearlyBalanced, IsHeavy, IsToPart, IsWithNew};
 
 use base_values::{Dup, Key, OutOfMemory};
@@ -93,9 +93,22 @@ pub fn node<T: Dup, A: Allocator + Clone>(
     Ok(Some(tree))
 }
 
-/// A tree of a middle item and two sides of which one may be too heavy, as after a light tree was joined to it: the tree is turned to the
-/// other side then.
-pub fn balanced<T: Dup, A: Allocator + Clone>(
+// A tree of a copy of a middle item and of two sides, which it shares.
+fn node_of<T: Dup, A: Allocator + Clone>(
+    alloc: &A,
+    left: &Link<T, A>,
+    item: &T,
+    right: &Link<T, A>,
+) -> Result<Link<T, A>, OutOfMemory>
+    requires { AreBalanced (length (items_of left.now)) (length (items_of right.now)) }
+    ensures { IfOk result (λ tree. items_of tree ≡ items_of left.now ++ item.now ∷ items_of right.now) }
+{
+    node(alloc, shared(left)?, item.dup()?, shared(right)?)
+}
+
+// A tree of a middle item and two sides of which one may be too heavy, as after a light tree was joined to it: the tree is turned to the
+// other side then.
+fn balanced<T: Dup, A: Allocator + Clone>(
     alloc: &A,
     left: Link<T, A>,
     item: T,
@@ -111,6 +124,32 @@ pub fn balanced<T: Dup, A: Allocator + Clone>(
         (_, Some(tree)) if r > 3 * l => to_left(alloc, left, item, tree),
         _ => node(alloc, left, item, right),
     }
+}
+
+/// A tree of a left side, a copy of a middle item and a right side, which it shares; it is turned as `balanced` does.
+pub fn balanced_left<T: Dup, A: Allocator + Clone>(
+    alloc: &A,
+    left: Link<T, A>,
+    item: &T,
+    right: &Link<T, A>,
+) -> Result<Link<T, A>, OutOfMemory>
+    requires { NearlyBalanced (length (items_of left)) (length (items_of right.now)) }
+    ensures { IfOk result (λ tree. items_of tree ≡ items_of left ++ item.now ∷ items_of right.now) }
+{
+    balanced(alloc, left, item.dup()?, shared(right)?)
+}
+
+/// A tree of a left side, which it shares, a copy of a middle item and a right side; it is turned as `balanced` does.
+pub fn balanced_right<T: Dup, A: Allocator + Clone>(
+    alloc: &A,
+    left: &Link<T, A>,
+    item: &T,
+    right: Link<T, A>,
+) -> Result<Link<T, A>, OutOfMemory>
+    requires { NearlyBalanced (length (items_of left.now)) (length (items_of right)) }
+    ensures { IfOk result (λ tree. items_of tree ≡ items_of left.now ++ item.now ∷ items_of right) }
+{
+    balanced(alloc, shared(left)?, item.dup()?, right)
 }
 
 fn to_right<T: Dup, A: Allocator + Clone>(
@@ -157,8 +196,8 @@ fn parted_right<T: Dup, A: Allocator + Clone>(
         right: high,
         ..
     } = inner;
-    let before = node(alloc, shared(outer)?, first.dup()?, shared(low)?)?;
     let after = node(alloc, shared(high)?, item, right)?;
+    let before = node_of(alloc, outer, first, low)?;
     node(alloc, before, middle.dup()?, after)
 }
 
@@ -207,7 +246,7 @@ fn parted_left<T: Dup, A: Allocator + Clone>(
         ..
     } = inner;
     let before = node(alloc, left, item, shared(low)?)?;
-    let after = node(alloc, shared(high)?, last.dup()?, shared(outer)?)?;
+    let after = node_of(alloc, high, last, outer)?;
     node(alloc, before, middle.dup()?, after)
 }
 
@@ -235,7 +274,7 @@ pub fn with<T: Key + Dup, A: Allocator + Clone>(
             let Some(grown) = with(alloc, left, item)? else {
                 return Ok(None);
             };
-            let all = balanced(alloc, grown, middle.dup()?, shared(right)?)?;
+            let all = balanced_left(alloc, grown, middle, right)?;
             Ok(Some(all))
         }
         Ordering::Equal => Ok(None),
@@ -243,7 +282,7 @@ pub fn with<T: Key + Dup, A: Allocator + Clone>(
             let Some(grown) = with(alloc, right, item)? else {
                 return Ok(None);
             };
-            let all = balanced(alloc, shared(left)?, middle.dup()?, grown)?;
+            let all = balanced_right(alloc, left, middle, grown)?;
             Ok(Some(all))
         }
     }

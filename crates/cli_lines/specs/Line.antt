@@ -8,7 +8,7 @@ use Rattle.aud_witness.specs.Orders.{Shows, Opaque}
 use Rattle.aud_witness.specs.OrderFaults.{first_order_fault}
 use Rattle.aud_facts.specs.Status.{hist}
 use Rattle.aud_event.specs.contracts.fact.FactOrd.TheImpl as fact_ord
-use Rattle.base_trees.specs.Sets.{inserted}
+use Rattle.base_sorted.specs.Sets.{inserted}
 use Rattle.aud_know.specs.Verdicts.{FactsReport}
 use Rattle.aud_know.specs.declared.verdict.Verdict.TheVariants as verdict
 use Rattle.search_prefix.specs.Searches.{SpentBy}

@@ -1,11 +1,11 @@
 use Rattle.std.specs.Result.{IfOk}
 use Rattle.std.proofs.Common.{rules, ◌≡◌, ◌∷◌, ◌++◌, sym, ap, subst, ◌∙◌}
 use Rattle.std.specs.List.Sorted.{IsStrictlySortedBy}
-use Rattle.base_trees.specs.Sets.{union}
+use Rattle.base_sorted.specs.Sets.{union}
 use Rattle.base_trees.specs.Trees.{items_of}
 use Rattle.base_trees.proofs.Splits.{sorted_left, sorted_right}
 use Rattle.base_trees.proofs.Grown.{shorter}
-use Rattle.base_trees.proofs.Pours.{union_swap}
+use Rattle.base_sorted.proofs.Pours.{union_swap}
 use Rattle.base_trees.proofs.Cuts.{tree_parts, sorted_before, sorted_after, merged_is, merged_all}
 use Rattle.base_trees.proofs.merge.+merged.Goals as goal
 

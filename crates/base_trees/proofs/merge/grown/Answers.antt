@@ -1,8 +1,8 @@
 use Rattle.std.proofs.Common.{◌≡◌, ◌∙◌}
-use Rattle.base_trees.specs.Sets.{union}
+use Rattle.base_sorted.specs.Sets.{union}
 use Rattle.base_trees.specs.Trees.{items_of}
 use Rattle.base_values.proofs.Results.{if_both}
-use Rattle.base_trees.proofs.Leftovers.{union_of_new}
+use Rattle.base_sorted.proofs.Leftovers.{union_of_new}
 use Rattle.base_trees.proofs.merge.grown.Goals as goal
 
 pub returns-in_ok-new-2 : goal.returns-in_ok-new-2

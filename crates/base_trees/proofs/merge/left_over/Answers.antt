@@ -1,7 +1,7 @@
 use Rattle.std.proofs.Common.{◌++◌, sym, ap, ◌∙◌, append-nil}
-use Rattle.base_trees.specs.Sets.{without}
+use Rattle.base_sorted.specs.Sets.{without}
 use Rattle.base_trees.specs.Trees.{items_of}
-use Rattle.base_trees.proofs.Leftovers.{without_more}
+use Rattle.base_sorted.proofs.Leftovers.{without_more}
 use Rattle.base_trees.proofs.merge.left_over.Goals as goal
 
 pub loop-item-preserved : goal.loop-item-preserved

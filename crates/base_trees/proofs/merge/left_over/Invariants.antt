@@ -1,5 +1,5 @@
 use Rattle.std.proofs.Common.{◌≡◌, ◌++◌}
-use Rattle.base_trees.specs.Sets.{without}
+use Rattle.base_sorted.specs.Sets.{without}
 use Rattle.base_trees.specs.Trees.{items_of}
 use Rattle.base_trees.proofs.merge.left_over.Given as goal
 

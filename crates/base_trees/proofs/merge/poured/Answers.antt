@@ -1,9 +1,9 @@
 use Rattle.std.proofs.Common.{sym, ap, subst, ◌∙◌}
 use Rattle.std.specs.List.Sorted.{IsStrictlySortedBy}
-use Rattle.base_trees.specs.Sets.{inserted}
-use Rattle.base_trees.specs.Sorted.{sorted_with_item}
+use Rattle.base_sorted.specs.Sets.{inserted}
+use Rattle.base_sorted.specs.Sorted.{sorted_with_item}
 use Rattle.base_trees.specs.Trees.{items_of}
-use Rattle.base_trees.proofs.Pours.{inserted_union}
+use Rattle.base_sorted.proofs.Pours.{inserted_union}
 use Rattle.base_trees.proofs.merge.poured.Goals as goal
 
 pub loop-item-preserved : goal.loop-item-preserved

@@ -1,6 +1,6 @@
 use Rattle.std.proofs.Common.{◌≡◌}
 use Rattle.std.specs.List.Sorted.{IsStrictlySortedBy}
-use Rattle.base_trees.specs.Sets.{inserted}
+use Rattle.base_sorted.specs.Sets.{inserted}
 use Rattle.base_trees.specs.Trees.{items_of}
 use Rattle.base_trees.proofs.merge.poured.Given as goal
 

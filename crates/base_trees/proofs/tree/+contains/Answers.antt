@@ -1,6 +1,6 @@
 use Rattle.std.proofs.Common.{rules, ◌≡◌, ◌∷◌, ◌++◌, sym, ap, subst, ◌∙◌}
 use Rattle.std.specs.List.Sorted.{IsStrictlySortedBy}
-use Rattle.base_trees.specs.Sets.{has}
+use Rattle.base_sorted.specs.Sets.{has}
 use Rattle.base_trees.specs.Trees.{items_of}
 use Rattle.base_trees.proofs.Splits.{sorted_left, sorted_right, has_left, has_right}
 use Rattle.base_trees.proofs.Grown.{shorter}

@@ -1,50 +1,49 @@
-use Rattle.std.proofs.Common.{rules, ◌≡◌, ◌∷◌, ◌++◌, sym, ap, subst, ◌∙◌}
+use Rattle.std.proofs.Common.{rules, ◌≡◌, ◌∷◌, ◌++◌, refl, sym, subst, ◌∙◌}
 use Rattle.std.specs.List.Sorted.{IsStrictlySortedBy}
 use Rattle.base_trees.specs.Trees.{items_of, IsWithNew}
 use Rattle.base_trees.proofs.Splits.{sorted_left, sorted_right}
 use Rattle.base_trees.proofs.Grown.{shorter, near_left, near_right, grown_left, grown_right}
+use Rattle.base_trees.proofs.Cuts.{tree_parts}
 use Rattle.base_trees.proofs.tree.+with.Goals as goal
 
 pub with-requires : goal.with-requires
 with-requires g t c κs within =
-    let parts : items_of c.args.tree.now ≡ items_of c.deref-2.inside.left ++ c.deref-2.inside.item ∷ items_of c.deref-2.inside.right = ap items_of c.in-Some.is ∙ sym c.deref.ensures ∙ sym c.deref-2.view_is in
+    let parts : items_of c.args.tree.now ≡ items_of c.deref-2.inside.left ++ c.deref-2.inside.item ∷ items_of c.deref-2.inside.right = tree_parts _ _ _ _ c.in-Some.is c.deref.ensures c.deref-2.view_is in
     let small = (shorter (items_of c.deref-2.inside.left) c.deref-2.inside.item (items_of c.deref-2.inside.right) (items_of c.args.tree.now) parts).0 in
     let sorted = sorted_left g.met.T.Ord.total (items_of c.deref-2.inside.left) c.deref-2.inside.item (items_of c.deref-2.inside.right) (subst (IsStrictlySortedBy g.T.Ord.cmp) parts c.requires) in
     search (rules, sorted, small)
 
 pub with-requires-in-Greater : goal.with-requires-in-Greater
 with-requires-in-Greater g t c κs within =
-    let parts : items_of c.args.tree.now ≡ items_of c.deref-2.inside.left ++ c.deref-2.inside.item ∷ items_of c.deref-2.inside.right = ap items_of c.in-Some.is ∙ sym c.deref.ensures ∙ sym c.deref-2.view_is in
+    let parts : items_of c.args.tree.now ≡ items_of c.deref-2.inside.left ++ c.deref-2.inside.item ∷ items_of c.deref-2.inside.right = tree_parts _ _ _ _ c.in-Some.is c.deref.ensures c.deref-2.view_is in
     let small = (shorter (items_of c.deref-2.inside.left) c.deref-2.inside.item (items_of c.deref-2.inside.right) (items_of c.args.tree.now) parts).1 in
     let sorted = sorted_right g.met.T.Ord.total (items_of c.deref-2.inside.left) c.deref-2.inside.item (items_of c.deref-2.inside.right) (subst (IsStrictlySortedBy g.T.Ord.cmp) parts c.requires) in
     search (rules, sorted, small)
 
-pub balanced-requires : goal.balanced-requires
-balanced-requires g t c =
+pub balanced_left-requires : goal.balanced_left-requires
+balanced_left-requires g t c =
     let new = subst (IsWithNew g.T.Ord.cmp c.args.item (items_of c.deref-2.inside.left)) c.in-Some-2.is c.in_ok-grown-in-Less.ensures in
-    near_left g.met.T.Ord.total c.args.item (items_of c.deref-2.inside.left) (items_of c.deref-2.inside.right) (items_of c.in-Some-2.grown) (items_of c.in_ok-shared-in-Less.field-0) c.deref-2.invariant.2 new.1 c.in_ok-shared-in-Less.ensures
+    near_left g.met.T.Ord.total c.args.item (items_of c.deref-2.inside.left) (items_of c.deref-2.inside.right) (items_of c.in-Some-2.grown) (items_of c.deref-2.inside.right) c.deref-2.invariant.2 new.1 refl
 
-pub balanced-requires-in-Greater : goal.balanced-requires-in-Greater
-balanced-requires-in-Greater g t c =
+pub balanced_right-requires : goal.balanced_right-requires
+balanced_right-requires g t c =
     let new = subst (IsWithNew g.T.Ord.cmp c.args.item (items_of c.deref-2.inside.right)) c.in-Some-3.is c.in_ok-grown-in-Greater.ensures in
-    near_right g.met.T.Ord.total c.args.item (items_of c.deref-2.inside.left) (items_of c.deref-2.inside.right) (items_of c.in-Some-3.grown) (items_of c.in_ok-shared-in-Greater.field-0) c.deref-2.invariant.2 new.1 c.in_ok-shared-in-Greater.ensures
+    near_right g.met.T.Ord.total c.args.item (items_of c.deref-2.inside.left) (items_of c.deref-2.inside.right) (items_of c.in-Some-3.grown) (items_of c.deref-2.inside.left) c.deref-2.invariant.2 new.1 refl
 
 pub returns-in_ok-all-in-Less : goal.returns-in_ok-all-in-Less
 returns-in_ok-all-in-Less g t c =
     let l = items_of c.deref-2.inside.left in
     let k = c.deref-2.inside.item in
     let r = items_of c.deref-2.inside.right in
-    let parts : items_of c.args.tree.now ≡ l ++ k ∷ r = ap items_of c.in-Some.is ∙ sym c.deref.ensures ∙ sym c.deref-2.view_is in
+    let parts : items_of c.args.tree.now ≡ l ++ k ∷ r = tree_parts _ _ _ _ c.in-Some.is c.deref.ensures c.deref-2.view_is in
     let new = subst (IsWithNew g.T.Ord.cmp c.args.item l) c.in-Some-2.is c.in_ok-grown-in-Less.ensures in
-    let made : items_of c.in_ok-all-in-Less.all ≡ items_of c.in-Some-2.grown ++ k ∷ r = c.in_ok-all-in-Less.ensures ∙ (λ i. items_of c.in-Some-2.grown ++ c.in_ok-dup-in-Less.ensures i ∷ c.in_ok-shared-in-Less.ensures i) in
-    grown_left g.met.T.Ord.total c.args.item l k r (items_of c.args.tree.now) (items_of c.in-Some-2.grown) (items_of c.in_ok-all-in-Less.all) (sym c.cmp.ensures ∙ c.in-Less.is) parts c.requires new.0 new.1 made
+    grown_left g.met.T.Ord.total c.args.item l k r (items_of c.args.tree.now) (items_of c.in-Some-2.grown) (items_of c.in_ok-all-in-Less.all) (◌∙◌ {a = g.T.Ord.cmp c.args.item k} (sym c.cmp.ensures) c.in-Less.is) parts c.requires new.0 new.1 c.in_ok-all-in-Less.ensures
 
 pub returns-in_ok-all-in-Greater : goal.returns-in_ok-all-in-Greater
 returns-in_ok-all-in-Greater g t c =
     let l = items_of c.deref-2.inside.left in
     let k = c.deref-2.inside.item in
     let r = items_of c.deref-2.inside.right in
-    let parts : items_of c.args.tree.now ≡ l ++ k ∷ r = ap items_of c.in-Some.is ∙ sym c.deref.ensures ∙ sym c.deref-2.view_is in
+    let parts : items_of c.args.tree.now ≡ l ++ k ∷ r = tree_parts _ _ _ _ c.in-Some.is c.deref.ensures c.deref-2.view_is in
     let new = subst (IsWithNew g.T.Ord.cmp c.args.item r) c.in-Some-3.is c.in_ok-grown-in-Greater.ensures in
-    let made : items_of c.in_ok-all-in-Greater.all ≡ l ++ k ∷ items_of c.in-Some-3.grown = c.in_ok-all-in-Greater.ensures ∙ (λ i. c.in_ok-shared-in-Greater.ensures i ++ c.in_ok-dup-in-Greater.ensures i ∷ items_of c.in-Some-3.grown) in
-    grown_right g.met.T.Ord.total c.args.item l k r (items_of c.args.tree.now) (items_of c.in-Some-3.grown) (items_of c.in_ok-all-in-Greater.all) (sym c.cmp.ensures ∙ c.in-Greater.is) parts c.requires new.0 new.1 made
+    grown_right g.met.T.Ord.total c.args.item l k r (items_of c.args.tree.now) (items_of c.in-Some-3.grown) (items_of c.in_ok-all-in-Greater.all) (◌∙◌ {a = g.T.Ord.cmp c.args.item k} (sym c.cmp.ensures) c.in-Greater.is) parts c.requires new.0 new.1 c.in_ok-all-in-Greater.ensures

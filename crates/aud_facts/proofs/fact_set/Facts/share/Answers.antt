@@ -2,7 +2,7 @@ use Rattle.std.proofs.Common.{◌≡◌, sym, subst, None, IfOk, List, []}
 use Rattle.aud_event.specs.Facts.{first_fact_fault}
 use Rattle.aud_event.specs.declared.fact.Fact.{Fact}
 use Rattle.aud_event.specs.contracts.fact.FactOrd.TheImpl as fact_ord
-use Rattle.base_trees.specs.Sets.{inserted}
+use Rattle.base_sorted.specs.Sets.{inserted}
 use Rattle.aud_facts.specs.Shares.{is_of_share, share_of}
 use Rattle.aud_facts.proofs.Shared.{all_shared, by_place, share_inserted, share_of_one}
 use Rattle.aud_facts.proofs.fact_set.Facts.share.Goals as goal

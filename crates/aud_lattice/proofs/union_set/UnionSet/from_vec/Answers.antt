@@ -1,4 +1,4 @@
-use Rattle.base_trees.proofs.Members.{inserted_is}
+use Rattle.base_sorted.proofs.Members.{inserted_is}
 use Rattle.aud_lattice.proofs.union_set.UnionSet.from_vec.Goals as goal
 
 pub returns-clause-each : goal.returns-clause-each

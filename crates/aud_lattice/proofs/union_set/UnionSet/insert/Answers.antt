@@ -1,8 +1,8 @@
 use Rattle.std.proofs.Common.{sym, subst}
 use Rattle.std.proofs.lemmas.Option.{MatchOption-at_some, MatchOption-at_none}
 use Rattle.std.specs.List.Sorted.{IsStrictlySortedBy}
-use Rattle.base_trees.specs.Sorted.{sorted_with_item}
-use Rattle.base_trees.proofs.Members.{contains_grown}
+use Rattle.base_sorted.specs.Sorted.{sorted_with_item}
+use Rattle.base_sorted.proofs.Members.{contains_grown}
 use Rattle.base_trees.proofs.Splits.{with_there}
 use Rattle.aud_lattice.proofs.union_set.UnionSet.insert.Goals as goal
 

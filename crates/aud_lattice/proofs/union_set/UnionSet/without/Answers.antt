@@ -1,4 +1,4 @@
-use Rattle.base_trees.proofs.Leftovers.{contains_without}
+use Rattle.base_sorted.proofs.Leftovers.{contains_without}
 use Rattle.aud_lattice.proofs.union_set.UnionSet.without.Goals as goal
 
 pub returns-clause-members : goal.returns-clause-members

@@ -1,4 +1,4 @@
-use Rattle.base_trees.proofs.Members.{contains_joined}
+use Rattle.base_sorted.proofs.Members.{contains_joined}
 use Rattle.aud_lattice.proofs.union_set.UnionSetLattice.join.Goals as goal
 
 pub returns-clause-members : goal.returns-clause-members

@@ -1,5 +1,5 @@
 -- Membership, which the tests of a set answer.
-use Rattle.std.proofs.Common.{◌≡◌, Bool, true, false, ◌||◌, List, [], refl, sym, ap, subst, ◌∙◌, inl, inr, ◌⊎◌, ◌↔◌}
+use Rattle.std.proofs.Common.{◌≡◌, true, List, [], sym, ap, subst, ◌∙◌, inl, inr, ◌⊎◌, ◌↔◌}
 use Rattle.std.specs.declared.cmp.Ordering.{Ordering}
 use Rattle.std.specs.Ordering.{eq_by_cmp, is_eq}
 use Rattle.std.specs.Cmp.{IsTotalOrder, tied_itself, Equal-is}
@@ -7,11 +7,11 @@ use Rattle.std.specs.List.{Contains}
 use Rattle.std.specs.List.Sorted.{IsStrictlySortedBy}
 use Rattle.std.proofs.lemmas.Bool.{or_cases}
 use Rattle.base_values.specs.Exact.{IsExact}
-use Rattle.base_trees.specs.Sets.{has, with_item, union, inserted}
-use Rattle.base_trees.specs.Sorted.{has-with_item, has-union, same_sorted}
-use Rattle.base_trees.proofs.Strict.{some_passes, one_passes}
-use Rattle.base_trees.proofs.Pours.{has-inserted, sorted_inserted}
-use Rattle.base_values.proofs.Bools.{or_right, same_bools, true_or}
+use Rattle.base_sorted.specs.Sets.{has, with_item, union, inserted}
+use Rattle.base_sorted.specs.Sorted.{has-with_item, has-union, same_sorted}
+use Rattle.base_sorted.proofs.Strict.{some_passes, one_passes}
+use Rattle.base_sorted.proofs.Pours.{has-inserted, sorted_inserted}
+use Rattle.base_values.proofs.Bools.{or_nothing, or_right, same_bools, true_or}
 
 module _ {T : Type 0} {R : T → T → Ordering} (o : IsTotalOrder R) (ex : IsExact R) where
   pub has_member : (xs : List T) (x : T) → Contains xs x → has R xs x ≡ true
@@ -60,17 +60,13 @@ module _ {T : Type 0} {R : T → T → Ordering} (o : IsTotalOrder R) (ex : IsEx
       same_sorted o ex xs ys s t
       (λ q. same_bools (has R xs q) (has R ys q) (λ e. has_member ys q ((same q).0 (member_of xs q e))) (λ e. has_member xs q ((same q).1 (member_of ys q e))))
 
-  or_none : (a : Bool) → (a || false) ≡ a
-  or_none true = refl
-  or_none false = refl
-
   -- the sorted list of a list's members is what putting in each makes
   pub inserted_is : (xs ys : List T) → IsStrictlySortedBy R ys → ((x : T) → Contains ys x ↔ Contains xs x) → ys ≡ inserted R xs []
   unfolding IsStrictlySortedBy
   inserted_is xs ys s same =
       same_sorted o ex ys (inserted R xs []) s (sorted_inserted o ex xs [] tt)
       (λ q. same_bools (has R ys q) (has R xs q) (λ e. has_member xs q ((same q).0 (member_of ys q e))) (λ e. has_member ys q ((same q).1 (member_of xs q e)))
-      ∙ sym (has-inserted o ex xs [] q ∙ or_none (has R xs q)))
+      ∙ sym (has-inserted o ex xs [] q ∙ or_nothing (has R xs q)))
 
   -- the members once x is put in, whether x was there or not
   pub contains_grown : (x : T) (ys new : List T) → new ≡ with_item R x ys → (q : T) → Contains new q ↔ (Contains ys q ⊎ (q ≡ x))

@@ -10,10 +10,10 @@ use Rattle.std.proofs.lemmas.Map.Views.{any-filter_same}
 use Rattle.std.specs.List.Sorted.{IsStrictlySortedBy}
 use Rattle.std.proofs.lemmas.List.Kept.{IsStrictlySortedBy-filter}
 use Rattle.base_values.specs.Exact.{IsExact}
-use Rattle.base_trees.specs.Sets.{has, union, with_item, without}
-use Rattle.base_trees.proofs.Pours.{union_swap}
-use Rattle.base_trees.proofs.Members.{has_is, contains_union, same_members}
-use Rattle.base_trees.specs.Sorted.{has-union, sorted_union, same_sorted}
+use Rattle.base_sorted.specs.Sets.{has, union, with_item, without}
+use Rattle.base_sorted.proofs.Pours.{union_swap}
+use Rattle.base_sorted.proofs.Members.{has_is, contains_union, same_members}
+use Rattle.base_sorted.specs.Sorted.{has-union, sorted_union, same_sorted}
 use Rattle.base_values.proofs.Bools.{is_false}
 
 pub sorted_without : {T : Type 0} (R : T → T → Ordering) (xs ys : List T) → IsStrictlySortedBy R xs → IsStrictlySortedBy R (without R xs ys)

@@ -8,7 +8,7 @@ use Rattle.std.specs.Cmp.{IsTotalOrder, alike_right, tied_itself}
 use Rattle.std.specs.List.{AllByRecursion}
 use Rattle.std.specs.List.Sorted.{IsStrictlySortedBy}
 use Rattle.base_values.specs.Exact.{IsExact}
-use Rattle.base_trees.specs.Sets.{by_order, has, with_item, union}
+use Rattle.base_sorted.specs.Sets.{by_order, has, with_item, union}
 use Rattle.base_values.proofs.Bools.{or_assoc, or_swap, or_again}
 
 -- of three ways, each with what the comparison answered

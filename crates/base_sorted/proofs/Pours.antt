@@ -1,12 +1,12 @@
 -- The items of one list put into another.
-use Rattle.std.proofs.Common.{◌≡◌, Bool, true, false, ◌||◌, List, [], ◌∷◌, ◌++◌, drop, refl, sym, ap, ◌∙◌, ◌↔◌}
+use Rattle.std.proofs.Common.{◌≡◌, Bool, true, false, ◌||◌, List, [], ◌∷◌, refl, sym, ap, ◌∙◌}
 use Rattle.std.specs.declared.cmp.Ordering.{Ordering}
 use Rattle.std.specs.Ordering.{eq_by_cmp}
 use Rattle.std.specs.Cmp.{IsTotalOrder}
 use Rattle.std.specs.List.Sorted.{IsStrictlySortedBy}
 use Rattle.base_values.specs.Exact.{IsExact}
-use Rattle.base_trees.specs.Sets.{has, with_item, union, inserted}
-use Rattle.base_trees.specs.Sorted.{has-with_item, sorted_with_item, has-union, sorted_union, same_sorted}
+use Rattle.base_sorted.specs.Sets.{has, with_item, union, inserted}
+use Rattle.base_sorted.specs.Sorted.{has-with_item, sorted_with_item, has-union, sorted_union, same_sorted}
 use Rattle.base_values.proofs.Bools.{or_comm, or_same, or_swap}
 
 or_assoc : (a b c : Bool) → (a || (b || c)) ≡ ((a || b) || c)
@@ -43,12 +43,3 @@ module _ {T : Type 0} {R : T → T → Ordering} (o : IsTotalOrder R) (ex : IsEx
 
   pub same_has : (xs ys : List T) → IsStrictlySortedBy R xs → IsStrictlySortedBy R ys → has R xs ≡ has R ys → xs ≡ ys
   same_has xs ys s t e = same_sorted o ex xs ys s t (λ q i. e i q)
-
-pub tails_same : {T : Type 0} {P : Type 0} (x y : T) (xs ys : List T) → x ≡ y → P ↔ (x ∷ xs ≡ y ∷ ys) → P ↔ (xs ≡ ys)
-tails_same x y xs ys e p = (λ h. ap (drop 1) (p.0 h), λ t. p.1 (λ i. e i ∷ t i))
-
-pub heads_same : {T : Type 0} (x y : T) (xs ys : List T) → x ∷ xs ≡ y ∷ ys → x ≡ y
-heads_same x y xs ys e = cc
-
-pub parts_same : {T : Type 0} (x y : T) (ls ms rs ss : List T) → ls ≡ ms → x ≡ y → rs ≡ ss → ls ++ x ∷ rs ≡ ms ++ y ∷ ss
-parts_same x y ls ms rs ss l e r = λ i. l i ++ e i ∷ r i

@@ -1,0 +1,4 @@
+pub mod Strict
+pub mod Pours
+pub mod Members
+pub mod Leftovers
