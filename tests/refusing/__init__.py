@@ -11,7 +11,7 @@ HERE = os.path.dirname(os.path.abspath(__file__))
 NAME = "test_refusing"
 CALLS = "refused.rt.txt"
 HANDLES = "tests_may=Threads+Wait"
-NEEDS = "base_values node_pool aud_event aud_object aud_history aud_witness aud_lattice aud_facts aud_text test_worked aud_order aud_cover aud_know aud_split aud_report aud_cert test_devices cli_lines cli_audit"
+NEEDS = "base_values node_pool aud_event aud_kinds aud_object aud_history aud_witness aud_lattice aud_facts aud_text test_worked aud_order aud_cover aud_know aud_split aud_report aud_cert test_devices cli_lines cli_audit"
 
 
 def put(room):

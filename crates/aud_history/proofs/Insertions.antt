@@ -3,7 +3,7 @@ use Rattle.std.proofs.Common.{◌≡◌, ℕ, Bool, true, false, cond, nat_eq, �
 use Rattle.aud_event.specs.declared.fact.Event.{Event}
 use Rattle.aud_event.specs.declared.fact.Event.TheVariants.{Inv, Ret, TryC, TryA, Commit, Abort}
 use Rattle.aud_history.specs.Histories.{History, events_of, is_in, is_completed, is_live}
-use Rattle.aud_object.specs.Objects.{is_on, on_object}
+use Rattle.aud_kinds.specs.Objects.{is_on, on_object}
 use Rattle.aud_history.specs.Completions.{is_completing, IsInserted, nothing, same, inserted}
 use Rattle.base_values.proofs.Bools.{or_true, and_true, true_or, or_right, not_true, split, nat_eq-is}
 

@@ -6,7 +6,7 @@ use Rattle.aud_event.specs.declared.fact.Event.{Event}
 use Rattle.aud_event.specs.declared.fact.Event.TheVariants.{Inv, Ret, TryC, TryA, Commit, Abort}
 use Rattle.aud_event.specs.Objects.{name_of}
 use Rattle.base_values.proofs.Bools.{split}
-use Rattle.aud_object.specs.Objects.{on_object}
+use Rattle.aud_kinds.specs.Objects.{on_object}
 use Rattle.aud_object.specs.Blocks.{events_of_block}
 use Rattle.aud_history.specs.declared.state.TxState.TheVariants.{Idle, Ended, TriedCommit, TriedAbort}
 use Rattle.aud_history.specs.Histories.{History, is_in, is_before, is_completed, from_first}

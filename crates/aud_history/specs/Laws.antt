@@ -6,7 +6,7 @@ use Rattle.aud_history.specs.declared.state.TxState.TheVariants.{Idle}
 use Rattle.aud_history.specs.Histories.{History, is_in, is_committed, is_commit_pending, is_completed, is_before}
 use Rattle.aud_history.specs.WellFormed.{IsTransaction, IsWellFormed}
 use Rattle.aud_history.specs.ByState.{after, run, Passes}
-use Rattle.aud_object.specs.Objects.{on_object}
+use Rattle.aud_kinds.specs.Objects.{on_object}
 use Rattle.aud_object.specs.Blocks.{events_of_block}
 use Rattle.aud_history.specs.Table.{block_of, first_stamp, last_stamp}
 use Rattle.aud_history.specs.Completions.{IsCompletion}

@@ -8,14 +8,14 @@ use Rattle.aud_event.specs.declared.fact.Event.{Event}
 use Rattle.aud_event.specs.declared.fact.Event.TheVariants.{Inv, Ret}
 use Rattle.aud_event.specs.Meanings.{Declared}
 use Rattle.aud_event.specs.Objects.{name_of}
-use Rattle.aud_object.specs.Objects.{ObjState, answer_of, after_op, opening_of, on_object, IsInSeq}
+use Rattle.aud_kinds.specs.Objects.{ObjState, answer_of, after_op, opening_of, on_object, IsInSeq}
 use Rattle.aud_object.specs.Executions.{state_after, states_after_from, states_after, IsLegalFrom}
 use Rattle.aud_object.specs.Blocks.{events_of_executions, events_of_trailing, events_of_block, AreThere}
 use Rattle.aud_object.specs.Replayed.{same_answer, after_at, answer_at, answers, executed, replayed}
 use Rattle.aud_object.specs.Laws.{ReplayIsLegality, OpeningIsLegality, AreExecutionsOnEach, LegalityIsByParts, BlocksReplayInTurn}
 use Rattle.aud_object.specs.declared.execution.Execution.{Execution}
 use Rattle.aud_object.specs.declared.execution.Invocation.{Invocation}
-use Rattle.aud_object.proofs.Ints.{eq-is, eq-itself}
+use Rattle.base_undo.proofs.Ints.{eq-is, eq-itself}
 use Rattle.aud_object.proofs.Replays.{on_object-append, IsInSeq-append, IsInSeq-split, state_after-append}
 
 pub same_answer-is : (a b : Answer) → same_answer a b ≡ true → a ≡ b

@@ -7,9 +7,9 @@ use Rattle.aud_event.specs.declared.object.Op.{Op}
 use Rattle.aud_event.specs.declared.object.Answer.{Answer}
 use Rattle.aud_object.specs.declared.state.State.{State}
 use Rattle.aud_object.specs.declared.state.Change.{Change}
-use Rattle.aud_object.specs.Objects.{ObjState, answer_of, after_op}
+use Rattle.aud_kinds.specs.Objects.{ObjState, answer_of, after_op}
 use Rattle.aud_object.specs.declared.execution.Execution.{Execution}
-use Rattle.aud_object.specs.Kinds.{meaning, back}
+use Rattle.aud_object.specs.States.{meaning, back}
 use Rattle.aud_object.specs.Logs.{back_at}
 use Rattle.aud_object.specs.Replayed.{after_at, answer_at, answers, executed}
 
@@ -85,6 +85,11 @@ pub mapped-past : {X Y Z : Type 0} (f : X → Y) (h : Y → Z) (xs : List X) (i 
 mapped-past f h [] i far = refl
 mapped-past f h (y ∷ xs) zero far = absurd (omega arith)
 mapped-past f h (y ∷ xs) (suc i) far = mapped-past f h xs i (omega arith)
+
+pub stands-at : {X Y : Type 0} (f : X → Y) (xs : List X) (i : ℕ) (x : X) → i < length xs → x ≡ get_or xs i x → Some (f x) ≡ slice_get (map f xs) i
+stands-at f [] i x low e = absurd (omega arith)
+stands-at f (y ∷ xs) zero x low e = ap (λ z. Some (f z)) e
+stands-at f (y ∷ xs) (suc i) x low e = stands-at f xs i x (omega arith) e
 
 -- one more execution ran
 pub executed-more : (states new : List ObjState) (xs : List Execution) (i : ℕ) (d : Execution) (right : Bool) → i < length xs → right ≡ answers (answer_at states (get_or xs i d).object (get_or xs i d).op) (get_or xs i d).answer → right ≡ true →

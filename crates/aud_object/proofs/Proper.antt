@@ -8,11 +8,11 @@ use Rattle.aud_event.specs.declared.object.Op.TheVariants.{Inc, Add, Remove, Put
 use Rattle.aud_event.specs.declared.object.ObjKind.{ObjKind}
 use Rattle.aud_event.specs.declared.object.ObjKind.TheVariants as kind
 use Rattle.aud_event.specs.Meanings.{Declared}
-use Rattle.aud_object.specs.Objects.{ObjState, set_of, map_of, has_member, with_member, without_member, after_op, opens_at, opening_of}
-use Rattle.aud_object.specs.Entries.{value_at, with_entry, without_entry, AreAbove, Ascend}
+use Rattle.aud_kinds.specs.Objects.{ObjState, set_of, map_of, has_member, with_member, without_member, after_op, opens_at, opening_of}
+use Rattle.base_undo.specs.Entries.{value_at, with_entry, without_entry, AreAbove, Ascend}
 use Rattle.aud_object.specs.Proper.{IsBelow, MembersAscend, IsProper}
-use Rattle.aud_object.proofs.Ints.{lt-not_eq, eq-is, lt-trans, above}
-use Rattle.aud_object.proofs.Keeping.{AreAbove-trans, value-below, Ascend-without}
+use Rattle.base_undo.proofs.Ints.{lt-not_eq, eq-is, lt-trans, above}
+use Rattle.base_undo.proofs.Keeping.{AreAbove-trans, value-below, Ascend-without}
 
 -- # Members
 

@@ -3,7 +3,7 @@ use Rattle.std.proofs.Common.{◌≡◌, ℕ, true, false, cond, nat_eq, List, [
 use Rattle.aud_event.specs.declared.fact.Event.{Event}
 use Rattle.aud_event.specs.declared.fact.Event.TheVariants.{Inv, Ret}
 use Rattle.aud_event.specs.Objects.{name_of}
-use Rattle.aud_object.specs.Objects.{ObjState, after_op, is_on, on_object, IsInSeq}
+use Rattle.aud_kinds.specs.Objects.{ObjState, after_op, is_on, on_object, IsInSeq}
 use Rattle.aud_object.specs.Executions.{AreExecutions, no_execution, execution, state_after}
 
 pub on_object-append : (ob : ℕ) (a b : List Event) → on_object ob (a ++ b) ≡ on_object ob a ++ on_object ob b

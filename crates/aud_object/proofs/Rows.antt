@@ -3,7 +3,7 @@ use Rattle.std.proofs.Common.{◌≡◌, pos, [], ◌∷◌, refl, arith}
 use Rattle.std.proofs.lemmas.Int.{ints}
 use Rattle.aud_event.specs.declared.object.Op.TheVariants.{Read, Write, Inc, Dec, Get, Add, Remove, Contains, Enq, Deq, Plus, Put, Look, Del}
 use Rattle.aud_event.specs.declared.object.OpName.TheVariants as word
-use Rattle.aud_object.specs.Objects.{register, counter, set_of, queue, map_of}
+use Rattle.aud_kinds.specs.Objects.{register, counter, set_of, queue, map_of}
 use Rattle.aud_object.specs.Laws.{EachOtherChanges, EachObservingTells, OtherKindsStay}
 
 one-not-zero : pos 1 ≡ pos 0 → ⊥

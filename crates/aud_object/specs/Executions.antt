@@ -5,7 +5,7 @@ use Rattle.aud_event.specs.declared.object.Answer.{Answer}
 use Rattle.aud_event.specs.declared.fact.Event.{Event}
 use Rattle.aud_event.specs.declared.fact.Event.TheVariants.{Inv, Ret}
 use Rattle.aud_event.specs.Objects.{name_of}
-use Rattle.aud_object.specs.Objects.{ObjState, after_op, on_object, IsInSeq}
+use Rattle.aud_kinds.specs.Objects.{ObjState, after_op, on_object, IsInSeq}
 
 -- executions, each an invocation and next to it the response of the same operation on the same object
 pub data AreExecutions : List Event → Type 0 where

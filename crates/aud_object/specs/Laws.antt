@@ -6,7 +6,7 @@ use Rattle.aud_event.specs.declared.object.Answer.TheVariants.{Done}
 use Rattle.aud_event.specs.Meanings.{Declared}
 use Rattle.aud_event.specs.declared.object.OpName.{OpName}
 use Rattle.aud_event.specs.Objects.{name_of, is_of_kind, observes}
-use Rattle.aud_object.specs.Objects.{ObjState, kind_of, answer_of, after_op, opening_of, on_object, IsLegal}
+use Rattle.aud_kinds.specs.Objects.{ObjState, kind_of, answer_of, after_op, opening_of, on_object, IsLegal}
 use Rattle.aud_object.specs.Executions.{AreExecutions, states_after, IsLegalFrom}
 use Rattle.aud_object.specs.Blocks.{BlockOf, events_of_block, AreThere}
 use Rattle.aud_object.specs.Replayed.{replayed}

@@ -1,13 +1,9 @@
-pub mod Objects
 pub mod Executions
 pub mod Blocks
 pub mod Replayed
 pub mod Laws
-pub mod Entries
 pub mod Proper
-pub mod Keeps
 pub mod Meanings
 pub mod Logs
-pub mod Kinds
-pub mod Digests
+pub mod States
 pub mod Orders

@@ -1,7 +1,7 @@
 -- The states at the marks of a log of changes.
 use Rattle.std.specs.Prelude.{ℕ, zero, suc, List, [], ◌∷◌, map, ◌≡◌, MatchOption, Option}
-use Rattle.aud_object.specs.Objects.{ObjState}
-use Rattle.aud_object.specs.Kinds.{meaning, back}
+use Rattle.aud_kinds.specs.Objects.{ObjState}
+use Rattle.aud_object.specs.States.{meaning, back}
 use Rattle.aud_object.specs.declared.state.State.{State}
 use Rattle.aud_object.specs.declared.state.Change.{Change}
 use Rattle.aud_object.specs.declared.log.Entry.{Entry}

@@ -1,7 +1,7 @@
 -- What holds of every state that an object comes to: the members of a set ascend, and the keys of a map.
 use Rattle.std.specs.Prelude.{◌≡◌, ℤ, true, int_lt, List, [], ◌∷◌}
-use Rattle.aud_object.specs.Objects.{ObjState, set_of, map_of}
-use Rattle.aud_object.specs.Entries.{Ascend}
+use Rattle.aud_kinds.specs.Objects.{ObjState, set_of, map_of}
+use Rattle.base_undo.specs.Entries.{Ascend}
 
 -- the value is below all of these
 abbrev pub IsBelow : ℤ → List ℤ → Type 0

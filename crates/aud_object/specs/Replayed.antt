@@ -4,7 +4,7 @@ use Rattle.std.specs.Ordering.{int_eq}
 use Rattle.aud_event.specs.declared.object.Op.{Op}
 use Rattle.aud_event.specs.declared.object.Answer.{Answer}
 use Rattle.aud_event.specs.declared.object.Answer.TheVariants.{Done, Int, Flag, Empty}
-use Rattle.aud_object.specs.Objects.{ObjState, answer_of, after_op}
+use Rattle.aud_kinds.specs.Objects.{ObjState, answer_of, after_op}
 use Rattle.aud_object.specs.Blocks.{BlockOf}
 use Rattle.aud_object.specs.Meanings.{StoreOf}
 use Rattle.aud_object.specs.declared.execution.Execution.{Execution}

@@ -1,20 +1,14 @@
 //! The state of one object, of whichever kind, and what an operation changed of it, so that it can be taken back with no memory.
 
 ghost use Rattle.std.specs.Prelude.{◌≡◌, ◌↔◌, IsTrue, IfOk, OnErr, OnOk, MatchOption};
-ghost use Rattle.aud_object.specs.Objects.{answer_of, after_op, items_of, opening_of, digest_of};
-ghost use Rattle.aud_object.specs.Kinds.{meaning, back, number_in};
-ghost use Rattle.aud_object.specs.Orders.{place_of, state_cmp};
+ghost use Rattle.aud_kinds.specs.Objects.{answer_of, after_op, items_of, opening_of, digest_of};
+ghost use Rattle.aud_object.specs.States.{meaning, back, number_in};
+ghost use Rattle.aud_kinds.specs.Orders.{place_of, state_cmp};
 
-use crate::counter_kind::Counter;
-use crate::items::{Items, ItemsChange};
-use crate::map_kind::MapOf;
 use crate::number::Number;
-use crate::queue_kind::Queue;
-use crate::register_kind::Register;
-use crate::set_kind::SetOf;
-use crate::spec::ObjectSpec;
-use crate::tombstone_map::{TombstoneChange, TombstoneMap};
 use aud_event::{Answer, Dup, ObjDecl, ObjKind, Op, OutOfMemory};
+use aud_kinds::{Counter, MapOf, ObjectSpec, Queue, Register, SetOf};
+use base_undo::{Items, ItemsChange, TombstoneChange, TombstoneMap};
 use std::alloc::{Allocator, Global};
 use std::cmp::Ordering;
 

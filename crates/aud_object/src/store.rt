@@ -1,8 +1,8 @@
 //! The states of all objects of a plan, with a log by which a block is taken back with no memory.
 
 ghost use Rattle.std.specs.Prelude.{◌≡◌, ◌≢◌, ◌↔◌, ◌≤◌, IsTrue, [], ◌∷◌, length, true, false, map, IfOk, OnErr, OnOk, option_map, is_some, slice_get};
-ghost use Rattle.aud_object.specs.Objects.{answer_of, items_of, opening_of, digest_of};
-ghost use Rattle.aud_object.specs.Kinds.{meaning, number_of};
+ghost use Rattle.aud_kinds.specs.Objects.{answer_of, items_of, opening_of, digest_of};
+ghost use Rattle.aud_object.specs.States.{meaning, number_of};
 ghost use Rattle.aud_object.specs.Orders.{store_cmp};
 ghost use Rattle.aud_object.specs.Logs.{back_at, LeadsBack};
 ghost use Rattle.aud_object.specs.Replayed.{same_answer, after_at, answer_at, answers, replayed, Replays, Runs};
@@ -30,7 +30,7 @@ impl<A: Allocator> Model for Store<A> {
     ghost Value = { StoreOf };
 
     ghost use Rattle.std.specs.Prelude.{map, reverse};
-    ghost use Rattle.aud_object.specs.Kinds.{meaning};
+    ghost use Rattle.aud_object.specs.States.{meaning};
     ghost use Rattle.aud_object.specs.Logs.{levels};
 
     ghost view = { λ s. record { now = map meaning s.states.items; past = levels s.states.items (reverse s.log.items) } };

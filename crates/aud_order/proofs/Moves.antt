@@ -4,7 +4,7 @@ use Rattle.std.proofs.Common.{sym, ◌∙◌, ap, subst, inl, inr, arith, set}
 use Rattle.std.proofs.Math.ListN.{length-map}
 use Rattle.std.proofs.lemmas.List.Quantifiers.{position-Some}
 use Rattle.aud_event.specs.Meanings.{PlanOf}
-use Rattle.aud_object.specs.Objects.{ObjState, opening_of}
+use Rattle.aud_kinds.specs.Objects.{ObjState, opening_of}
 use Rattle.aud_object.specs.Executions.{states_after}
 use Rattle.aud_object.specs.Replayed.{replayed}
 use Rattle.aud_history.specs.Histories.{History, is_in}

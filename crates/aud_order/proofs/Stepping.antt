@@ -8,8 +8,8 @@ use Rattle.aud_event.specs.declared.object.Op.{Op}
 use Rattle.aud_event.specs.declared.object.Op.TheVariants.{Read, Get, Contains}
 use Rattle.base_values.proofs.Bools.{and_true, true_and, or_right, nat_eq-is}
 use Rattle.aud_event.specs.Objects.{is_observing}
-use Rattle.aud_object.specs.Objects.{ObjState, after_op}
-use Rattle.aud_object.specs.Kinds.{observing_stays}
+use Rattle.aud_kinds.specs.Objects.{ObjState, after_op}
+use Rattle.aud_kinds.specs.Kinds.{observing_stays}
 use Rattle.aud_object.specs.declared.execution.Execution.{Execution}
 use Rattle.aud_object.specs.Replayed.{answers, answer_at, after_at, executed, replayed}
 use Rattle.aud_history.specs.Table.{RowOf}

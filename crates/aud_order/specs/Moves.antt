@@ -1,7 +1,7 @@
 -- What may be moved in a prefix, and what decides what may follow it.
 use Rattle.std.specs.Prelude.{◌≡◌, ℕ, if◌then◌else◌, nat_eq, List, [], ◌∷◌, ◌++◌, map, Some}
 use Rattle.aud_event.specs.Meanings.{PlanOf}
-use Rattle.aud_object.specs.Objects.{opening_of}
+use Rattle.aud_kinds.specs.Objects.{opening_of}
 use Rattle.aud_object.specs.Executions.{states_after}
 use Rattle.aud_history.specs.Histories.{History}
 use Rattle.aud_history.specs.WellFormed.{IsWellFormed}

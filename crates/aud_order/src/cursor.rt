@@ -1,7 +1,7 @@
 //! A cursor over the good prefixes of a history.
 
 ghost use Rattle.std.specs.Prelude.{◌≡◌, ◌≢◌, ◌↔◌, ◌<◌, ◌-◌, ◌++◌, [], ◌∷◌, true, false, length, take, map, filter, IsTrue, IfOk, OnOk, OnErr};
-ghost use Rattle.aud_object.specs.Objects.{opening_of};
+ghost use Rattle.aud_kinds.specs.Objects.{opening_of};
 ghost use Rattle.aud_object.specs.Executions.{states_after};
 ghost use Rattle.aud_history.specs.Table.{table_of, transactions};
 ghost use Rattle.aud_witness.specs.Orders.{is_named, kept, IsFull, IsGood};

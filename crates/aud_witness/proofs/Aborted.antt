@@ -5,7 +5,7 @@ use Rattle.aud_event.specs.Meanings.{Declared}
 use Rattle.aud_witness.specs.declared.decision.Fate.TheVariants.{C, A}
 use Rattle.aud_witness.specs.declared.decision.Decision.{Decision}
 use Rattle.aud_history.specs.Histories.{History, events_of, is_in, is_commit, is_abort, is_completed, is_before, from_first}
-use Rattle.aud_object.specs.Objects.{IsLegal}
+use Rattle.aud_kinds.specs.Objects.{IsLegal}
 use Rattle.aud_witness.specs.Orders.{is_allowed, block, is_kept, is_named, are_named_once, stands_before, kept, visible, Shows}
 use Rattle.aud_witness.specs.Sameness.{without}
 use Rattle.base_values.proofs.Bools.{or_false, and_true, true_and, not_true, not_false, split, nat_eq-is, nat_eq-sym}

@@ -5,7 +5,7 @@ use Rattle.std.proofs.lemmas.List.Folds.{list_any-append, list_all-append}
 use Rattle.aud_event.specs.Meanings.{Declared}
 use Rattle.aud_witness.specs.declared.decision.Decision.{Decision}
 use Rattle.aud_history.specs.Histories.{History}
-use Rattle.aud_object.specs.Objects.{IsLegal}
+use Rattle.aud_kinds.specs.Objects.{IsLegal}
 use Rattle.aud_witness.specs.Orders.{is_allowed, block, is_kept, is_named, are_named_once, stands_before, kept, visible, Shows, Refuted, IsGoodNext, IsGood}
 use Rattle.base_values.proofs.Bools.{or_true, or_false, and_true, true_or, or_right, not_true, nat_eq-refl, nat_eq-sym}
 

@@ -14,7 +14,7 @@ use Rattle.aud_event.specs.Facts.{first_event_fault, first_use_fault, or_else_fa
 use Rattle.aud_event.specs.declared.fact.FactFault.{FactFault}
 use Rattle.aud_event.specs.declared.signature.Format.{Format}
 use Rattle.base_values.proofs.Bools.{or_true, and_true, or_right, true_or, not_true, split, is_false, nat_eq-is, nat_eq-refl, nat_eq-sym}
-use Rattle.aud_object.specs.Objects.{ObjState, opening_of, on_object, IsInSeq}
+use Rattle.aud_kinds.specs.Objects.{ObjState, opening_of, on_object, IsInSeq}
 use Rattle.aud_object.specs.Executions.{AreExecutions, no_execution, execution, states_after, states_after_from, state_after, IsLegalFrom}
 use Rattle.aud_object.specs.Blocks.{BlockOf, events_of_block, AreThere}
 use Rattle.aud_object.specs.Replayed.{replayed}

@@ -12,7 +12,7 @@ use Rattle.aud_witness.specs.declared.decision.Fate.TheVariants.{C, A}
 use Rattle.aud_witness.specs.declared.decision.Decision.{Decision}
 use Rattle.aud_history.specs.declared.state.TxState.TheVariants.{Idle}
 use Rattle.aud_history.specs.Histories.{History, events_of, is_commit, is_abort, is_try_commit, is_committed, is_aborted, is_completed, is_live, is_commit_pending}
-use Rattle.aud_object.specs.Objects.{on_object}
+use Rattle.aud_kinds.specs.Objects.{on_object}
 use Rattle.aud_object.specs.Executions.{no_execution, execution}
 use Rattle.aud_history.specs.WellFormed.{IsEnding, invocation_aborted, aborted_by_itself, committed, commit_refused, IsWhole, IsTransaction, IsWellFormed}
 use Rattle.aud_history.specs.ByState.{Passes, is_match}

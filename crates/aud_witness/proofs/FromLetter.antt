@@ -6,7 +6,7 @@ use Rattle.aud_event.specs.Meanings.{Declared}
 use Rattle.aud_witness.specs.declared.decision.Fate.TheVariants.{C, A}
 use Rattle.aud_witness.specs.declared.decision.Decision.{Decision}
 use Rattle.aud_history.specs.Histories.{History, events_of, is_in, is_commit, is_committed, is_aborted, is_completed, is_live, is_commit_pending, is_before, from_first}
-use Rattle.aud_object.specs.Objects.{on_object}
+use Rattle.aud_kinds.specs.Objects.{on_object}
 use Rattle.aud_witness.specs.Orders.{is_allowed, is_named, visible, IsFull, Opaque}
 use Rattle.aud_history.specs.Completions.{IsCompletion, IsEquivalent}
 use Rattle.aud_witness.specs.Letter.{IsSequential, seen_by, Letter}

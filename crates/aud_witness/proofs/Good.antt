@@ -3,7 +3,7 @@ use Rattle.std.proofs.Common.{◌≡◌, ℕ, true, false, not, ◌&&◌, ◌||�
 use Rattle.aud_event.specs.Meanings.{Declared}
 use Rattle.aud_witness.specs.declared.decision.Decision.{Decision}
 use Rattle.aud_history.specs.Histories.{History, is_in, is_before, is_completed, from_first}
-use Rattle.aud_object.specs.Objects.{IsLegal}
+use Rattle.aud_kinds.specs.Objects.{IsLegal}
 use Rattle.aud_witness.specs.Orders.{is_named, stands_before, visible, IsFull, Shows, IsGoodNext, IsGood}
 use Rattle.base_values.proofs.Bools.{or_true, and_true, true_and, true_or, or_right, split, nat_eq-refl, nat_eq-is}
 use Rattle.aud_witness.proofs.Beginnings.{is_named-append, visible_at}

@@ -8,7 +8,7 @@ use Rattle.aud_witness.specs.declared.decision.Fate.TheVariants.{C, A}
 use Rattle.aud_witness.specs.declared.decision.Decision.{Decision}
 use Rattle.aud_history.specs.Histories.{History, events_of, is_in, is_commit, is_abort, is_try_commit, is_completed, is_before, from_first, is_live}
 use Rattle.aud_history.specs.WellFormed.{IsWellFormed}
-use Rattle.aud_object.specs.Objects.{IsLegal}
+use Rattle.aud_kinds.specs.Objects.{IsLegal}
 use Rattle.aud_witness.specs.Orders.{is_allowed, live_ending, block, is_kept, visible, Shows, Opaque}
 use Rattle.aud_history.specs.Completions.{IsInserted, nothing, same, IsEquivalent}
 use Rattle.aud_witness.specs.Letter.{IsSequential, KeepsRealTime, seen_by, Letter}

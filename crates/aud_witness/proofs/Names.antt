@@ -4,7 +4,7 @@ use Rattle.std.specs.List.{list_any, list_all}
 use Rattle.aud_event.specs.Meanings.{Declared}
 use Rattle.aud_witness.specs.declared.decision.Decision.{Decision}
 use Rattle.aud_history.specs.Histories.{History, events_of, is_in, is_commit, is_abort, is_completed, is_before, from_first}
-use Rattle.aud_object.specs.Objects.{IsLegal}
+use Rattle.aud_kinds.specs.Objects.{IsLegal}
 use Rattle.aud_witness.specs.Orders.{is_allowed, block, is_kept, is_named, are_named_once, stands_before, visible, Shows}
 use Rattle.aud_witness.specs.Sameness.{renamed, renamed_order}
 use Rattle.base_values.proofs.Bools.{split, nat_eq-refl, nat_eq-is}

@@ -4,7 +4,7 @@ use Rattle.std.proofs.Common.{sym, ◌∙◌, ap, subst, cond, inl, inr, arith, 
 use Rattle.std.proofs.lemmas.Bool.Decides.{nat_tests}
 use Rattle.std.proofs.lemmas.List.{reverse-append, drop_more}
 use Rattle.base_values.proofs.Bools.{or_true, and_true, true_and, or_right, true_or, not_true, not_false, split, is_false}
-use Rattle.aud_object.specs.Objects.{ObjState}
+use Rattle.aud_kinds.specs.Objects.{ObjState}
 use Rattle.aud_object.specs.Meanings.{StoreOf}
 use Rattle.aud_object.specs.Replayed.{replayed}
 use Rattle.aud_witness.specs.declared.decision.Fate.{Fate}

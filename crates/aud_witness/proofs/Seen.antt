@@ -4,7 +4,7 @@ use Rattle.aud_event.specs.declared.fact.Event.{Event}
 use Rattle.aud_event.specs.Meanings.{Declared}
 use Rattle.aud_witness.specs.declared.decision.Decision.{Decision}
 use Rattle.aud_history.specs.Histories.{History, is_in, is_completed, is_before, from_first}
-use Rattle.aud_object.specs.Objects.{on_object, opening_of, IsInSeq, IsLegal}
+use Rattle.aud_kinds.specs.Objects.{on_object, opening_of, IsInSeq, IsLegal}
 use Rattle.aud_witness.specs.Orders.{block, is_kept, is_named, stands_before, kept, visible}
 use Rattle.aud_witness.specs.Letter.{seen_by}
 use Rattle.base_values.proofs.Bools.{and_true, not_true}

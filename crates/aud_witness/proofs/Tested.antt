@@ -8,11 +8,11 @@ use Rattle.aud_event.specs.declared.fact.Event.TheVariants.{Inv, Ret}
 use Rattle.aud_event.specs.Meanings.{Declared}
 use Rattle.aud_witness.specs.declared.decision.Decision.{Decision}
 use Rattle.aud_history.specs.Histories.{History, events_of, is_in, is_before, is_completed, is_committed, is_aborted, is_commit, is_abort, from_first}
-use Rattle.aud_object.specs.Objects.{on_object, ObjState, opening_of, answer_of, after_op, IsInSeq, IsLegal}
+use Rattle.aud_kinds.specs.Objects.{on_object, ObjState, opening_of, answer_of, after_op, IsInSeq, IsLegal}
 use Rattle.aud_witness.specs.Orders.{is_allowed, is_named, are_named_once, stands_before, visible, IsFull, Shows}
 use Rattle.aud_witness.specs.Enumeration.{is_same_bool, is_same_answer, is_in_seq, is_legal_from, is_full, keeps_real_time, shows}
 use Rattle.base_values.proofs.Bools.{same_bools, or_true, and_true, true_and, true_or, or_right, nat_eq-refl, nat_eq-is}
-use Rattle.aud_object.proofs.Ints.{eq-is, eq-itself}
+use Rattle.base_undo.proofs.Ints.{eq-is, eq-itself}
 
 is_same_bool-is : (a b : Bool) → is_same_bool a b ≡ true → a ≡ b
 is_same_bool-is true b h = sym h

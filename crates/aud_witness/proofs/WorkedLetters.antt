@@ -7,7 +7,7 @@ use Rattle.aud_event.specs.Objects.{name_of}
 use Rattle.aud_history.specs.Histories.{History, events_of, is_in, is_completed, is_aborted, is_commit_pending, is_before}
 use Rattle.aud_history.specs.WellFormed.{IsTransaction, committed}
 use Rattle.aud_object.specs.Executions.{no_execution, execution}
-use Rattle.aud_object.specs.Objects.{IsLegal}
+use Rattle.aud_kinds.specs.Objects.{IsLegal}
 use Rattle.aud_witness.specs.Orders.{Opaque}
 use Rattle.aud_history.specs.Completions.{has_live, IsInserted, nothing, same, inserted}
 use Rattle.aud_witness.specs.Letter.{seen_by, Letter}

@@ -2,7 +2,7 @@
 use Rattle.std.specs.Prelude.{ℕ, Bool, true, false, not, ◌&&◌, ◌||◌, if◌then◌else◌, nat_eq, nat_lt, List, [], ◌∷◌, map, replicate, length, Option, Some, None, Result, Ok, Err, slice_get, slice_set, slice_index_or}
 use Rattle.std.specs.List.{position}
 use Rattle.aud_event.specs.Meanings.{Declared}
-use Rattle.aud_object.specs.Objects.{ObjState, opening_of}
+use Rattle.aud_kinds.specs.Objects.{ObjState, opening_of}
 use Rattle.aud_object.specs.Replayed.{replayed}
 use Rattle.aud_history.specs.declared.status.Status.{Status}
 use Rattle.aud_history.specs.declared.status.Status.TheVariants.{Committed, Aborted, CommitPending, Live}

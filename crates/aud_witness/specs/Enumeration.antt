@@ -10,7 +10,7 @@ use Rattle.aud_event.specs.Meanings.{Declared}
 use Rattle.aud_witness.specs.declared.decision.Fate.TheVariants.{C, A}
 use Rattle.aud_witness.specs.declared.decision.Decision.{Decision}
 use Rattle.aud_history.specs.Histories.{History, is_in, is_before}
-use Rattle.aud_object.specs.Objects.{on_object, ObjState, opening_of, answer_of, after_op}
+use Rattle.aud_kinds.specs.Objects.{on_object, ObjState, opening_of, answer_of, after_op}
 use Rattle.aud_history.specs.Table.{transactions}
 use Rattle.aud_witness.specs.Orders.{is_allowed, is_named, are_named_once, stands_before, visible}
 

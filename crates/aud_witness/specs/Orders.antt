@@ -8,7 +8,7 @@ use Rattle.aud_witness.specs.declared.decision.Fate.{Fate}
 use Rattle.aud_witness.specs.declared.decision.Fate.TheVariants.{C, A}
 use Rattle.aud_witness.specs.declared.decision.Decision.{Decision}
 use Rattle.aud_history.specs.Histories.{History, events_of, is_in, is_committed, is_aborted, is_live, is_commit_pending, is_before}
-use Rattle.aud_object.specs.Objects.{IsLegal}
+use Rattle.aud_kinds.specs.Objects.{IsLegal}
 
 -- the fates that a completion may give: a committed transaction C, an aborted one A,
 -- a commit-pending one either, every other live one A

@@ -5,7 +5,7 @@ use Rattle.aud_event.specs.Meanings.{Declared}
 use Rattle.aud_witness.specs.declared.decision.Decision.{Decision}
 use Rattle.aud_history.specs.Histories.{History, is_in, is_completed, is_before}
 use Rattle.aud_history.specs.WellFormed.{IsWellFormed}
-use Rattle.aud_object.specs.Objects.{IsLegal}
+use Rattle.aud_kinds.specs.Objects.{IsLegal}
 use Rattle.aud_witness.specs.declared.decision.Fate.TheVariants.{A}
 use Rattle.aud_witness.specs.Orders.{kept, Shows, Opaque}
 use Rattle.aud_history.specs.Completions.{IsEquivalent}

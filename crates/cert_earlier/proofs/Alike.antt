@@ -4,7 +4,7 @@ use Rattle.std.specs.List.{list_any}
 use Rattle.std.proofs.Common.{sym, ◌∙◌, ap, subst, inl, inr}
 use Rattle.aud_event.specs.Meanings.{Declared}
 use Rattle.base_values.proofs.Bools.{split, nat_eq-is}
-use Rattle.aud_object.specs.Objects.{ObjState, opening_of}
+use Rattle.aud_kinds.specs.Objects.{ObjState, opening_of}
 use Rattle.aud_object.specs.Executions.{states_after}
 use Rattle.aud_history.specs.Histories.{History, is_in}
 use Rattle.aud_history.specs.Table.{transactions}

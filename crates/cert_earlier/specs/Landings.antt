@@ -1,8 +1,8 @@
 -- Where a prefix leads, in a few numbers.
 use Rattle.std.specs.Prelude.{◌≡◌, List, [], ◌∷◌, map, length}
 use Rattle.base_bits.specs.Marked.{marks_of}
-use Rattle.aud_object.specs.Kinds.{numbered}
-use Rattle.aud_object.specs.Objects.{opening_of}
+use Rattle.aud_object.specs.States.{numbered}
+use Rattle.aud_kinds.specs.Objects.{opening_of}
 use Rattle.aud_object.specs.Executions.{states_after}
 use Rattle.aud_history.specs.Table.{transactions}
 use Rattle.aud_witness.specs.declared.decision.Decision.{Decision}

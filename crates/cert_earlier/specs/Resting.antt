@@ -2,7 +2,7 @@
 use Rattle.std.specs.Prelude.{◌≡◌, ℕ, List, [], ◌∷◌, ◌++◌, map, Some}
 use Rattle.std.specs.List.{Contains}
 use Rattle.aud_event.specs.Meanings.{Declared}
-use Rattle.aud_object.specs.Objects.{opening_of}
+use Rattle.aud_kinds.specs.Objects.{opening_of}
 use Rattle.aud_object.specs.Executions.{states_after}
 use Rattle.aud_history.specs.Histories.{History}
 use Rattle.aud_witness.specs.declared.decision.Decision.{Decision}

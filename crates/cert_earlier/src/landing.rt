@@ -2,7 +2,7 @@
 
 ghost use Rattle.std.specs.Prelude.{◌≡◌, ◌∷◌, [], length, map, IfSome, IsTrue};
 ghost use Rattle.base_bits.specs.Marked.{marks_of};
-ghost use Rattle.aud_object.specs.Kinds.{numbered};
+ghost use Rattle.aud_object.specs.States.{numbered};
 ghost use Rattle.cert_earlier.specs.Landings.{IsLandingOf};
 
 use arrayvec::ArrayVec;

@@ -3,9 +3,9 @@ use Rattle.std.specs.Prelude.{◌≡◌, ℕ, ℤ, true, false, not, ◌||◌, n
 use Rattle.std.proofs.Common.{sym, ◌∙◌, ap, subst, inl, inr}
 use Rattle.base_values.proofs.Bools.{split, nat_eq-is}
 use Rattle.aud_object.specs.declared.execution.Execution.{Execution}
-use Rattle.aud_object.specs.Objects.{ObjState, opening_of}
+use Rattle.aud_kinds.specs.Objects.{ObjState, opening_of}
 use Rattle.aud_object.specs.Replayed.{after_at, executed, replayed}
-use Rattle.aud_object.proofs.Ints.{eq-is, eq-itself}
+use Rattle.base_undo.proofs.Ints.{eq-is, eq-itself}
 use Rattle.aud_object.proofs.Proper.{proper-opening}
 use Rattle.aud_history.specs.Histories.{is_in}
 use Rattle.aud_history.specs.WellFormed.{IsWellFormed}

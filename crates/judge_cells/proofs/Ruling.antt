@@ -2,7 +2,7 @@
 use Rattle.std.specs.Prelude.{◌≡◌, ℕ, ◌<◌, ℤ, true, false, List, Option, Some, None, slice_get, refl}
 use Rattle.std.proofs.Common.{sym, ◌∙◌, ap, subst, inl, inr}
 use Rattle.base_values.proofs.Bools.{is_false}
-use Rattle.aud_object.specs.Objects.{opening_of}
+use Rattle.aud_kinds.specs.Objects.{opening_of}
 use Rattle.aud_object.proofs.Proper.{proper-opening}
 use Rattle.aud_history.specs.Histories.{is_in, is_before}
 use Rattle.aud_history.specs.WellFormed.{IsWellFormed}

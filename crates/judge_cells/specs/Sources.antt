@@ -1,7 +1,7 @@
 -- Who may have left in a cell what a transaction first needs of it.
 use Rattle.std.specs.Prelude.{◌≡◌, ℕ, ℤ, false, true, List, Option, Some, slice_get}
 use Rattle.aud_event.specs.Meanings.{Declared}
-use Rattle.aud_object.specs.Objects.{opening_of}
+use Rattle.aud_kinds.specs.Objects.{opening_of}
 use Rattle.aud_history.specs.Histories.{is_in, is_before}
 use Rattle.aud_history.specs.Table.{RowOf, row_of, table_of}
 use Rattle.aud_witness.specs.declared.decision.Fate.TheVariants.{A}

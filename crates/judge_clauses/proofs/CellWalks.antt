@@ -3,10 +3,10 @@ use Rattle.std.specs.Prelude.{◌≡◌, ℕ, ℤ, true, false, ◌&&◌, ◌||�
 use Rattle.std.proofs.Common.{sym, ◌∙◌, ap, subst, inl, inr, cond}
 use Rattle.base_values.proofs.Bools.{split, unnegated, nat_eq-is}
 use Rattle.aud_object.specs.declared.execution.Execution.{Execution}
-use Rattle.aud_object.specs.Objects.{ObjState, answer_of, after_op}
+use Rattle.aud_kinds.specs.Objects.{ObjState, answer_of, after_op}
 use Rattle.aud_object.specs.Proper.{IsProper}
 use Rattle.aud_object.specs.Replayed.{after_at, answer_at, answers, same_answer, executed, replayed}
-use Rattle.aud_object.proofs.Ints.{eq-is}
+use Rattle.base_undo.proofs.Ints.{eq-is}
 use Rattle.aud_object.proofs.Proper.{proper-after}
 use Rattle.aud_object.proofs.Legality.{answer_at-get, after_at-same, after_at-other}
 use Rattle.aud_history.specs.Histories.{History}

@@ -6,11 +6,11 @@ use Rattle.aud_event.specs.declared.object.Op.{Op}
 use Rattle.aud_event.specs.declared.object.Op.TheVariants.{Read, Write, Inc, Dec, Get, Add, Remove, Contains, Enq, Deq, Plus, Put, Look, Del}
 use Rattle.aud_event.specs.declared.object.Answer.{Answer}
 use Rattle.aud_event.specs.declared.object.Answer.TheVariants.{Done, Int, Flag, Empty}
-use Rattle.aud_object.specs.Objects.{ObjState, register, counter, set_of, queue, map_of, answer_of, after_op, has_member, found}
-use Rattle.aud_object.specs.Entries.{value_at, Ascend}
+use Rattle.aud_kinds.specs.Objects.{ObjState, register, counter, set_of, queue, map_of, answer_of, after_op, has_member, found}
+use Rattle.base_undo.specs.Entries.{value_at, Ascend}
 use Rattle.aud_object.specs.Proper.{MembersAscend, IsProper}
 use Rattle.aud_object.specs.Replayed.{same_answer}
-use Rattle.aud_object.proofs.Ints.{eq-is}
+use Rattle.base_undo.proofs.Ints.{eq-is}
 use Rattle.aud_object.proofs.Proper.{has-with, has-without, value-with, value-without}
 use Rattle.search_model.specs.declared.cell.Cell.{Cell}
 use Rattle.search_model.specs.declared.cell.Cell.TheVariants.{Whole, Element, Key}

@@ -6,7 +6,7 @@ use Rattle.std.proofs.lemmas.List.Quantifiers.{position-Some}
 use Rattle.aud_event.specs.Meanings.{Declared}
 use Rattle.base_values.proofs.Bools.{or_true, split, nat_eq-is, nat_eq-refl}
 use Rattle.aud_object.specs.declared.execution.Execution.{Execution}
-use Rattle.aud_object.specs.Objects.{ObjState, opening_of}
+use Rattle.aud_kinds.specs.Objects.{ObjState, opening_of}
 use Rattle.aud_object.specs.Replayed.{after_at, answer_at, answers, executed, replayed}
 use Rattle.aud_history.specs.Histories.{History, is_in}
 use Rattle.aud_history.specs.Table.{RowOf, transactions, row_of, table_of}

@@ -11,8 +11,8 @@ use Rattle.aud_event.specs.declared.object.Answer.TheVariants.{Done, Int, Flag, 
 use Rattle.aud_event.specs.Meanings.{Declared, PlanOf}
 use Rattle.base_values.proofs.Bools.{and_true, true_and, true_or, or_right, split}
 use Rattle.aud_object.specs.declared.execution.Execution.{Execution}
-use Rattle.aud_object.specs.Objects.{queue, opening_of}
-use Rattle.aud_object.proofs.Ints.{eq-itself}
+use Rattle.aud_kinds.specs.Objects.{queue, opening_of}
+use Rattle.base_undo.proofs.Ints.{eq-itself}
 use Rattle.aud_history.specs.Histories.{History, is_in}
 use Rattle.aud_history.specs.WellFormed.{IsWellFormed}
 use Rattle.aud_history.specs.FirstFault.{IsWithinLimits}

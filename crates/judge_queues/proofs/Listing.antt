@@ -7,7 +7,7 @@ use Rattle.aud_event.specs.declared.object.Op.{Op}
 use Rattle.aud_event.specs.declared.object.Op.TheVariants.{Enq}
 use Rattle.base_values.proofs.Bools.{or_false, and_true, true_and}
 use Rattle.aud_object.specs.declared.execution.Execution.{Execution}
-use Rattle.aud_object.proofs.Ints.{eq-itself}
+use Rattle.base_undo.proofs.Ints.{eq-itself}
 use Rattle.aud_history.specs.Table.{RowOf}
 use Rattle.judge_clauses.specs.declared.clause.Atom.TheVariants.{Item}
 use Rattle.judge_clauses.specs.declared.clause.Literal.{Literal}

@@ -10,7 +10,7 @@ use Rattle.aud_event.specs.declared.object.Answer.TheVariants.{Done, Int, Flag, 
 use Rattle.aud_event.specs.Meanings.{Declared, PlanOf}
 use Rattle.base_values.proofs.Bools.{nat_eq-is}
 use Rattle.aud_object.specs.declared.execution.Execution.{Execution}
-use Rattle.aud_object.specs.Objects.{ObjState, queue, opening_of}
+use Rattle.aud_kinds.specs.Objects.{ObjState, queue, opening_of}
 use Rattle.aud_object.specs.Replayed.{executed}
 use Rattle.aud_history.specs.Histories.{History, is_in}
 use Rattle.aud_history.specs.WellFormed.{IsWellFormed}

@@ -8,9 +8,9 @@ use Rattle.aud_event.specs.declared.object.Answer.{Answer}
 use Rattle.aud_event.specs.declared.object.Answer.TheVariants.{Done, Int, Flag, Empty}
 use Rattle.base_values.proofs.Bools.{split}
 use Rattle.aud_object.specs.declared.execution.Execution.{Execution}
-use Rattle.aud_object.specs.Objects.{ObjState, queue, answer_of, after_op, front_of}
+use Rattle.aud_kinds.specs.Objects.{ObjState, queue, answer_of, after_op, front_of}
 use Rattle.aud_object.specs.Replayed.{after_at, answer_at, answers, same_answer, executed}
-use Rattle.aud_object.proofs.Ints.{eq-is}
+use Rattle.base_undo.proofs.Ints.{eq-is}
 use Rattle.aud_object.proofs.Legality.{after_at-other}
 use Rattle.judge_clauses.proofs.Walking.{off, ran-first}
 use Rattle.judge_sums.proofs.Finding.{seen-here, there-after}

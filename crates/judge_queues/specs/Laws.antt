@@ -4,7 +4,7 @@ use Rattle.aud_event.specs.declared.object.Answer.{Answer}
 use Rattle.aud_event.specs.declared.object.Answer.TheVariants.{Int}
 use Rattle.aud_event.specs.Meanings.{Declared}
 use Rattle.aud_object.specs.declared.execution.Execution.{Execution}
-use Rattle.aud_object.specs.Objects.{queue, opening_of}
+use Rattle.aud_kinds.specs.Objects.{queue, opening_of}
 use Rattle.aud_history.specs.Histories.{is_in}
 use Rattle.aud_history.specs.Table.{RowOf, row_of, table_of}
 use Rattle.aud_witness.specs.Orders.{stands_before}

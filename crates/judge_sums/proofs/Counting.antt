@@ -9,9 +9,9 @@ use Rattle.aud_event.specs.declared.object.Op.TheVariants.{Read, Write, Inc, Dec
 use Rattle.aud_event.specs.declared.object.Answer.{Answer}
 use Rattle.aud_event.specs.declared.object.Answer.TheVariants.{Done, Int, Flag, Empty}
 use Rattle.base_values.proofs.Bools.{true_and, is_false}
-use Rattle.aud_object.specs.Objects.{ObjState, counter, answer_of, after_op, greatest, least, is_within}
+use Rattle.aud_kinds.specs.Objects.{ObjState, counter, answer_of, after_op, greatest, least, is_within}
 use Rattle.aud_object.specs.Replayed.{same_answer}
-use Rattle.aud_object.proofs.Ints.{eq-is}
+use Rattle.base_undo.proofs.Ints.{eq-is}
 use Rattle.search_model.specs.declared.quantity.Quantity.TheVariants.{Count}
 use Rattle.search_model.specs.Quantities.{count_change, count_seen, change, seen, reach}
 use Rattle.judge_sums.specs.Room.{HasRoom}

@@ -7,7 +7,7 @@ use Rattle.aud_event.specs.declared.object.Answer.{Answer}
 use Rattle.aud_event.specs.Meanings.{Declared, PlanOf}
 use Rattle.base_values.proofs.Bools.{split, nat_eq-is}
 use Rattle.aud_object.specs.declared.execution.Execution.{Execution}
-use Rattle.aud_object.specs.Objects.{ObjState, answer_of, after_op, opening_of}
+use Rattle.aud_kinds.specs.Objects.{ObjState, answer_of, after_op, opening_of}
 use Rattle.aud_object.specs.Replayed.{after_at, answer_at, answers, same_answer, executed}
 use Rattle.aud_object.proofs.Legality.{answer_at-get, after_at-same, after_at-other}
 use Rattle.aud_history.specs.Histories.{History, is_in}

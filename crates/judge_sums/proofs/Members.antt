@@ -7,10 +7,10 @@ use Rattle.aud_event.specs.declared.object.Op.{Op}
 use Rattle.aud_event.specs.declared.object.Op.TheVariants.{Read, Write, Inc, Dec, Get, Add, Remove, Contains, Enq, Deq, Plus, Put, Look, Del}
 use Rattle.aud_event.specs.declared.object.Answer.{Answer}
 use Rattle.aud_event.specs.declared.object.Answer.TheVariants.{Done, Int, Flag, Empty}
-use Rattle.aud_object.specs.Objects.{ObjState, set_of, answer_of, after_op, has_member, with_member, without_member}
+use Rattle.aud_kinds.specs.Objects.{ObjState, set_of, answer_of, after_op, has_member, with_member, without_member}
 use Rattle.aud_object.specs.Proper.{MembersAscend}
 use Rattle.aud_object.specs.Replayed.{same_answer}
-use Rattle.aud_object.proofs.Ints.{eq-is}
+use Rattle.base_undo.proofs.Ints.{eq-is}
 use Rattle.aud_object.proofs.Proper.{has-with, has-without, ascend-with, ascend-without}
 use Rattle.search_model.specs.declared.quantity.Quantity.TheVariants.{Element}
 use Rattle.search_model.specs.Quantities.{is_yes, element_change, member_seen, absence_seen, element_seen, change, seen, reach}

@@ -2,7 +2,7 @@
 use Rattle.std.specs.Prelude.{◌≡◌, ℕ, true, false, ◌||◌, nat_eq, List, [], ◌∷◌, Option, Some, None, Result, Ok, Err, refl}
 use Rattle.std.proofs.Common.{sym, ◌∙◌, ap, subst, inl, inr, cond}
 use Rattle.base_values.proofs.Bools.{split, nat_eq-is}
-use Rattle.aud_object.specs.Objects.{ObjState}
+use Rattle.aud_kinds.specs.Objects.{ObjState}
 use Rattle.aud_object.specs.Replayed.{executed, replayed}
 use Rattle.aud_history.specs.Histories.{History}
 use Rattle.aud_history.specs.Table.{row_of, table_of}

@@ -1,7 +1,7 @@
 -- What sums are in each order that shows a history.
 use Rattle.std.specs.Prelude.{◌≡◌, ℕ, ℤ, true, [], Some, slice_get}
 use Rattle.aud_event.specs.Meanings.{Declared}
-use Rattle.aud_object.specs.Objects.{counter, set_of, opening_of}
+use Rattle.aud_kinds.specs.Objects.{counter, set_of, opening_of}
 use Rattle.judge_clauses.specs.Clauses.{KnownFactsOf, Always}
 use Rattle.search_model.specs.declared.quantity.Quantity.{Quantity}
 use Rattle.aud_history.specs.Histories.{is_in}

@@ -1,7 +1,7 @@
 -- How far a count is from the ends of its range.
 use Rattle.std.specs.Prelude.{◌≡◌, ℕ, ℤ, pos, ◌+ℤ◌, ◌-ℤ◌, ◌≤ℤ◌}
 use Rattle.aud_history.specs.Table.{transactions}
-use Rattle.aud_object.specs.Objects.{greatest, least}
+use Rattle.aud_kinds.specs.Objects.{greatest, least}
 use Rattle.judge_clauses.specs.Clauses.{KnownFactsOf}
 use Rattle.judge_sums.specs.declared.bounds.Bounds.{Bounds}
 use Rattle.search_model.specs.declared.quantity.Quantity.TheVariants.{Count}

@@ -6,7 +6,7 @@ use Rattle.std.specs.Result.{result_ok}
 use Rattle.std.proofs.Common.{sym, ◌∙◌, ap, subst, inl, inr, arith, get_or, set}
 use Rattle.std.proofs.lemmas.List.{append-nil, reverse-append, length-map, length-append, length-drop}
 use Rattle.base_values.proofs.Bools.{or_right, true_or, nat_eq-refl, or_nothing}
-use Rattle.aud_object.specs.Objects.{ObjState}
+use Rattle.aud_kinds.specs.Objects.{ObjState}
 use Rattle.aud_object.specs.Replayed.{replayed}
 use Rattle.aud_history.specs.WellFormed.{IsWellFormed}
 use Rattle.aud_history.specs.FirstFault.{IsWithinLimits}

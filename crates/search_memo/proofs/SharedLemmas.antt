@@ -3,7 +3,7 @@ use Rattle.std.specs.Prelude.{◌≡◌, ℕ, ◌<◌, ◌≤◌, Bool, true, Li
 use Rattle.std.proofs.Common.{sym, ◌∙◌, ap, subst, arith, get_or, set}
 use Rattle.std.proofs.lemmas.List.{length-set}
 use Rattle.base_bits.specs.Marked.{marks_of}
-use Rattle.aud_object.specs.Objects.{ObjState}
+use Rattle.aud_kinds.specs.Objects.{ObjState}
 use Rattle.aud_history.specs.Table.{transactions}
 use Rattle.aud_order.specs.Shapes.{ShapeOf, history_of}
 use Rattle.search_visited.specs.Visited.{WithPlace, with_place}

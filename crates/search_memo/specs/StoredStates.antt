@@ -1,6 +1,6 @@
 -- States under numbers, kept whole or by the blocks that lead to them.
 use Rattle.std.specs.Prelude.{◌≡◌, ℕ, List, [], ◌∷◌, ◌++◌, Option, Some, None, unwrap_or, slice_get, slice_index_or, MatchOption, reverse}
-use Rattle.aud_object.specs.Objects.{ObjState}
+use Rattle.aud_kinds.specs.Objects.{ObjState}
 use Rattle.aud_object.specs.Replayed.{replayed}
 use Rattle.aud_history.specs.Histories.{History}
 use Rattle.aud_history.specs.Table.{row_of}

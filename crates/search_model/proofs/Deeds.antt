@@ -7,7 +7,7 @@ use Rattle.aud_event.specs.declared.object.Op.{Op}
 use Rattle.aud_event.specs.declared.object.Op.TheVariants.{Enq, Deq}
 use Rattle.base_values.proofs.Bools.{and_true}
 use Rattle.aud_object.specs.declared.execution.Execution.{Execution}
-use Rattle.aud_object.proofs.Ints.{eq-is}
+use Rattle.base_undo.proofs.Ints.{eq-is}
 use Rattle.search_model.specs.Queues.{is_addition, is_take, adds, takes}
 use Rattle.search_model.specs.Blocks.{item, added, brings, is_addition_of, Asks}
 use Rattle.search_model.proofs.Lists.{get-right}

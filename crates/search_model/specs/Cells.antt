@@ -6,8 +6,8 @@ use Rattle.aud_event.specs.declared.object.Op.TheVariants as op
 use Rattle.aud_event.specs.declared.object.Answer.{Answer}
 use Rattle.aud_event.specs.declared.object.Answer.TheVariants.{Int, Flag, Empty}
 use Rattle.aud_object.specs.declared.execution.Execution.{Execution}
-use Rattle.aud_object.specs.Objects.{ObjState, register, set_of, map_of, has_member}
-use Rattle.aud_object.specs.Entries.{value_at}
+use Rattle.aud_kinds.specs.Objects.{ObjState, register, set_of, map_of, has_member}
+use Rattle.base_undo.specs.Entries.{value_at}
 use Rattle.aud_history.specs.Histories.{History}
 use Rattle.aud_history.specs.Table.{row_of}
 use Rattle.aud_witness.specs.declared.decision.Decision.{Decision}

@@ -1,6 +1,6 @@
 -- What one frame of a search does.
 use Rattle.std.specs.Prelude.{◌≡◌, ℕ, List, [], ◌∷◌, ◌++◌, map, Option, Some, None, ◌⊎◌}
-use Rattle.aud_object.specs.Objects.{ObjState}
+use Rattle.aud_kinds.specs.Objects.{ObjState}
 use Rattle.aud_witness.specs.declared.decision.Decision.{Decision}
 use Rattle.aud_order.specs.Cursors.{CursorOf, cursor_back}
 use Rattle.search_memo.specs.declared.choice.Choice.{Choice}

@@ -1,5 +1,5 @@
 use Rattle.std.proofs.Common.{refl}
-use Rattle.aud_object.specs.Kinds.{meaning}
+use Rattle.aud_object.specs.States.{meaning}
 use Rattle.aud_object.proofs.Places.{same-rests}
 use Rattle.aud_object.proofs.store.have_same_meanings.Goals as goal
 

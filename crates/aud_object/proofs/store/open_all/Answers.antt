@@ -1,6 +1,6 @@
 use Rattle.std.proofs.Common.{arith}
-use Rattle.aud_object.specs.Objects.{opening_of}
-use Rattle.aud_object.specs.Kinds.{meaning}
+use Rattle.aud_kinds.specs.Objects.{opening_of}
+use Rattle.aud_object.specs.States.{meaning}
 use Rattle.aud_object.proofs.Places.{map-more}
 use Rattle.aud_object.proofs.store.open_all.Goals as goal
 

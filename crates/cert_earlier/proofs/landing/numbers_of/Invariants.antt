@@ -1,5 +1,5 @@
 use Rattle.std.specs.Prelude.{◌≡◌, map, take}
-use Rattle.aud_object.specs.Kinds.{numbered}
+use Rattle.aud_object.specs.States.{numbered}
 use Rattle.cert_earlier.proofs.landing.numbers_of.Given as goal
 
 abbrev pub invariant-loop-object : goal.invariant-loop-object

@@ -1,8 +1,8 @@
 use Rattle.std.specs.Prelude.{map, option_map, slice_get, Some}
 use Rattle.std.proofs.Common.{◌∙◌, ap}
-use Rattle.aud_object.specs.Objects.{digest_of}
+use Rattle.aud_kinds.specs.Objects.{digest_of}
 use Rattle.aud_object.specs.Meanings.{StoreOf}
-use Rattle.aud_object.specs.Kinds.{meaning}
+use Rattle.aud_object.specs.States.{meaning}
 use Rattle.aud_object.proofs.Places.{mapped-at, mapped-past}
 use Rattle.aud_object.proofs.store.Store.digest.Goals as goal
 

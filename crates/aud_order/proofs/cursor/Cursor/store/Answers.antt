@@ -1,6 +1,6 @@
 use Rattle.std.specs.Prelude.{map}
 use Rattle.std.proofs.Common.{◌∙◌, ap}
-use Rattle.aud_object.specs.Objects.{opening_of}
+use Rattle.aud_kinds.specs.Objects.{opening_of}
 use Rattle.aud_object.specs.Executions.{states_after}
 use Rattle.aud_witness.specs.Orders.{kept}
 use Rattle.aud_order.specs.Shapes.{objects_of, history_of}

@@ -1,6 +1,6 @@
 use Rattle.std.specs.Prelude.{List, Some}
 use Rattle.std.proofs.Common.{sym, ◌∙◌, subst}
-use Rattle.aud_object.specs.Objects.{ObjState}
+use Rattle.aud_kinds.specs.Objects.{ObjState}
 use Rattle.aud_order.specs.Shapes.{history_of}
 use Rattle.search_memo.specs.StoredStates.{LeadsTo, states_of}
 use Rattle.search_memo.specs.Memos.{MemoOf, Names}

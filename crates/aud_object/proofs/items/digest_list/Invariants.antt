@@ -1,6 +1,0 @@
-use Rattle.std.proofs.Common.{◌≡◌, drop}
-use Rattle.aud_object.specs.Digests.{digest_values}
-use Rattle.aud_object.proofs.items.digest_list.Given as goal
-
-abbrev pub invariant-loop-value : goal.invariant-loop-value
-invariant-loop-value l = digest_values l.digest (drop l.value-index l.values) ≡ digest_values l.fn.start l.values

@@ -1,7 +1,0 @@
-use Rattle.std.proofs.Common.{◌∙◌}
-use Rattle.aud_object.specs.Keeps.{entries_in}
-use Rattle.aud_object.proofs.Orders.{sets_order}
-use Rattle.aud_object.proofs.set_kind.SetOfObjectSpec.order.Goals as goal
-
-pub returns : goal.returns
-returns g c = c.order.ensures ∙ sets_order (entries_in c.args.state.now) (entries_in c.args.other.now)
