@@ -7,8 +7,8 @@ use Rattle.cert_accept.specs.declared.cert.Cert.{Cert}
 use Rattle.cert_accept.specs.declared.cert.CertLine.{CertLine}
 use Rattle.cert_accept.specs.declared.cert.CertLine.TheVariants.{Kids, Silent, Same}
 use Rattle.cert_accept.specs.Acceptance.{elsewhere}
-use Rattle.aud_text.specs.declared.fault.TextFault.{TextFault}
-use Rattle.aud_text.specs.declared.fault.TextFault.TheVariants as fault
+use Rattle.aud_json.specs.declared.fault.TextFault.{TextFault}
+use Rattle.aud_json.specs.declared.fault.TextFault.TheVariants as fault
 use Rattle.aud_text.specs.Lines.{Filled}
 use Rattle.aud_cert.specs.declared.fault.CertTextFault.{CertTextFault}
 use Rattle.aud_cert.specs.LineText.{OwnCertLine, line_read}

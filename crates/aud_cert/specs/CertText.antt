@@ -2,9 +2,10 @@
 use Rattle.std.specs.Prelude.{ℕ, zero, suc, ◌+◌, ℤ, pos, negsuc, List, [], ◌∷◌, Option, Some, None, Result, Ok, Err, if◌then◌else◌, length, codes, option_and_then}
 use Rattle.serde_json.specs.Data.{Data, Members}
 use Rattle.serde_json.specs.Find.{as_object}
-use Rattle.aud_text.specs.declared.fault.TextFault.{TextFault}
-use Rattle.aud_text.specs.declared.fault.TextFault.TheVariants as fault
-use Rattle.aud_text.specs.Json.{Key, json_read, has_all, has_only, whole_at}
+use Rattle.aud_json.specs.declared.fault.TextFault.{TextFault}
+use Rattle.aud_json.specs.declared.fault.TextFault.TheVariants as fault
+use Rattle.aud_text.specs.Json.{json_read}
+use Rattle.aud_json.specs.Keys.{Key, has_all, has_only, whole_at}
 use Rattle.aud_text.specs.Lines.{Filled, lines_of, filled_left, filled_lines}
 use Rattle.aud_cert.specs.declared.fault.CertTextFault.{CertTextFault}
 use Rattle.aud_cert.specs.LineText.{OwnCertLine, line_read}

@@ -4,9 +4,10 @@ use Rattle.serde_json.specs.Data.{Data, Members}
 use Rattle.serde_json.specs.Find.{as_object}
 use Rattle.std.specs.declared.alloc.Global.{Global}
 use Rattle.aud_witness.specs.declared.decision.Decision.{Decision}
-use Rattle.aud_text.specs.declared.fault.TextFault.{TextFault}
-use Rattle.aud_text.specs.declared.fault.TextFault.TheVariants as fault
-use Rattle.aud_text.specs.Json.{Key, json_read, has_all, has_only, word_at, text_fits}
+use Rattle.aud_json.specs.declared.fault.TextFault.{TextFault}
+use Rattle.aud_json.specs.declared.fault.TextFault.TheVariants as fault
+use Rattle.aud_text.specs.Json.{json_read}
+use Rattle.aud_json.specs.Keys.{Key, has_all, has_only, word_at, text_fits}
 use Rattle.aud_text.specs.Orders.{order_read}
 use Rattle.cert_accept.specs.declared.cert.CertLine.{CertLine}
 use Rattle.cert_accept.specs.declared.cert.CertLine.TheVariants.{Kids, Silent, Same}

@@ -6,7 +6,7 @@ use Rattle.aud_event.specs.declared.fact.FactFault.TheVariants.{TxRange}
 use Rattle.aud_event.specs.declared.plan.PlanFault.TheVariants.{TooManyLogs}
 use Rattle.aud_facts.specs.declared.status.Kind.TheVariants.{TwoRecords, StampOrder}
 use Rattle.aud_history.specs.declared.rule.Rule.TheVariants.{AbortWithoutCause}
-use Rattle.aud_text.specs.declared.fault.TextFault.TheVariants as fault
+use Rattle.aud_json.specs.declared.fault.TextFault.TheVariants as fault
 use Rattle.aud_witness.specs.declared.decision.Fate.TheVariants.{C, A}
 use Rattle.aud_witness.specs.declared.fault.OrderFault.TheVariants.{RealTime}
 use Rattle.aud_know.specs.declared.verdict.Verdict.TheVariants.{Opaque, NotOpaque, Unfinished, Conflict, Waiting, Gap, IllFormed}

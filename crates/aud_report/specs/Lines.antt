@@ -6,9 +6,9 @@ use Rattle.aud_history.specs.ByState.{rule_number}
 use Rattle.aud_history.specs.declared.rule.Rule.{Rule}
 use Rattle.aud_know.specs.declared.verdict.Verdict.{Verdict}
 use Rattle.aud_know.specs.declared.verdict.Verdict.TheVariants as verdict
-use Rattle.aud_text.specs.Faults.{fault_number, inner_number}
+use Rattle.aud_json.specs.Faults.{fault_number, inner_number}
 use Rattle.aud_text.specs.Orders.{order_text}
-use Rattle.aud_text.specs.declared.fault.TextFault.{TextFault}
+use Rattle.aud_json.specs.declared.fault.TextFault.{TextFault}
 use Rattle.aud_witness.specs.OrderFaultNumbers.{order_fault_number, order_fault_transaction}
 use Rattle.aud_cert.specs.Written.{cert_text}
 use Rattle.aud_report.specs.declared.report.ReportFault.{ReportFault}

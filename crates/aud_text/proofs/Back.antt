@@ -1,6 +1,6 @@
 -- What is written of a fact is read again.
-use Rattle.std.proofs.Common.{◌+◌, ◌≡◌, ℕ, ◌<◌, ◌≤◌, ℤ, pos, negsuc, List, [], Bool, true, false, Option, Some, None, Ok, length, nat_lt, nat_le, codes, refl, ap, ◌∙◌, arith}
-use Rattle.std.specs.Prelude.{FitsSigned, IfSome}
+use Rattle.std.proofs.Common.{◌+◌, ◌≡◌, ℕ, ◌<◌, ◌≤◌, ℤ, pos, negsuc, List, Bool, true, false, Some, None, Ok, length, nat_lt, nat_le, codes, refl, ap, ◌∙◌, arith}
+use Rattle.std.specs.Prelude.{FitsSigned}
 use Rattle.std.specs.Int.{w64}
 use Rattle.std.specs.Str.{IsUtf8}
 use Rattle.std.proofs.lemmas.Int.{ints}
@@ -30,7 +30,8 @@ use Rattle.aud_event.specs.declared.fact.Event.{Event}
 use Rattle.aud_event.specs.declared.fact.Event.TheVariants as event
 use Rattle.aud_event.specs.declared.fact.Fact.{Fact}
 use Rattle.aud_event.specs.declared.fact.Fact.TheVariants.{Rec, End}
-use Rattle.aud_text.specs.FactText.{fact_read, judged, checked, answer_of, answer_fits, object_number}
+use Rattle.aud_text.specs.FactText.{fact_read}
+use Rattle.aud_json.specs.Judged.{judged, checked, answer_of, answer_fits, object_number}
 use Rattle.aud_text.specs.Written.{data_of, fact_members, record_members, object_name, whole_data, answer_data, headed, tailed, operated, invoked, with_value, AnswerFits, ArgsFit, EventFits, FactFits}
 use Rattle.aud_text.proofs.JsonText.{json_of-text}
 use Rattle.aud_text.proofs.Length.{AtMost, last_bracket, short_number, short_text, short_other, integer_le, quoted_le}

@@ -1,6 +1,5 @@
 pub mod FirstFeed
 pub mod FirstLine
-pub mod Keys
 pub mod JsonText
 pub mod Digits
 pub mod Words
@@ -9,5 +8,4 @@ pub mod Length
 pub mod Sound
 pub mod Back
 pub mod Objects
-pub mod Quick
 pub mod Spelling

@@ -2,8 +2,8 @@
 use Rattle.std.proofs.Common.{◌≡◌, ℕ, suc, List, [], ◌∷◌, ◌++◌, Result, Ok, Err, append_assoc, refl, ap, ◌∙◌, sym}
 use Rattle.aud_event.specs.Meanings.{Declared}
 use Rattle.aud_event.specs.declared.signature.Format.{Format}
-use Rattle.aud_text.specs.declared.fault.TextFault.{TextFault}
-use Rattle.aud_text.specs.declared.fault.TextFault.TheVariants as fault
+use Rattle.aud_json.specs.declared.fault.TextFault.{TextFault}
+use Rattle.aud_json.specs.declared.fault.TextFault.TheVariants as fault
 use Rattle.aud_text.specs.declared.fault.PlanTextFault.{PlanTextFault}
 use Rattle.aud_text.specs.Lines.{Filled}
 use Rattle.aud_text.specs.PlanText.{at_line, object_read, with_object, objects_read}

@@ -14,8 +14,8 @@ use Rattle.std.proofs.lemmas.Fmt.{decimal_is_IsNumeral}
 use Rattle.aud_witness.specs.declared.decision.Fate.{Fate}
 use Rattle.aud_witness.specs.declared.decision.Fate.TheVariants.{C, A}
 use Rattle.aud_witness.specs.declared.decision.Decision.{Decision}
-use Rattle.aud_text.specs.declared.fault.TextFault.{TextFault}
-use Rattle.aud_text.specs.declared.fault.TextFault.TheVariants as fault
+use Rattle.aud_json.specs.declared.fault.TextFault.{TextFault}
+use Rattle.aud_json.specs.declared.fault.TextFault.TheVariants as fault
 use Rattle.aud_text.specs.declared.word.WordRead.{WordRead}
 use Rattle.aud_text.specs.declared.word.WordRead.TheVariants.{Decided, TooGreat, Unknown}
 use Rattle.aud_text.specs.Orders.{words_of, words_read, word_read, with_word, order_read, order_text, decision_text, fate_letter}

@@ -17,7 +17,7 @@ use Rattle.aud_event.specs.declared.fact.Record.{Record}
 use Rattle.aud_event.specs.declared.fact.Fact.TheVariants.{Rec, End}
 use Rattle.aud_event.specs.declared.fact.FactFault.{FactFault}
 use Rattle.aud_event.specs.declared.fact.FactFault.TheVariants.{LogRange, AtRange, StampRange, TxRange}
-use Rattle.aud_text.specs.FactText.{object_number}
+use Rattle.aud_json.specs.Judged.{object_number}
 use Rattle.aud_text.specs.Written.{object_name}
 use Rattle.base_values.proofs.Bools.{unnegated, and_true}
 

@@ -1,6 +1,6 @@
 -- A line that is spelled as it is written is read as what it was written for.
-use Rattle.std.proofs.Common.{◌≡◌, ℕ, ℤ, pos, negsuc, ◌<◌, ◌≤◌, List, [], ◌∷◌, ◌++◌, length, Bool, true, false, ◌&&◌, Option, Some, None, Ok, nat_le, codes, decimal, unwrap_or, option_map, option_and_then, slice_get, refl, sym, ap, ◌∙◌, arith, inl, inr, append_assoc, append-nil}
-use Rattle.std.specs.Prelude.{FitsSigned, IfSome}
+use Rattle.std.proofs.Common.{◌≡◌, ℕ, ℤ, pos, negsuc, ◌<◌, ◌≤◌, List, [], ◌∷◌, ◌++◌, length, true, false, ◌&&◌, Option, Some, None, Ok, nat_le, codes, decimal, unwrap_or, option_map, option_and_then, slice_get, refl, sym, ap, ◌∙◌, arith, inl, inr, append_assoc, append-nil}
+use Rattle.std.specs.Prelude.{FitsSigned}
 use Rattle.std.specs.Int.{w64}
 use Rattle.std.specs.Fmt.{signed_decimal, digits}
 use Rattle.std.specs.List.{list_all}
@@ -41,7 +41,7 @@ use Rattle.aud_event.specs.declared.fact.Event.TheVariants as event
 use Rattle.aud_event.specs.declared.fact.Fact.{Fact}
 use Rattle.aud_event.specs.declared.fact.Fact.TheVariants.{Rec, End}
 use Rattle.aud_text.specs.FactText.{fact_read}
-use Rattle.aud_text.specs.Spelled.{place_text, log_text, use_text, tail_text, answer_text, end_text, argument_text, called_text, invoked_text, record_text, spelled_text}
+use Rattle.aud_text.specs.Spelled.{place_text, log_text, use_text, tail_text, answer_text, end_text, called_text, invoked_text, record_text, spelled_text}
 use Rattle.aud_text.specs.Written.{data_of, record_members, end_members, object_name, whole_data, answer_data, headed, tailed, operated, invoked, with_value, first_of, AnswerFits, ArgsFit, EventFits, FactFits}
 use Rattle.aud_text.proofs.Back.{written_reads}
 use Rattle.aud_text.proofs.Sound.{IsSound, sound, named_at, RecordInRange, EndInRange, record_in_range, end_in_range}

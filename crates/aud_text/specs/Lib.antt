@@ -1,5 +1,4 @@
 pub mod Limits
-pub mod Faults
 pub mod Lines
 pub mod Json
 pub mod Orders

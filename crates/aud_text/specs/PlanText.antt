@@ -1,5 +1,5 @@
 -- The text of a plan: a header line and a line for each object.
-use Rattle.std.specs.Prelude.{ℕ, zero, suc, ◌+◌, ◌-◌, ◌==◌, ℤ, pos, List, [], ◌∷◌, ◌&&◌, Bool, true, false, Option, Some, None, Result, Ok, Err, nat_lt, nat_eq, if◌then◌else◌, length, codes, unwrap_or, option_map, option_and_then}
+use Rattle.std.specs.Prelude.{ℕ, zero, suc, ◌+◌, ◌-◌, ◌==◌, ℤ, pos, List, [], ◌∷◌, ◌&&◌, Bool, true, false, Option, Some, None, Result, Ok, Err, nat_lt, nat_eq, if◌then◌else◌, length, codes, option_map, option_and_then}
 use Rattle.serde_json.specs.Data.{Data, Members}
 use Rattle.serde_json.specs.Find.{as_object}
 use Rattle.aud_event.specs.Meanings.{Declared, PlanOf}
@@ -14,12 +14,13 @@ use Rattle.aud_event.specs.Limits.{most_logs, most_objects}
 use Rattle.aud_event.specs.declared.object.ObjKind.{ObjKind}
 use Rattle.aud_event.specs.declared.plan.PlanFault.{PlanFault}
 use Rattle.aud_event.specs.declared.plan.PlanFault.TheVariants.{NoLogs, TooManyLogs, TooManyObjects, OutOfMemory}
-use Rattle.aud_text.specs.declared.fault.TextFault.{TextFault}
-use Rattle.aud_text.specs.declared.fault.TextFault.TheVariants as fault
+use Rattle.aud_json.specs.declared.fault.TextFault.{TextFault}
+use Rattle.aud_json.specs.declared.fault.TextFault.TheVariants as fault
 use Rattle.aud_text.specs.declared.fault.PlanTextFault.{PlanTextFault}
 use Rattle.aud_text.specs.declared.header.Header.{Header}
 use Rattle.aud_text.specs.declared.object.ObjectLine.{ObjectLine}
-use Rattle.aud_text.specs.Json.{Key, json_read, has_all, has_only, small_at, whole_at, word_at, text_fits, whole_fits}
+use Rattle.aud_text.specs.Json.{json_read}
+use Rattle.aud_json.specs.Keys.{Key, has_all, has_only, small_at, whole_at, word_at, text_fits, whole_fits}
 use Rattle.aud_text.specs.Lines.{Filled, lines_of, filled_left, filled_lines}
 use Rattle.aud_text.specs.Limits.{longest_line}
 

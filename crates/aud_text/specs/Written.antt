@@ -1,5 +1,5 @@
 -- The line that is written for a fact.
-use Rattle.std.specs.Prelude.{ℕ, ℤ, List, [], Option, Some, None, IfSome, codes, unwrap_or, option_map, slice_get, FitsSigned, ◌≡◌}
+use Rattle.std.specs.Prelude.{ℕ, ℤ, List, [], Option, Some, None, codes, unwrap_or, option_map, slice_get, FitsSigned, ◌≡◌}
 use Rattle.std.specs.Int.{w64}
 use Rattle.serde_json.specs.Data.{Data, boolean, number, unsigned, string, object, Members, no_members, member}
 use Rattle.serde_json.specs.Find.{of_integer}

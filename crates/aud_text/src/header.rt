@@ -6,10 +6,10 @@ ghost use Rattle.aud_text.specs.PlanText.{format_of, header_of, header_keys, hea
 ghost use Rattle.serde_json.specs.Find.{as_object};
 
 use crate::fact::LINE_MAX;
-use crate::fault::TextFault;
-use crate::value::{has_only_allowed, has_required, json_in, small_of};
+use crate::value::json_in;
 use aud_event::limits::{LOGS_MAX, OBJECTS_MAX};
 use aud_event::{Format, PlanFault};
+use aud_json::{TextFault, has_only_allowed, has_required, small_of};
 use serde_json::Value;
 use std::alloc::Global;
 

@@ -20,19 +20,21 @@ mod line;
 mod object;
 mod order;
 mod plan;
-mod shape;
 mod spelled;
 mod value;
 mod word;
 mod write;
 
-pub use fact::{LINE_MAX, judge, read_fact};
-pub use fault::{PlanTextFault, TextFault};
+pub use aud_json::{
+    TextFault, has_only_allowed, has_required, judge, text_if_there, whole_of, word_of,
+};
+pub use fact::{LINE_MAX, read_fact};
+pub use fault::PlanTextFault;
 pub use line::{FilledLine, LineAt, count_lines, first_line, next_filled};
 pub use order::{
     ORDER_MAX, orders_read_back, orders_read_exactly, push_order, read_order, write_order,
 };
 pub use plan::read_plan;
 pub use spelled::after;
-pub use value::{has_only_allowed, has_required, json_in, text_if_there, whole_of, word_of};
+pub use value::json_in;
 pub use write::{facts_read_back, write_fact};

@@ -5,11 +5,11 @@ ghost use Rattle.serde_json.specs.View.{view};
 ghost use Rattle.aud_text.specs.PlanText.{says_opening, kind_at, object_required, object_allowed, object_types_fit, opening_at, object_of, object_judged, object_read, declared};
 
 use crate::fact::LINE_MAX;
-use crate::fault::TextFault;
-use crate::value::{
-    has_only_allowed, has_required, json_in, text_if_there, whole_if_there, whole_of, word_of,
-};
+use crate::value::json_in;
 use aud_event::{Format, ObjDecl, ObjKind, Opens};
+use aud_json::{
+    TextFault, has_only_allowed, has_required, text_if_there, whole_if_there, whole_of, word_of,
+};
 use serde_json::Value;
 use std::alloc::Global;
 

@@ -5,9 +5,9 @@ ghost use mathlib.Core.List.{IsPrefix};
 ghost use Rattle.aud_witness.specs.declared.decision.Decision.{Decision as DecisionOf};
 ghost use Rattle.aud_text.specs.Orders.{words_of, words_left, words_read, order_read, order_text, decision_text, fate_letter, ReadsBackAs};
 
-use crate::fault::TextFault;
 use crate::word::{WordRead, read_word};
 use aud_event::OutOfMemory;
+use aud_json::TextFault;
 use aud_witness::{Decision, Fate, Prefix};
 use itoa::Buffer;
 use std::alloc::Allocator;

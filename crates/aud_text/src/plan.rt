@@ -4,11 +4,12 @@ ghost use Rattle.std.specs.Prelude.{◌≡◌, ◌+◌, ◌≤◌, ◌⊎◌, Ok
 ghost use Rattle.aud_text.specs.Lines.{lines_of};
 ghost use Rattle.aud_text.specs.PlanText.{plan_read, objects_left, at_line, reported_as};
 
-use crate::fault::{PlanTextFault, TextFault};
+use crate::fault::PlanTextFault;
 use crate::header::{Header, fault_of_header, read_header};
 use crate::line::{count_lines, next_filled};
 use crate::object::read_object;
 use aud_event::{ObjDecl, Plan, PlanFault};
+use aud_json::TextFault;
 use std::alloc::Global;
 
 /// The fault of a text that ends too early: it stands at the line after the last.

@@ -8,7 +8,8 @@ ghost use Rattle.serde_json.specs.Written.{compact_text};
 ghost use Rattle.aud_event.specs.declared.fact.Fact.{Fact as FactOf};
 ghost use Rattle.aud_event.specs.Meanings.{PlanOf};
 ghost use Rattle.aud_event.specs.Facts.{first_fact_fault};
-ghost use Rattle.aud_text.specs.FactText.{fact_read, judged};
+ghost use Rattle.aud_text.specs.FactText.{fact_read};
+ghost use Rattle.aud_json.specs.Judged.{judged};
 ghost use Rattle.aud_text.specs.Written.{data_of, answer_data, object_name, small_data, headed, tailed, operated, first_of, with_value, record_members, end_members, AnswerFits, ArgsFit, EventFits, FactFits, IsFactOf};
 ghost use Rattle.aud_text.specs.Limits.{longest_line};
 

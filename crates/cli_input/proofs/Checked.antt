@@ -6,9 +6,11 @@ use Rattle.aud_event.specs.Meanings.{PlanOf}
 use Rattle.aud_event.specs.Facts.{first_fact_fault}
 use Rattle.aud_event.specs.declared.fact.Fact.{Fact}
 use Rattle.aud_event.specs.declared.fact.FactFault.{FactFault}
-use Rattle.aud_text.specs.declared.fault.TextFault.{TextFault}
-use Rattle.aud_text.specs.Json.{json_read, has_all, has_only}
-use Rattle.aud_text.specs.FactText.{fact_read, judged_json, judged_members, fact_or_word, fact_of, checked, shape_of, required, allowed, types_fit}
+use Rattle.aud_json.specs.declared.fault.TextFault.{TextFault}
+use Rattle.aud_text.specs.Json.{json_read}
+use Rattle.aud_json.specs.Keys.{has_all, has_only}
+use Rattle.aud_text.specs.FactText.{fact_read, judged_json}
+use Rattle.aud_json.specs.Judged.{judged_members, fact_or_word, fact_of, checked, shape_of, required, allowed, types_fit}
 use Rattle.cli_input.specs.Inputs.{reported_at, fact_at}
 use Rattle.aud_text.specs.Limits.{longest_line}
 

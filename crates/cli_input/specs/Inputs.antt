@@ -5,7 +5,7 @@ use Rattle.aud_event.specs.declared.fact.Fact.{Fact}
 use Rattle.aud_text.specs.Lines.{Filled, filled_lines}
 use Rattle.aud_text.specs.FactText.{fact_read}
 use Rattle.aud_text.specs.PlanText.{plan_read}
-use Rattle.aud_text.specs.declared.fault.TextFault.{TextFault}
+use Rattle.aud_json.specs.declared.fault.TextFault.{TextFault}
 use Rattle.aud_text.specs.declared.fault.PlanTextFault.{PlanTextFault}
 use Rattle.cli_input.specs.declared.input.InputFault.{InputFault}
 use Rattle.cli_input.specs.declared.input.InputFault.TheVariants.{Plan, Record}

@@ -15,9 +15,11 @@ use Rattle.aud_event.specs.declared.signature.Takes.TheVariants as takes
 use Rattle.aud_event.specs.declared.object.OpName.{OpName}
 use Rattle.aud_event.specs.declared.fact.Fact.{Fact}
 use Rattle.base_values.proofs.Bools.{and_true}
-use Rattle.aud_text.specs.declared.fault.TextFault.{TextFault}
-use Rattle.aud_text.specs.Json.{Key, json_read, has, has_all, has_only, is_one_of, word_at}
-use Rattle.aud_text.specs.FactText.{fact_read, judged_json, judged_members, judged_as, shape_of, shape_of_ev, shape_of_event, argument_keys, operation_keys, all_keys, required, allowed}
+use Rattle.aud_json.specs.declared.fault.TextFault.{TextFault}
+use Rattle.aud_text.specs.Json.{json_read}
+use Rattle.aud_json.specs.Keys.{Key, has, has_all, has_only, is_one_of, word_at}
+use Rattle.aud_text.specs.FactText.{fact_read, judged_json}
+use Rattle.aud_json.specs.Judged.{judged_members, judged_as, shape_of, shape_of_ev, shape_of_event, argument_keys, operation_keys, all_keys, required, allowed}
 use Rattle.cli_lines.specs.Evidences.{has_key, begins}
 use Rattle.cli_lines.specs.declared.evidence.Evidence.TheVariants.{Certificate}
 use Rattle.aud_text.specs.Limits.{longest_line}

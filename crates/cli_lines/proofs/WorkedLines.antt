@@ -2,7 +2,7 @@
 use Rattle.std.proofs.Common.{[], refl}
 use Rattle.std.specs.Prelude.{codes}
 use Rattle.aud_text.specs.Orders.{order_read}
-use Rattle.aud_text.specs.declared.fault.TextFault.TheVariants as fault
+use Rattle.aud_json.specs.declared.fault.TextFault.TheVariants as fault
 use Rattle.aud_report.specs.declared.said.Said.TheVariants.{OrderTextRefused, PlanRefused}
 use Rattle.cli_lines.specs.Line.{OrderSays}
 

@@ -3,8 +3,9 @@ use Rattle.std.specs.Prelude.{◌≡◌, ℕ, List, [], ◌∷◌, ◌++◌, ◌
 use Rattle.std.specs.List.{position_from}
 use Rattle.serde_json.specs.Data.{Data}
 use Rattle.serde_json.specs.Find.{as_object}
-use Rattle.aud_text.specs.declared.fault.TextFault.{TextFault}
-use Rattle.aud_text.specs.Json.{Key, json_read, has}
+use Rattle.aud_json.specs.declared.fault.TextFault.{TextFault}
+use Rattle.aud_text.specs.Json.{json_read}
+use Rattle.aud_json.specs.Keys.{Key, has}
 use Rattle.cli_lines.specs.declared.evidence.Evidence.{Evidence}
 use Rattle.cli_lines.specs.declared.evidence.Evidence.TheVariants.{Certificate, Refutation}
 use Rattle.aud_text.specs.Lines.{lines_of}

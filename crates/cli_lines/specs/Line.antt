@@ -14,8 +14,8 @@ use Rattle.aud_know.specs.declared.verdict.Verdict.TheVariants as verdict
 use Rattle.search_prefix.specs.Searches.{SpentBy}
 use Rattle.aud_text.specs.Orders.{order_read}
 use Rattle.aud_text.specs.Lines.{lines_of}
-use Rattle.aud_text.specs.declared.fault.TextFault.{TextFault}
-use Rattle.aud_text.specs.declared.fault.TextFault.TheVariants as text_fault
+use Rattle.aud_json.specs.declared.fault.TextFault.{TextFault}
+use Rattle.aud_json.specs.declared.fault.TextFault.TheVariants as text_fault
 use Rattle.cert_accept.specs.Acceptance.{IsAccepted, elsewhere}
 use Rattle.aud_cert.specs.LineText.{OwnCertLine as CertLineOf}
 use Rattle.aud_cert.specs.CertText.{cert_read}

@@ -1,7 +1,7 @@
 use Rattle.std.specs.Prelude.{◌≡◌, ◌+◌, Ok, IfOk}
 use Rattle.std.proofs.Common.{sym, subst, inl, inr, arith}
 use Rattle.aud_cert.specs.CertText.{cert_read}
-use Rattle.aud_text.specs.declared.fault.TextFault.TheVariants as fault
+use Rattle.aud_json.specs.declared.fault.TextFault.TheVariants as fault
 use Rattle.aud_report.specs.declared.said.Said.TheVariants as said
 use Rattle.cli_lines.specs.Line.{CertifiedSays}
 use Rattle.cli_lines.proofs.Bounds.{fault-line}

@@ -1,5 +1,5 @@
 -- A fact that is built: its keys stand, and the types fit where no other key stands.
-use Rattle.std.proofs.Common.{◌≡◌, ℕ, ℤ, List, [], ◌∷◌, Bool, true, false, cond, Option, Some, None, Ordering, Less, Equal, Greater, is_eq, codes, is_some, option_map, option_and_then, Result, Err, bytes_eq, true≢false, refl, ap, subst, ◌∙◌, sym}
+use Rattle.std.proofs.Common.{◌≡◌, ℕ, List, [], ◌∷◌, Bool, true, false, cond, Option, Some, None, Ordering, Less, Equal, Greater, is_eq, codes, is_some, option_map, option_and_then, Result, Err, bytes_eq, true≢false, refl, ap, subst, ◌∙◌, sym}
 use Rattle.std.specs.Ordering.{nat_cmp, match_ordering}
 use Rattle.std.specs.Cmp.Lexicographic.{slice_cmp}
 use Rattle.std.proofs.lemmas.Map.Text.{is_eq-slice_cmp}
@@ -9,7 +9,7 @@ use Rattle.serde_json.specs.Find.{get, get_member, as_object, as_str, as_i64}
 use Rattle.aud_event.specs.Meanings.{PlanOf}
 use Rattle.aud_event.specs.Facts.{first_fact_fault}
 use Rattle.aud_event.specs.Words.{op_of_word_in}
-use Rattle.aud_event.specs.Objects.{signature_of, op_with}
+use Rattle.aud_event.specs.Objects.{signature_of}
 use Rattle.aud_event.specs.declared.signature.Args.TheVariants as args
 use Rattle.aud_event.specs.declared.signature.Format.{Format}
 use Rattle.aud_event.specs.declared.signature.Takes.{Takes}
@@ -18,12 +18,12 @@ use Rattle.aud_event.specs.declared.object.OpName.{OpName}
 use Rattle.aud_event.specs.declared.object.Answer.TheVariants.{Int}
 use Rattle.aud_event.specs.declared.fact.Event.{Event}
 use Rattle.aud_event.specs.declared.fact.Fact.{Fact}
-use Rattle.aud_text.specs.declared.fault.TextFault.{TextFault}
-use Rattle.aud_text.specs.declared.fault.TextFault.TheVariants.{UnknownWord, TypeOrRange, KeyUnknown, KeyMissing}
-use Rattle.aud_text.specs.declared.shape.LineShape.{LineShape}
-use Rattle.aud_text.specs.declared.shape.LineShape.TheVariants.{EndMark, Invoke, Respond, TryCommit, TryAbort, Commit, Abort, Strange}
-use Rattle.aud_text.specs.Json.{Key, has, has_all, has_only, is_one_of, fits_at, small, whole, small_at, whole_at, word_at}
-use Rattle.aud_text.specs.FactText.{shape_of, shape_of_ev, argument_keys, base_keys, operation_keys, required, allowed, types_fit, answer_of, answer_fits, answer_at, object_number, object_at, op_at, args_at, event_of, record_of, fact_of, checked, fact_or_word, judged_as, judged}
+use Rattle.aud_json.specs.declared.fault.TextFault.{TextFault}
+use Rattle.aud_json.specs.declared.fault.TextFault.TheVariants.{UnknownWord, TypeOrRange, KeyUnknown, KeyMissing}
+use Rattle.aud_json.specs.declared.shape.LineShape.{LineShape}
+use Rattle.aud_json.specs.declared.shape.LineShape.TheVariants.{EndMark, Invoke, Respond, TryCommit, TryAbort, Commit, Abort, Strange}
+use Rattle.aud_json.specs.Keys.{Key, has, has_all, has_only, is_one_of, fits_at, small, whole, small_at, whole_at, word_at}
+use Rattle.aud_json.specs.Judged.{shape_of, shape_of_ev, argument_keys, base_keys, operation_keys, required, allowed, types_fit, answer_of, answer_fits, answer_at, object_number, object_at, op_at, args_at, event_of, record_of, fact_of, checked, fact_or_word, judged_as, judged}
 use Rattle.base_values.proofs.Bools.{and_true}
 
 -- ---- a key that stands

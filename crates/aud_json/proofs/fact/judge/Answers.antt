@@ -1,10 +1,10 @@
 use Rattle.std.proofs.Common.{◌≡◌, true, false, Err, Some, option_map, ap, sym, ◌∙◌}
 use Rattle.serde_json.specs.Find.{as_object}
 use Rattle.serde_json.specs.View.{view, members_view}
-use Rattle.aud_text.specs.Json.{has_only}
-use Rattle.aud_text.specs.FactText.{checked}
-use Rattle.aud_text.proofs.Quick.{judged_built, judged_unbuilt}
-use Rattle.aud_text.proofs.fact.judge.Goals as goal
+use Rattle.aud_json.specs.Keys.{has_only}
+use Rattle.aud_json.specs.Judged.{checked}
+use Rattle.aud_json.proofs.Quick.{judged_built, judged_unbuilt}
+use Rattle.aud_json.proofs.fact.judge.Goals as goal
 
 pub returns-in-None : goal.returns-in-None
 returns-in-None g c =

@@ -2,7 +2,7 @@
 
 ghost use Rattle.std.specs.Prelude.{◌≡◌, map};
 ghost use Rattle.serde_json.specs.View.{view};
-ghost use Rattle.aud_text.specs.FactText.{shape_of, shape_of_event, required, allowed, op_at, all_keys};
+ghost use Rattle.aud_json.specs.Judged.{shape_of, shape_of_event, required, allowed, op_at, all_keys};
 
 use crate::value::word_of;
 use aud_event::{Format, OpName, Takes};

@@ -2,8 +2,8 @@
 use Rattle.std.specs.Prelude.{ℕ, Option, Some, None}
 use Rattle.aud_event.specs.Facts.{fact_fault_number}
 use Rattle.aud_event.specs.Plans.{plan_fault_number}
-use Rattle.aud_text.specs.declared.fault.TextFault.{TextFault}
-use Rattle.aud_text.specs.declared.fault.TextFault.TheVariants as fault
+use Rattle.aud_json.specs.declared.fault.TextFault.{TextFault}
+use Rattle.aud_json.specs.declared.fault.TextFault.TheVariants as fault
 
 -- the number of a text's fault
 abbrev pub fault_number : TextFault → ℕ

@@ -4,7 +4,7 @@ use Rattle.std.specs.List.{list_all, list_any}
 use Rattle.std.specs.Map.{keys_of}
 use Rattle.serde_json.specs.View.{members_view}
 use Rattle.serde_json.proofs.Views.{Entry}
-use Rattle.aud_text.specs.Json.{has_only}
+use Rattle.aud_json.specs.Keys.{has_only}
 
 pub all_of_map : (p : List ℕ → Bool) (ks : List (Bor (List ℕ))) → list_all (λ k. p k.now) ks ≡ list_all p (map (λ k. k.now) ks)
 all_of_map p [] = refl
