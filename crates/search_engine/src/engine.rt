@@ -1,5 +1,6 @@
 //! The engine.
 
+use crate::counting::find_order;
 use crate::encoding::Role;
 use crate::literals::{FALSE, NONE, at, fill, neg, push, set, short};
 use crate::orders::{block, decisions_of, first_bad, order_of};
@@ -201,6 +202,9 @@ struct Schedule {
     luby: Luby,
     unit: u64,
     restart: u64,
+    /// How many beams were tried, and the work that they did.
+    beams: usize,
+    beam_work: u64,
 }
 
 /// The restarts for so many rows, from the first one on.
@@ -216,6 +220,8 @@ fn schedule_for(rows: usize) -> Schedule {
         luby: Luby { index: 1, share: 1 },
         unit: (rows as u64 / 8).max(100),
         restart: 0,
+        beams: 0,
+        beam_work: 0,
     }
 }
 
@@ -243,6 +249,34 @@ fn begin_restart(
     backjump(solver, 0);
     assume_near(solver, &ranks, found.reach)?;
     Ok((restart.saturating_mul(100).saturating_add(300), Some(place)))
+}
+
+/// Searches for an order by the next beam, if the rows only count, once the other search did as much as all beams before.
+fn try_beam(
+    alloc: Global,
+    shape: &Shape,
+    solver: &mut Solver,
+    schedule: &mut Schedule,
+    effort: Effort,
+) -> Result<Option<Solved>, OutOfMemory> {
+    let done = solver.known.work;
+    let is_due = schedule.restart >= 6 && schedule.beam_work.saturating_mul(2) <= done;
+    if !solver.problem.counting.is_all || !is_due {
+        return Ok(None);
+    }
+    let number = schedule.beams;
+    schedule.beams = number.saturating_add(1);
+    let most = effort.work.saturating_sub(done);
+    let (order, work) = find_order(alloc, &solver.problem, number, most)?;
+    schedule.beam_work = schedule.beam_work.saturating_add(work);
+    solver.known.work = done.saturating_add(work);
+    let Some(decisions) = order else {
+        return Ok(None);
+    };
+    if first_bad(alloc, shape, &decisions)?.is_some() {
+        return Ok(None);
+    }
+    Ok(Some(Solved::Order(decisions)))
 }
 
 /// Searches within the effort, by at most so many conflicts more.
@@ -276,6 +310,10 @@ fn search_by_restarts(
     let rows = solver.problem.spans.len();
     let mut schedule = schedule_for(rows);
     for _ in 0..u64::MAX {
+        let found = try_beam(alloc, shape, solver, &mut schedule, effort)?;
+        if found.is_some() {
+            return Ok(found);
+        }
         let (budget, near) = begin_restart(alloc, &mut schedule, solver)?;
         match search_on(solver, effort, budget)? {
             Found::NoOrder => return Ok(None),

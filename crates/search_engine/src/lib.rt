@@ -8,6 +8,7 @@ mod bounds;
 mod cell_index;
 mod cells;
 mod closure;
+mod counting;
 mod encoding;
 mod engine;
 mod explanation;

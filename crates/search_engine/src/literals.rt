@@ -1,14 +1,11 @@
-//! Literals as numbers, and items of lists by their places, where a place may be none.
+//! Literals as numbers.
 
-use aud_event::OutOfMemory;
+pub(crate) use search_lists::{NONE, at, extend_by, fill, push, range, set, short};
 
 /// The literal that always holds, and the one that never does.
 pub(crate) const TRUE: u32 = 0;
 
 pub(crate) const FALSE: u32 = 1;
-
-/// No place of a list.
-pub(crate) const NONE: u32 = 4_294_967_295;
 
 /// The literal that holds where this one does not.
 pub(crate) fn neg(literal: u32) -> u32 {
@@ -18,60 +15,4 @@ pub(crate) fn neg(literal: u32) -> u32 {
 /// The variable of the literal.
 pub(crate) fn var(literal: u32) -> usize {
     (literal >> 1) as usize
-}
-
-/// The item at the place, or the other, where there is none.
-pub(crate) fn at<T: Copy>(items: &[T], place: usize, other: T) -> T {
-    match items.get(place) {
-        Some(item) => *item,
-        None => other,
-    }
-}
-
-/// Puts the item at the place, if there is one.
-pub(crate) fn set<T: Copy>(items: &mut [T], place: usize, item: T) {
-    if place < items.len() {
-        items[place] = item;
-    }
-}
-
-/// The items from one place up to another, or none.
-pub(crate) fn range<T>(items: &[T], from: usize, to: usize) -> &[T] {
-    match items.get(from..to) {
-        Some(found) => found,
-        None => &[],
-    }
-}
-
-/// The number in 32 bits, or the greatest of them.
-pub(crate) fn short(number: usize) -> u32 {
-    if number < 4_294_967_295 {
-        number as u32
-    } else {
-        NONE
-    }
-}
-
-/// Puts the item at the end. One function meets the refusal for all lists, so the others are proved faster.
-pub(crate) fn push<T: Drop>(items: &mut Vec<T>, item: T) -> Result<(), OutOfMemory> {
-    items.push(item)?;
-    Ok(())
-}
-
-/// Puts the items at the end.
-pub(crate) fn extend_by<T: Copy>(items: &mut Vec<T>, more: &[T]) -> Result<(), OutOfMemory> {
-    items.extend_from_slice(more)?;
-    Ok(())
-}
-
-/// Makes the list so long, with the item at the places that are new.
-pub(crate) fn fill<T: Copy + Drop>(
-    items: &mut Vec<T>,
-    count: usize,
-    item: T,
-) -> Result<(), OutOfMemory> {
-    for _ in items.len()..count {
-        push(items, item)?;
-    }
-    Ok(())
 }

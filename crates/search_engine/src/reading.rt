@@ -11,6 +11,7 @@ use crate::sums::{Concurrent, add_all_terms, end_sum, find_concurrent, sum_ended
 use aud_event::{Answer, ObjDecl, ObjKind, Op, OutOfMemory};
 use aud_history::TxRow;
 use aud_order::Shape;
+use search_counts::Touch as CountTouch;
 use search_model::{
     Cell, Need, added_item, asks, cell_of, count_change, count_seen, meets, puts, taken_item,
 };
@@ -284,6 +285,22 @@ fn read_tables(
     sum_ended(&mut tables.ended, &concurrent.ended, spans, rows, gains)
 }
 
+/// Notes what the rows do with the cell.
+fn note_counts(problem: &mut Problem, counts: &[Count], opening: i64) -> Result<(), OutOfMemory> {
+    let cell = problem.counting.openings.len();
+    push(&mut problem.counting.openings, opening)?;
+    for count in counts {
+        let touch = CountTouch {
+            row: count.row,
+            cell,
+            need: count.need,
+            gain: count.gain,
+        };
+        push(&mut problem.counting.touches, touch)?;
+    }
+    Ok(())
+}
+
 /// Adds what is asked of a counter, or of an element of a set.
 fn add_counts(
     alloc: Global,
@@ -298,6 +315,7 @@ fn add_counts(
         gains: Vec::new(alloc),
         ended: Vec::new(alloc),
     };
+    note_counts(problem, counts, opening)?;
     read_tables(&mut tables, concurrent, &problem.spans, counts)?;
     add_all_sums(problem, concurrent, counts, named, opening, &tables)
 }
@@ -348,6 +366,7 @@ fn add_queue_executions(
     executions: &[Execution],
     object: u16,
 ) -> Result<(), OutOfMemory> {
+    problem.counting.is_all = false;
     let mut rows = Vec::new(alloc);
     let mut ops = Vec::new(alloc);
     read_queue_executions(&mut ops, &mut rows, executions)?;
@@ -382,6 +401,7 @@ fn add_values(
     named: (u16, i64),
     declared: (ObjKind, i64),
 ) -> Result<(), OutOfMemory> {
+    problem.counting.is_all = false;
     let opening = match declared.0 {
         ObjKind::Register => Some(declared.1),
         _ => None,
@@ -499,6 +519,7 @@ fn add_history(
     sort_feeds(&mut problem.cells)?;
     mark_cells(&mut problem.cells, rows.len())?;
     sort_occurrences(&mut problem.sums, problem.variables.roles.len())?;
+    problem.counting.touches.sort_unstable();
     Ok(refused)
 }
 
