@@ -7,14 +7,21 @@ use aud_event::{
 use std::alloc::Global;
 use std::sync::Arc;
 
+/// Puts the object into the list. A refused growth is met here, which makes the proof of `counter` short.
+fn put(objects: &mut Vec<ObjDecl>, object: ObjDecl) -> Result<(), OutOfMemory> {
+    objects.push(object)?;
+    Ok(())
+}
+
 /// A counter.
 fn counter(alloc: Global) -> Result<Vec<ObjDecl>, OutOfMemory> {
     let mut objects = Vec::new(alloc);
-    objects.push(ObjDecl {
+    let object = ObjDecl {
         name: String::from_str(alloc, "c")?,
         kind: ObjKind::Counter,
         opening: 0,
-    })?;
+    };
+    put(&mut objects, object)?;
     Ok(objects)
 }
 

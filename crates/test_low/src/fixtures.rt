@@ -1,7 +1,6 @@
-//! What the tests of several crates use: facts, and what was found out with enough memory.
+//! What the tests of several crates use: facts.
 
-use aud_event::{EndMark, Event, Fact, OutOfMemory, Record};
-use std::process::Abort;
+use aud_event::{EndMark, Event, Fact, Record};
 
 pub fn record(log: u32, at: u32, stamp: u32, tx: u32, event: Event) -> Fact {
     Fact::Rec(Record {
@@ -15,9 +14,4 @@ pub fn record(log: u32, at: u32, stamp: u32, tx: u32, event: Event) -> Fact {
 
 pub fn end(log: u32, count: u32) -> Fact {
     Fact::End(EndMark { log, count })
-}
-
-/// Asserts what was found out, for which there was memory.
-pub fn holds(rt: &impl Abort, found: Result<bool, OutOfMemory>) {
-    assert_eq!(rt; found, Ok(true));
 }

@@ -15,8 +15,6 @@ mod search;
 #[cfg(test)]
 mod splits;
 #[cfg(test)]
-mod sums_and_queues;
-#[cfg(test)]
 mod text;
 #[cfg(test)]
 mod worlds;

@@ -2,46 +2,48 @@
 
 ghost use Rattle.std.specs.Prelude.{◌≡◌};
 
-use crate::fixtures::{Input, order, shape_of};
+use crate::fixtures::shape_of;
 use aud_order::Shape;
 use aud_search::{Outcome, Scene, Session, Shared, explore};
+use aud_text::read_order;
 use std::alloc::Global;
 use std::marker::Brand;
-use test_worked::Unread;
+use test_worked::{NINE_COUNTERS, PENDING_COMMIT_IS_UNSEEN, TORN_READ_THEN_ABORT, Unread};
 
-/// What a search with a budget reported, the order aside.
-#[derive(Clone, Copy, PartialEq, Eq)]
-enum Told {
-    Refuted,
-    Found,
-    Spent,
-}
+/// What a search with a budget reports, the order aside: whether there is one, if the budget sufficed.
+type Told = Option<bool>;
+
+const REFUTED: Told = Some(false);
+
+const FOUND: Told = Some(true);
+
+const SPENT: Told = None;
 
 fn without_order(outcome: Outcome) -> Told {
     match outcome {
-        Outcome::Refuted => Told::Refuted,
-        Outcome::Witness(_) => Told::Found,
-        Outcome::Spent => Told::Spent,
+        Outcome::Refuted => REFUTED,
+        Outcome::Witness(_) => FOUND,
+        Outcome::Spent => SPENT,
     }
 }
 
-/// An input, a prefix, a budget, and what is reported of the orders that begin with the prefix.
-type Row = (Input, &'static str, u64, Told);
+/// A worked history, a prefix, a budget, and what is reported of the orders that begin with the prefix.
+type Row = (&'static str, &'static str, u64, Told);
 
-const BUDGETS: [Row; 8] = [
-    (Input::Torn, "none", 0, Told::Spent),
-    (Input::Torn, "none", 1, Told::Spent),
-    (Input::Torn, "none", 2, Told::Refuted),
-    (Input::Torn, "1c", 0, Told::Spent),
-    (Input::Torn, "1c", 1, Told::Refuted),
-    (Input::Torn, "2c", 0, Told::Refuted),
-    (Input::Torn, "1a", 0, Told::Refuted),
-    (Input::Pending, "2c 1c", 0, Told::Found),
+static BUDGETS: [Row; 8] = [
+    (TORN_READ_THEN_ABORT, "none", 0, SPENT),
+    (TORN_READ_THEN_ABORT, "none", 1, SPENT),
+    (TORN_READ_THEN_ABORT, "none", 2, REFUTED),
+    (TORN_READ_THEN_ABORT, "1c", 0, SPENT),
+    (TORN_READ_THEN_ABORT, "1c", 1, REFUTED),
+    (TORN_READ_THEN_ABORT, "2c", 0, REFUTED),
+    (TORN_READ_THEN_ABORT, "1a", 0, REFUTED),
+    (PENDING_COMMIT_IS_UNSEEN, "2c 1c", 0, FOUND),
 ];
 
 fn is_told(alloc: Global, row: &Row) -> Result<bool, Unread> {
     let shape = shape_of(alloc, row.0)?;
-    let prefix = order(alloc, row.1)?;
+    let prefix = read_order(alloc, row.1.as_bytes())?;
     Ok(without_order(explore(alloc, &shape, &prefix, row.2)?) == row.3)
 }
 
@@ -59,7 +61,7 @@ fn explored<'a, J: Scene>(
     prefix: &str,
     budget: u64,
 ) -> Result<Told, Unread> {
-    let prefix = order(alloc, prefix)?;
+    let prefix = read_order(alloc, prefix.as_bytes())?;
     Ok(without_order(session.explore(&prefix, budget)?))
 }
 
@@ -103,14 +105,17 @@ fn remembers<J: Scene>(
     Ok(is_first && tells(alloc, shape, &shared, &[("none", 1)], wanted)?)
 }
 
+/// The bytes of nine counters. A static, of which no proof has to know them.
+static NINE: &str = NINE_COUNTERS;
+
 /// Whether searches of nine counters remember as `remembers` asks.
 fn counters_remember(alloc: Global, budget: u64, wanted: Told) -> Result<bool, Unread> {
-    let shape = shape_of(alloc, Input::Nine)?;
+    let shape = shape_of(alloc, NINE)?;
     remembers::<Brand>(alloc, &shape, budget, wanted)
 }
 
 #[test]
 fn what_was_refuted_is_not_expanded_again(rt: HostRuntime) {
-    assert!(rt; counters_remember(rt.alloc(), 256, Told::Refuted) == Ok(true));
-    assert!(rt; counters_remember(rt.alloc(), 0, Told::Spent) == Ok(true));
+    assert!(rt; counters_remember(rt.alloc(), 256, REFUTED) == Ok(true));
+    assert!(rt; counters_remember(rt.alloc(), 0, SPENT) == Ok(true));
 }

@@ -1,25 +1,16 @@
 //! Texts as values, which no run of the program shows: plans, facts and orders that are read and written, by the examples of docs/FORMAT.md.
 //! What each text that is refused deserves `tests/texts` asks the program.
 
-use crate::fixtures::{a, c, order};
 use aud_event::{
-    Answer, EndMark, Event, Fact, FactFault, ObjKind, Op, OpName, OutOfMemory, Plan, PlanFault,
-    Record,
+    Answer, EndMark, Event, Fact, FactFault, ObjKind, Op, OpName, Plan, PlanFault, Record,
 };
 use aud_text::{
     TextFault, count_lines, first_line, has_only_allowed, has_required, json_in, next_filled,
-    read_fact, read_plan, write_fact, write_order,
+    read_fact, read_order, read_plan, write_fact, write_order,
 };
-use aud_witness::{Decision, Prefix};
+use aud_witness::{Decision, Fate};
 use std::alloc::Global;
-use std::test::Fail;
 use test_worked::TORN_READ_THEN_ABORT;
-
-/// The plan that a text begins with.
-fn plan_in(alloc: Global, text: &str) -> Result<Plan, Fail> {
-    let (plan, _used) = read_plan(alloc, text.as_bytes())?;
-    Ok(plan)
-}
 
 /// One log, and an object of each kind.
 const FOUR_KINDS: &str = r#"{"format":1,"logs":1,"objects":4}
@@ -38,7 +29,7 @@ const THREE_OBJECTS: &str = r#"{"format":1,"logs":2,"objects":3}
 "#;
 
 /// A text, how many bytes its plan takes with the line feed of the last line, and how many logs that has.
-const PLANS: [(&str, usize, u32); 5] = [
+static PLANS: [(&str, usize, u32); 5] = [
     (THREE_OBJECTS, 145, 2),
     ("{\"format\":1,\"logs\":1,\"objects\":0}", 33, 1),
     ("{\"format\":1,\"logs\":1,\"objects\":0}\n\n{}", 34, 1),
@@ -50,17 +41,29 @@ const PLANS: [(&str, usize, u32); 5] = [
     ),
 ];
 
-#[test]
-fn plans_take_their_lines(rt: HostRuntime) -> Result<(), Fail> {
-    for (text, bytes, logs) in &PLANS {
-        let (plan, used) = read_plan(rt.alloc(), text.as_bytes())?;
-        assert!(rt; used == *bytes && plan.logs() == *logs, "of {text}");
+/// How many bytes the plan of the text takes, and how many logs it has.
+fn plan_in(alloc: Global, text: &str) -> Result<(usize, u32), TextFault> {
+    match read_plan(alloc, text.as_bytes()) {
+        Ok((plan, used)) => Ok((used, plan.logs())),
+        Err(refused) => Err(refused.fault),
     }
-    Ok(())
 }
 
-/// A text, a name, and the number, the kind and the opening of the object that its plan has by it.
-const OBJECTS: [(&str, &str, Option<(u16, ObjKind, i64)>); 8] = [
+#[test]
+fn plans_take_their_lines(rt: HostRuntime) {
+    for (text, bytes, logs) in &PLANS {
+        assert!(rt;
+            plan_in(rt.alloc(), text) == Ok((*bytes, *logs)),
+            "of {text}"
+        );
+    }
+}
+
+/// The number, the kind and the opening of an object, if there is one.
+type Found = Option<(u16, ObjKind, i64)>;
+
+/// A text, a name, and what its plan has by the name.
+static OBJECTS: [(&str, &str, Found); 8] = [
     (FOUR_KINDS, "x", Some((0, ObjKind::Register, -5))),
     (FOUR_KINDS, "c", Some((1, ObjKind::Counter, 7))),
     (FOUR_KINDS, "s", Some((2, ObjKind::SetOf, 0))),
@@ -72,181 +75,229 @@ const OBJECTS: [(&str, &str, Option<(u16, ObjKind, i64)>); 8] = [
 ];
 
 /// What the plan has by the name.
-fn object_of(plan: &Plan, name: &str) -> Option<(u16, ObjKind, i64)> {
+fn object_of(plan: &Plan, name: &str) -> Found {
     let number = plan.number(name)?;
     let object = plan.object(usize::from(number))?;
     Some((number, object.kind, object.opening))
 }
 
+/// What the plan of the text has by the name.
+fn object_in(alloc: Global, text: &str, name: &str) -> Result<Found, TextFault> {
+    match read_plan(alloc, text.as_bytes()) {
+        Ok((plan, _used)) => Ok(object_of(&plan, name)),
+        Err(refused) => Err(refused.fault),
+    }
+}
+
 #[test]
-fn plans_have_their_objects(rt: HostRuntime) -> Result<(), Fail> {
+fn plans_have_their_objects(rt: HostRuntime) {
     for (text, name, wanted) in &OBJECTS {
-        let plan = plan_in(rt.alloc(), text)?;
-        assert!(rt; object_of(&plan, name) == *wanted, "{name} of {text}");
+        assert!(rt;
+            object_in(rt.alloc(), text, name) == Ok(*wanted),
+            "{name} of {text}"
+        );
     }
-    Ok(())
 }
 
-/// The record of a transaction in log 0.
-fn record(at: u32, stamp: u32, tx: u32, event: Event) -> Fact {
-    Fact::Rec(Record {
-        log: 0,
-        at,
-        stamp,
-        tx,
-        event,
-    })
+/// The record of a transaction in log 0: its place, its stamp, the transaction, and the event.
+macro_rules! record {
+    ($at:expr, $stamp:expr, $tx:expr, $event:expr) => {
+        Fact::Rec(Record {
+            log: 0,
+            at: $at,
+            stamp: $stamp,
+            tx: $tx,
+            event: $event,
+        })
+    };
 }
 
-/// The record of transaction 1 or 2 whose place is its stamp.
-fn step(at: u32, tx: u32, event: Event) -> Fact {
-    record(at, at, tx, event)
-}
-
-/// The record of transaction 2 at place 3 with stamp 9.
-fn ninth(event: Event) -> Fact {
-    record(3, 9, 2, event)
-}
-
-/// Facts, each as it is spelled.
-const SPELLED: &str = r#"{"arg":1,"at":0,"ev":"inv","log":0,"ob":"x","op":"write","stamp":0,"tx":1}
-{"ans":"done","at":1,"ev":"ret","log":0,"ob":"x","op":"write","stamp":1,"tx":1}
-{"at":2,"ev":"tryc","log":0,"stamp":2,"tx":1}
-{"at":3,"ev":"commit","log":0,"stamp":3,"tx":1}
-{"at":4,"ev":"inv","log":0,"ob":"x","op":"read","stamp":4,"tx":2}
-{"ans":1,"at":5,"ev":"ret","log":0,"ob":"x","op":"read","stamp":5,"tx":2}
-{"at":6,"ev":"tryc","log":0,"stamp":6,"tx":2}
-{"at":7,"ev":"commit","log":0,"stamp":7,"tx":2}
-{"end":8,"log":0}
-{"arg":-1,"at":0,"ev":"inv","log":0,"ob":"q","op":"enq","stamp":0,"tx":3}
-{"ans":true,"at":1,"ev":"ret","log":0,"ob":"s","op":"remove","stamp":1,"tx":3}
-{"at":2,"ev":"inv","log":0,"ob":"c","op":"dec","stamp":2,"tx":3}
-{"at":3,"ev":"trya","log":0,"stamp":3,"tx":3}
-{"at":4,"ev":"abort","log":0,"stamp":4,"tx":3}
-{"at":3,"ev":"inv","log":0,"ob":"c","op":"inc","stamp":9,"tx":2}
-{"arg":-4,"at":3,"ev":"inv","log":0,"ob":"s","op":"add","stamp":9,"tx":2}
-{"ans":"empty","at":3,"ev":"ret","log":0,"ob":"q","op":"deq","stamp":9,"tx":2}
-{"ans":false,"at":3,"ev":"ret","log":0,"ob":"s","op":"contains","stamp":9,"tx":2}
-{"ans":7,"at":3,"ev":"ret","log":0,"ob":"c","op":"get","stamp":9,"tx":2}
-{"at":3,"ev":"abort","log":0,"stamp":9,"tx":2}"#;
-
-/// Whether the fact is read from the line, as it is spelled there and with a space after it, which needs a JSON value.
-fn is_read(alloc: Global, plan: &Plan, fact: Fact, line: &str) -> Result<bool, Fail> {
-    let spaced = format!(in alloc; "{line} ")?;
-    let is_spaced = read_fact(alloc, plan, spaced.as_bytes())? == fact;
-    Ok(is_spaced && read_fact(alloc, plan, line.as_bytes())? == fact)
-}
-
-/// Whether the fact is written as the line, and read from it.
-fn stands_for(alloc: Global, plan: &Plan, fact: Fact, line: &str) -> Result<bool, Fail> {
-    if fact.check(plan).is_err() {
-        return Ok(false);
-    }
-    let written = write_fact(alloc, plan, &fact)?;
-    Ok(written.as_slice() == line.as_bytes() && is_read(alloc, plan, fact, line)?)
-}
-
-/// How many of the facts, from the first on, are written as the line beside them, and read from it.
-fn standing(alloc: Global, plan: &Plan, facts: &[Fact], table: &str) -> Result<usize, Fail> {
-    let mut count = 0usize;
-    for (fact, line) in facts.iter().zip(table.lines()) {
-        if !stands_for(alloc, plan, *fact, line)? {
-            break;
-        }
-        count = count.saturating_add(1);
-    }
-    Ok(count)
-}
-
-#[test]
-fn facts_are_written_and_read(rt: HostRuntime) -> Result<(), Fail> {
-    let facts = [
-        step(0, 1, Event::Inv(0, Op::Write(1))),
-        step(1, 1, Event::Ret(0, OpName::Write, Answer::Done)),
-        step(2, 1, Event::TryC),
-        step(3, 1, Event::Commit),
-        step(4, 2, Event::Inv(0, Op::Read)),
-        step(5, 2, Event::Ret(0, OpName::Read, Answer::Int(1))),
-        step(6, 2, Event::TryC),
-        step(7, 2, Event::Commit),
+/// Facts, each as it is spelled, with a space after it.
+static FACTS: [(Fact, &str); 20] = [
+    (
+        record!(0, 0, 1, Event::Inv(0, Op::Write(1))),
+        r#"{"arg":1,"at":0,"ev":"inv","log":0,"ob":"x","op":"write","stamp":0,"tx":1} "#,
+    ),
+    (
+        record!(1, 1, 1, Event::Ret(0, OpName::Write, Answer::Done)),
+        r#"{"ans":"done","at":1,"ev":"ret","log":0,"ob":"x","op":"write","stamp":1,"tx":1} "#,
+    ),
+    (
+        record!(2, 2, 1, Event::TryC),
+        r#"{"at":2,"ev":"tryc","log":0,"stamp":2,"tx":1} "#,
+    ),
+    (
+        record!(3, 3, 1, Event::Commit),
+        r#"{"at":3,"ev":"commit","log":0,"stamp":3,"tx":1} "#,
+    ),
+    (
+        record!(4, 4, 2, Event::Inv(0, Op::Read)),
+        r#"{"at":4,"ev":"inv","log":0,"ob":"x","op":"read","stamp":4,"tx":2} "#,
+    ),
+    (
+        record!(5, 5, 2, Event::Ret(0, OpName::Read, Answer::Int(1))),
+        r#"{"ans":1,"at":5,"ev":"ret","log":0,"ob":"x","op":"read","stamp":5,"tx":2} "#,
+    ),
+    (
+        record!(6, 6, 2, Event::TryC),
+        r#"{"at":6,"ev":"tryc","log":0,"stamp":6,"tx":2} "#,
+    ),
+    (
+        record!(7, 7, 2, Event::Commit),
+        r#"{"at":7,"ev":"commit","log":0,"stamp":7,"tx":2} "#,
+    ),
+    (
         Fact::End(EndMark { log: 0, count: 8 }),
-        step(0, 3, Event::Inv(3, Op::Enq(-1))),
-        step(1, 3, Event::Ret(2, OpName::Remove, Answer::Flag(true))),
-        step(2, 3, Event::Inv(1, Op::Dec)),
-        step(3, 3, Event::TryA),
-        step(4, 3, Event::Abort),
-        ninth(Event::Inv(1, Op::Inc)),
-        ninth(Event::Inv(2, Op::Add(-4))),
-        ninth(Event::Ret(3, OpName::Deq, Answer::Empty)),
-        ninth(Event::Ret(2, OpName::Contains, Answer::Flag(false))),
-        ninth(Event::Ret(1, OpName::Get, Answer::Int(7))),
-        ninth(Event::Abort),
-    ];
-    let plan = plan_in(rt.alloc(), FOUR_KINDS)?;
-    assert_eq!(rt; standing(rt.alloc(), &plan, facts.as_slice(), SPELLED)?, 20);
-    let twice = br#"{"end":9999,"end":3,"log":0}"#;
-    let mark = Fact::End(EndMark { log: 0, count: 3 });
-    assert!(rt; read_fact(rt.alloc(), &plan, twice.as_slice()) == Ok(mark));
-    assert!(rt; read_fact(rt.alloc(), &plan, b"").err() == Some(TextFault::NotJson));
-    Ok(())
-}
+        r#"{"end":8,"log":0} "#,
+    ),
+    (
+        record!(0, 0, 3, Event::Inv(3, Op::Enq(-1))),
+        r#"{"arg":-1,"at":0,"ev":"inv","log":0,"ob":"q","op":"enq","stamp":0,"tx":3} "#,
+    ),
+    (
+        record!(1, 1, 3, Event::Ret(2, OpName::Remove, Answer::Flag(true))),
+        r#"{"ans":true,"at":1,"ev":"ret","log":0,"ob":"s","op":"remove","stamp":1,"tx":3} "#,
+    ),
+    (
+        record!(2, 2, 3, Event::Inv(1, Op::Dec)),
+        r#"{"at":2,"ev":"inv","log":0,"ob":"c","op":"dec","stamp":2,"tx":3} "#,
+    ),
+    (
+        record!(3, 3, 3, Event::TryA),
+        r#"{"at":3,"ev":"trya","log":0,"stamp":3,"tx":3} "#,
+    ),
+    (
+        record!(4, 4, 3, Event::Abort),
+        r#"{"at":4,"ev":"abort","log":0,"stamp":4,"tx":3} "#,
+    ),
+    (
+        record!(3, 9, 2, Event::Inv(1, Op::Inc)),
+        r#"{"at":3,"ev":"inv","log":0,"ob":"c","op":"inc","stamp":9,"tx":2} "#,
+    ),
+    (
+        record!(3, 9, 2, Event::Inv(2, Op::Add(-4))),
+        r#"{"arg":-4,"at":3,"ev":"inv","log":0,"ob":"s","op":"add","stamp":9,"tx":2} "#,
+    ),
+    (
+        record!(3, 9, 2, Event::Ret(3, OpName::Deq, Answer::Empty)),
+        r#"{"ans":"empty","at":3,"ev":"ret","log":0,"ob":"q","op":"deq","stamp":9,"tx":2} "#,
+    ),
+    (
+        record!(
+            3,
+            9,
+            2,
+            Event::Ret(2, OpName::Contains, Answer::Flag(false))
+        ),
+        r#"{"ans":false,"at":3,"ev":"ret","log":0,"ob":"s","op":"contains","stamp":9,"tx":2} "#,
+    ),
+    (
+        record!(3, 9, 2, Event::Ret(1, OpName::Get, Answer::Int(7))),
+        r#"{"ans":7,"at":3,"ev":"ret","log":0,"ob":"c","op":"get","stamp":9,"tx":2} "#,
+    ),
+    (
+        record!(3, 9, 2, Event::Abort),
+        r#"{"at":3,"ev":"abort","log":0,"stamp":9,"tx":2} "#,
+    ),
+];
 
-/// Whether the decisions are written as the text.
-fn are_written(alloc: Global, decisions: &[Decision], text: &str) -> Result<bool, OutOfMemory> {
-    let made = Prefix::from_decisions(decisions.to_vec(alloc)?);
-    Ok(write_order(alloc, &made)?.as_slice() == text.as_bytes())
-}
-
-/// Whether the decisions are read from the text.
-fn are_read(alloc: Global, decisions: &[Decision], text: &str) -> bool {
-    match order(alloc, text) {
-        Ok(read) => read.decisions() == decisions,
+/// Whether the fact fits the plan, and is written as the line.
+fn is_written(alloc: Global, plan: &Plan, fact: &Fact, line: &[u8]) -> bool {
+    match fact.check(plan) {
+        Ok(()) => matches!(write_fact(alloc, plan, fact), Ok(text) if text.as_slice() == line),
         Err(_) => false,
     }
 }
 
-#[test]
-fn orders_are_written_and_read(rt: HostRuntime) -> Result<(), Fail> {
-    let cases: [(&[Decision], &str); 6] = [
-        (&[], "none"),
-        (&[c(1), a(2)], "1c 2a"),
-        (&[c(1024), a(4095)], "1024c 4095a"),
-        (&[a(0)], "0a"),
-        (&[c(5), a(5)], "5c 5a"),
-        (&[a(1023), a(1023)], "1023a 1023a"),
-    ];
-    for (decisions, text) in &cases {
-        assert!(rt; are_written(rt.alloc(), decisions, text)?, "of {text}");
-        assert!(rt; are_read(rt.alloc(), decisions, text), "of {text}");
-    }
-    Ok(())
-}
-
-/// Whether the first line of the text is this one, with this after it.
-fn begins_with(text: &[u8], line: &[u8], rest: &[u8]) -> bool {
-    match first_line(text) {
-        Some(first) => first.line == line && first.rest == rest,
-        None => false,
-    }
+/// Whether the fact is written as the line without its space, and read from it, and again with its space, which needs a JSON value.
+fn stands_for(alloc: Global, plan: &Plan, fact: &Fact, spaced: &str) -> bool {
+    let Some((_space, line)) = spaced.as_bytes().split_last() else {
+        return false;
+    };
+    is_written(alloc, plan, fact, line)
+        && read_fact(alloc, plan, line) == Ok(*fact)
+        && read_fact(alloc, plan, spaced.as_bytes()) == Ok(*fact)
 }
 
 #[test]
-fn lines_are_counted(rt: HostRuntime) {
-    let cases: [(&str, usize); 3] = [("ab\n\ncd", 3), ("ab\n\ncd\n", 3), ("", 0)];
-    for (text, count) in &cases {
-        assert_eq!(rt; count_lines(text.as_bytes()), *count, "of {text:?}");
+fn facts_are_written_and_read(rt: HostRuntime) {
+    let (plan, _used) = read_plan(rt.alloc(), FOUR_KINDS.as_bytes()).expect(&rt, "a plan");
+    for (fact, spaced) in &FACTS {
+        assert!(rt; stands_for(rt.alloc(), &plan, fact, spaced), "of {spaced}");
+    }
+    let twice = br#"{"end":9999,"end":3,"log":0}"#;
+    let mark = Fact::End(EndMark { log: 0, count: 3 });
+    assert!(rt; read_fact(rt.alloc(), &plan, twice.as_slice()) == Ok(mark));
+    assert!(rt; read_fact(rt.alloc(), &plan, b"").err() == Some(TextFault::NotJson));
+}
+
+macro_rules! c {
+    ($tx:expr) => {
+        Decision {
+            tx: $tx,
+            fate: Fate::C,
+        }
+    };
+}
+
+macro_rules! a {
+    ($tx:expr) => {
+        Decision {
+            tx: $tx,
+            fate: Fate::A,
+        }
+    };
+}
+
+/// Orders, each as it is spelled.
+static ORDERS: [(&[Decision], &str); 6] = [
+    (&[], "none"),
+    (&[c!(1), a!(2)], "1c 2a"),
+    (&[c!(1024), a!(4095)], "1024c 4095a"),
+    (&[a!(0)], "0a"),
+    (&[c!(5), a!(5)], "5c 5a"),
+    (&[a!(1023), a!(1023)], "1023a 1023a"),
+];
+
+/// Whether the decisions are read from the text, and written as it.
+fn are_spelled(alloc: Global, decisions: &[Decision], text: &str) -> bool {
+    let Ok(order) = read_order(alloc, text.as_bytes()) else {
+        return false;
+    };
+    let Ok(written) = write_order(alloc, &order) else {
+        return false;
+    };
+    order.decisions() == decisions && written.as_slice() == text.as_bytes()
+}
+
+#[test]
+fn orders_are_written_and_read(rt: HostRuntime) {
+    for (decisions, text) in &ORDERS {
+        assert!(rt; are_spelled(rt.alloc(), decisions, text), "of {text}");
+    }
+}
+
+/// Whether the first line of one text, and the one line of another that is not empty, are taken off it.
+fn lines_are_taken() -> bool {
+    match (first_line(b"ab\n\ncd"), next_filled(b"\ncd", 2)) {
+        (Some(first), Some(filled)) => {
+            first.line == b"ab".as_slice()
+                && first.rest == b"\ncd".as_slice()
+                && filled.number == 3
+                && filled.line == b"cd".as_slice()
+                && next_filled(filled.rest, 4).is_none()
+        }
+        _ => false,
     }
 }
 
 #[test]
-fn lines_of_a_text(rt: HostRuntime) -> Result<(), Fail> {
+fn lines_of_a_text(rt: HostRuntime) {
+    assert!(rt; count_lines(b"ab\n\ncd") == 3);
+    assert!(rt; count_lines(b"ab\n\ncd\n") == 3);
+    assert!(rt; count_lines(b"") == 0);
     assert!(rt; first_line(b"").is_none());
-    assert!(rt; begins_with(b"ab\n\ncd", b"ab", b"\ncd"));
-    let filled = next_filled(b"\ncd", 2).ok_or("a line")?;
-    assert_eq!(rt; filled.number, 3);
-    assert_eq!(rt; filled.line, b"cd".as_slice());
-    assert!(rt; next_filled(filled.rest, 4).is_none());
-    Ok(())
+    assert!(rt; lines_are_taken());
 }
 
 /// An object with the keys `a` and `b`.
@@ -268,22 +319,18 @@ fn has_its_keys(alloc: Global) -> Result<[bool; 4], TextFault> {
 
 #[test]
 fn keys_of_a_value(rt: HostRuntime) {
-    let short = json_in(rt.alloc(), TWO_KEYS, 12).err();
-    let keys = has_its_keys(rt.alloc());
-    assert!(rt; short == Some(TextFault::TooLong) && keys == Ok([true, false, true, false]));
+    assert!(rt; json_in(rt.alloc(), TWO_KEYS, 12).err() == Some(TextFault::TooLong));
+    assert!(rt; has_its_keys(rt.alloc()) == Ok([true, false, true, false]));
+}
+
+/// The number of the fault, and of the fault in it.
+fn numbers_of(fault: TextFault) -> (u32, Option<u32>) {
+    (fault.number(), fault.inner_number())
 }
 
 #[test]
 fn numbers_of_faults(rt: HostRuntime) {
-    let cases: [(TextFault, u32, Option<u32>); 3] = [
-        (TextFault::OutOfMemory, 9, None),
-        (TextFault::Fact(FactFault::AnswerKind), 8, Some(7)),
-        (TextFault::Plan(PlanFault::BadName), 10, Some(6)),
-    ];
-    for (fault, number, inner) in &cases {
-        assert!(rt;
-            fault.number() == *number && fault.inner_number() == *inner,
-            "of {fault:?}"
-        );
-    }
+    assert!(rt; numbers_of(TextFault::OutOfMemory) == (9, None));
+    assert!(rt; numbers_of(TextFault::Fact(FactFault::AnswerKind)) == (8, Some(7)));
+    assert!(rt; numbers_of(TextFault::Plan(PlanFault::BadName)) == (10, Some(6)));
 }
