@@ -88,24 +88,36 @@ fn decisions_of(
     Ok(decisions)
 }
 
-/// An order by the beam of that number, if it finds one within so much work, and how much it did: a look at a row is some units. Once all weights
-/// were tried the beams are twice as wide.
+/// How wide the beam of that number is, once all weights were tried twice as wide as before; or none, where its steps would take more bytes. A row of
+/// each beginning takes some.
+fn width_of(number: usize, rows: usize, bytes: usize) -> Option<usize> {
+    let doubled = (number / WEIGHTS.len()).min(32) as u32;
+    let width = 256usize.wrapping_shl(doubled);
+    if width.saturating_mul(rows).saturating_mul(64) > bytes {
+        return None;
+    }
+    Some(width)
+}
+
+/// An order by the beam of that number, if it finds one within so much work and so many bytes, and how much it did: a look at a row is some units.
 pub(crate) fn find_order(
     alloc: Global,
     problem: &Problem,
     number: usize,
     most: u64,
+    bytes: usize,
 ) -> Result<(Option<Vec<Decision>>, u64), OutOfMemory> {
+    let Some(width) = width_of(number, problem.spans.len(), bytes) else {
+        return Ok((None, 0));
+    };
     let rows = rows_of(alloc, &problem.spans)?;
-    let weights = at(&WEIGHTS, number % 6, WEIGHTS[0]);
+    let weights = at(&WEIGHTS, number % WEIGHTS.len(), WEIGHTS[0]);
     let breadth = Breadth {
-        width: 256usize.wrapping_shl((number / 6).min(8) as u32),
+        width,
         most: most / 4,
     };
-    let (touches, openings) = (
-        &problem.counting.touches[..],
-        &problem.counting.openings[..],
-    );
+    let touches = &problem.counting.touches[..];
+    let openings = &problem.counting.openings[..];
     let found = find(alloc, &rows, touches, openings, weights, breadth)?;
     let order = match found.order {
         Some(order) => Some(decisions_of(alloc, &problem.spans, &order)?),

@@ -267,7 +267,8 @@ fn try_beam(
     let number = schedule.beams;
     schedule.beams = number.saturating_add(1);
     let most = effort.work.saturating_sub(done);
-    let (order, work) = find_order(alloc, &solver.problem, number, most)?;
+    let bytes = effort.bytes.saturating_sub(bytes_held(solver)) / 2;
+    let (order, work) = find_order(alloc, &solver.problem, number, most, bytes)?;
     schedule.beam_work = schedule.beam_work.saturating_add(work);
     solver.known.work = done.saturating_add(work);
     let Some(decisions) = order else {
