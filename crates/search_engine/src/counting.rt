@@ -119,8 +119,8 @@ pub(crate) fn find_order(
     let touches = &problem.counting.touches[..];
     let openings = &problem.counting.openings[..];
     let found = find(alloc, &rows, touches, openings, weights, breadth)?;
-    let order = match found.order {
-        Some(order) => Some(decisions_of(alloc, &problem.spans, &order)?),
+    let order = match &found.order {
+        Some(order) => Some(decisions_of(alloc, &problem.spans, order)?),
         None => None,
     };
     Ok((order, found.work.saturating_mul(4)))
