@@ -5,22 +5,26 @@
 
    A round is BLOCKS blocks of each thread, or fewer, where there were ENOUGH attempts: a run has room for 4,096. Then all meet, and the last one
    reads each register and the counter in one transaction of the memory, which closes the round. Every write writes a number that no other writes,
-   also over rounds, so a read tells whom it saw. The exit status is 0 where all was recorded and written. */
+   also over rounds, so a read tells whom it saw. A round is so short that one thread might be through before the next one runs: so after its first
+   WAITS reads each thread waits until another attempt has ended, or naps NAPS times. The exit status is 0 where all was recorded and written. */
 
 #include <pthread.h>
 #include <sched.h>
+#include <stdatomic.h>
+#include <time.h>
 
 static void begin(struct attempt *it);
 static int read_cell(struct attempt *it, unsigned cell, long *value); /* 0 where the attempt is aborted, as with the two below */
 static int write_cell(struct attempt *it, unsigned cell, long value);
 static int commit(struct attempt *it);
 
-enum { THREADS_MOST = 64, COUNTER = CELLS - 1, TRIES = 20, ENOUGH = 3000 };
+enum { THREADS_MOST = 64, COUNTER = CELLS - 1, TRIES = 20, ENOUGH = 3000, WAITS = 3, NAPS = 20 };
 
-struct worker { unsigned number; unsigned long drawn; long written; struct attempt it; };
+struct worker { unsigned number, waits; unsigned long drawn; long written; struct attempt it; };
 
 static unsigned long seed = 1, threads = 4, rounds = 10, blocks = 40;
 static pthread_barrier_t meeting;
+static atomic_ulong ended; /* how many attempts */
 static int has_all = 1;
 
 static unsigned long draw(struct worker *by, unsigned long below) {
@@ -28,12 +32,25 @@ static unsigned long draw(struct worker *by, unsigned long below) {
     return (by->drawn >> 33) % below;
 }
 
+/* Lets other threads go on. */
+static void let_others(struct worker *by) {
+    const struct timespec nap = { 0, 20000 };
+    const unsigned long then = ended;
+    int yields = draw(by, 2) != 0;
+    if (!by->waits) {
+        if (yields) sched_yield();
+        return;
+    }
+    by->waits--;
+    for (unsigned naps = 0; naps < NAPS && ended == then; naps++) nanosleep(&nap, NULL);
+}
+
 static int do_read(struct worker *by, enum opaq_operation operation, unsigned cell) {
     long value;
     opaq_call(operation, cell, 0);
     if (!read_cell(&by->it, cell, &value)) return 0;
     opaq_back(value);
-    if (draw(by, 2)) sched_yield();
+    let_others(by);
     return 1;
 }
 
@@ -59,21 +76,22 @@ static int do_one(struct worker *by, unsigned cell) {
     return do_read(by, cell == COUNTER ? OPAQ_GET : OPAQ_READ, cell);
 }
 
+static int end(int is_done) {
+    opaq_end(is_done);
+    ended++;
+    return is_done;
+}
+
 static int do_commit(struct worker *by) {
     opaq_try();
-    int is_done = commit(&by->it);
-    opaq_end(is_done);
-    return is_done;
+    return end(commit(&by->it));
 }
 
 static int transact(struct worker *by) {
     opaq_begin();
     begin(&by->it);
     for (unsigned long calls = 1 + draw(by, 4); calls; calls--)
-        if (!do_one(by, (unsigned)draw(by, CELLS))) {
-            opaq_end(0);
-            return 0;
-        }
+        if (!do_one(by, (unsigned)draw(by, CELLS))) return end(0);
     return do_commit(by);
 }
 
@@ -81,10 +99,7 @@ static int close_round(struct worker *by) {
     opaq_begin();
     begin(&by->it);
     for (unsigned cell = 0; cell < CELLS; cell++)
-        if (!do_read(by, cell == COUNTER ? OPAQ_GET : OPAQ_READ, cell)) {
-            opaq_end(0);
-            return 0;
-        }
+        if (!do_read(by, cell == COUNTER ? OPAQ_GET : OPAQ_READ, cell)) return end(0);
     return do_commit(by);
 }
 
@@ -93,8 +108,10 @@ static void *work(void *own) {
     opaq_thread(by->number);
     by->drawn = seed * 1000003u + by->number;
     for (unsigned long round = 0; round < rounds; round++) {
+        by->waits = WAITS;
         for (unsigned long block = 0; block < blocks; block++)
             for (unsigned tries = 0; tries < TRIES && opaq_attempts() < ENOUGH && !transact(by); tries++) sched_yield();
+        by->waits = 0;
         if (pthread_barrier_wait(&meeting) == PTHREAD_BARRIER_SERIAL_THREAD) {
             while (!close_round(by)) {}
             if (!opaq_round(stdout, NULL)) has_all = 0;
