@@ -1,28 +1,27 @@
 //! What is learned from what cannot be.
 
-use crate::explanation::{Contribution, View, explain, explain_conflict};
+use crate::explanation::{Contribution, NO_CONTRIBUTION, View, explain, explain_conflict};
 use crate::heap::{Heap, bump};
-use crate::known::{Antecedent, Assigned, Conflict, UNKNOWN};
-use crate::literals::{at, fill, neg, push, set, var};
-use aud_event::OutOfMemory;
+use crate::known::{Antecedent, Conflict, Known};
+use crate::literals::{Table, at, neg, set, var};
 use std::alloc::Global;
 
 /// A clause that is being learned.
 #[derive(Drop)]
 pub(crate) struct Analysis {
     /// Literals that hold, of which one is to fail.
-    pub todo: Vec<u32>,
+    pub todo: Table<u32>,
     /// The clause. Its first literal is to hold where the others fail.
-    pub clause: Vec<u32>,
+    pub clause: Table<u32>,
     /// The literals that were replaced by their antecedents, and those antecedents that hold in any case.
-    pub used: Vec<u32>,
-    pub sure: Vec<u32>,
+    pub used: Table<u32>,
+    pub sure: Table<u32>,
     /// The variables that were met, and whether each one was.
-    met: Vec<usize>,
-    is_met: Vec<bool>,
-    pub contributions: Vec<Contribution>,
+    met: Table<usize>,
+    is_met: Table<bool>,
+    pub contributions: Table<Contribution>,
     /// For each level when a literal of it was last counted.
-    stamps: Vec<u64>,
+    stamps: Table<u64>,
     stamp: u64,
 }
 
@@ -30,45 +29,61 @@ impl Analysis {
     /// Of nothing. It does not allocate.
     pub(crate) fn empty(alloc: Global) -> Analysis {
         Analysis {
-            todo: Vec::new(alloc),
-            clause: Vec::new(alloc),
-            used: Vec::new(alloc),
-            sure: Vec::new(alloc),
-            met: Vec::new(alloc),
-            is_met: Vec::new(alloc),
-            contributions: Vec::new(alloc),
-            stamps: Vec::new(alloc),
+            todo: Table::new(alloc, 0),
+            clause: Table::new(alloc, 0),
+            used: Table::new(alloc, 0),
+            sure: Table::new(alloc, 0),
+            met: Table::new(alloc, 0),
+            is_met: Table::new(alloc, false),
+            contributions: Table::new(alloc, NO_CONTRIBUTION),
+            stamps: Table::new(alloc, 0),
             stamp: 0,
         }
+    }
+
+    /// Whether some growth was refused.
+    pub(crate) fn is_short(&self) -> bool {
+        let is_clause_short = self.todo.is_short() || self.clause.is_short();
+        let is_cause_short = self.used.is_short() || self.sure.is_short();
+        let is_sum_short = self.contributions.is_short() || self.stamps.is_short();
+        is_clause_short
+            || is_cause_short
+            || is_sum_short
+            || self.met.is_short()
+            || self.is_met.is_short()
     }
 }
 
 /// Room for so many variables.
-pub(crate) fn make_marks(analysis: &mut Analysis, count: usize) -> Result<(), OutOfMemory> {
-    fill(&mut analysis.is_met, count, false)?;
-    fill(&mut analysis.stamps, count.wrapping_add(2), 0)
+pub(crate) fn make_marks(analysis: &mut Analysis, count: usize) {
+    analysis.is_met.fill(count);
+    analysis.stamps.fill(count.wrapping_add(2));
 }
 
 /// The level since which the literal is assigned.
-pub(crate) fn level_of(states: &[Assigned], literal: u32) -> u32 {
-    at(states, var(literal), UNKNOWN).level
+pub(crate) fn level_of(known: &Known, literal: u32) -> u32 {
+    known.state(literal).level
 }
 
 /// The highest level of the literals.
-pub(crate) fn highest(states: &[Assigned], literals: &[u32]) -> u32 {
+pub(crate) fn highest(known: &Known, literals: &[u32]) -> u32 {
     let mut level = 0;
     for literal in literals {
-        level = level_of(states, *literal).max(level);
+        level = level_of(known, *literal).max(level);
     }
     level
 }
 
+/// Whether the variable was met, or is none.
+fn was_met(analysis: &Analysis, variable: usize) -> bool {
+    analysis.is_met.at(variable) || variable >= analysis.is_met.len()
+}
+
 /// Notes that the variable was met.
-fn meet(analysis: &mut Analysis, heap: &mut Heap, variable: usize) -> Result<(), OutOfMemory> {
-    set(&mut analysis.is_met, variable, true);
-    push(&mut analysis.met, variable)?;
+fn meet(analysis: &mut Analysis, heap: &mut Heap, variable: usize) {
+    analysis.is_met.set(variable, true);
+    analysis.met.add(variable);
     bump(heap, variable);
-    Ok(())
 }
 
 /// Takes in one literal that holds: true if it is one of the level that was not met before.
@@ -78,45 +93,40 @@ fn take_in_one(
     literal: u32,
     since: u32,
     level: u32,
-) -> Result<bool, OutOfMemory> {
+) -> bool {
     if since == 0 {
-        push(&mut analysis.sure, literal)?;
-        return Ok(false);
+        analysis.sure.add(literal);
+        return false;
     }
-    if at(&analysis.is_met, var(literal), true) {
-        return Ok(false);
+    if was_met(analysis, var(literal)) {
+        return false;
     }
-    meet(analysis, heap, var(literal))?;
+    meet(analysis, heap, var(literal));
     if since < level {
-        push(&mut analysis.clause, neg(literal))?;
+        analysis.clause.add(neg(literal));
     }
-    Ok(since >= level)
+    since >= level
 }
 
 /// Takes in the literals that hold: those of the level are counted, and of the lower ones one may fail.
-fn take_in(
-    analysis: &mut Analysis,
-    heap: &mut Heap,
-    states: &[Assigned],
-    level: u32,
-) -> Result<usize, OutOfMemory> {
+fn take_in(analysis: &mut Analysis, heap: &mut Heap, known: &Known, level: u32) -> usize {
     let mut count: usize = 0;
     for place in 0..analysis.todo.len() {
-        let literal = at(&analysis.todo, place, 0);
-        let since = level_of(states, literal);
-        if take_in_one(analysis, heap, literal, since, level)? {
+        let literal = analysis.todo.at(place);
+        let since = level_of(known, literal);
+        if take_in_one(analysis, heap, literal, since, level) {
             count = count.wrapping_add(1);
         }
     }
-    Ok(count)
+    count
 }
 
 /// The place of the last literal of the trail before that place that was met.
-fn last_met(trail: &[u32], is_met: &[bool], before: usize) -> usize {
+fn last_met(known: &Known, is_met: &Table<bool>, before: usize) -> usize {
     let mut place = before;
     for _ in 0..before {
         place = place.wrapping_sub(1);
-        if at(is_met, var(at(trail, place, 0)), false) {
+        if is_met.at(var(known.trail.at(place))) {
             break;
         }
     }
@@ -124,9 +134,9 @@ fn last_met(trail: &[u32], is_met: &[bool], before: usize) -> usize {
 }
 
 /// Whether all of the literals were met, or hold in any case.
-fn are_met(todo: &[u32], is_met: &[bool], states: &[Assigned]) -> bool {
+fn are_met(todo: &[u32], is_met: &Table<bool>, known: &Known) -> bool {
     for literal in todo {
-        if level_of(states, *literal) != 0 && !at(is_met, var(*literal), false) {
+        if level_of(known, *literal) != 0 && !is_met.at(var(*literal)) {
             return false;
         }
     }
@@ -134,47 +144,48 @@ fn are_met(todo: &[u32], is_met: &[bool], states: &[Assigned]) -> bool {
 }
 
 /// Takes the antecedent of the literal in its place.
-fn go_on(analysis: &mut Analysis, view: &View<'_>, literal: u32) -> Result<(), OutOfMemory> {
+fn go_on(analysis: &mut Analysis, view: &View<'_>, literal: u32) {
     analysis.todo.clear();
     explain(
         view,
         literal,
         &mut analysis.contributions,
         &mut analysis.todo,
-    )?;
-    push(&mut analysis.used, literal)?;
-    Ok(())
+    );
+    analysis.used.add(literal);
 }
 
 /// Goes back along the trail to the first literal of the level from which alone the conflict follows.
-fn find_first(
-    analysis: &mut Analysis,
-    heap: &mut Heap,
-    view: &View<'_>,
-    trail: &[u32],
-    level: u32,
-) -> Result<(), OutOfMemory> {
+fn find_first(analysis: &mut Analysis, heap: &mut Heap, view: &View<'_>, level: u32) {
     let mut count: usize = 0;
-    let mut place = trail.len();
-    push(&mut analysis.clause, 0)?;
-    for _ in 0..trail.len() {
-        let more = take_in(analysis, heap, view.states, level)?;
+    let mut place = view.known.count;
+    analysis.clause.add(0);
+    for _ in 0..view.known.count {
+        let more = take_in(analysis, heap, view.known, level);
         count = count.wrapping_add(more).saturating_sub(1);
-        place = last_met(trail, &analysis.is_met, place);
-        let literal = at(trail, place, 0);
+        place = last_met(view.known, &analysis.is_met, place);
+        let literal = view.known.trail.at(place);
         if count == 0 {
-            set(&mut analysis.clause, 0, neg(literal));
+            analysis.clause.set(0, neg(literal));
             break;
         }
-        go_on(analysis, view, literal)?;
+        go_on(analysis, view, literal);
     }
-    Ok(())
+}
+
+/// Adds those of the literals that hold in any case.
+fn add_sure(sure: &mut Table<u32>, literals: &[u32], known: &Known) {
+    for literal in literals {
+        if level_of(known, *literal) == 0 {
+            sure.add(*literal);
+        }
+    }
 }
 
 /// Whether the literal of the clause follows from the others: then it is left out.
-fn follows(analysis: &mut Analysis, view: &View<'_>, literal: u32) -> Result<bool, OutOfMemory> {
-    if let Antecedent::Choice = at(view.states, var(literal), UNKNOWN).antecedent {
-        return Ok(false);
+fn follows(analysis: &mut Analysis, view: &View<'_>, literal: u32) -> bool {
+    if let Antecedent::Choice = view.known.state(literal).antecedent {
+        return false;
     }
     analysis.todo.clear();
     explain(
@@ -182,40 +193,34 @@ fn follows(analysis: &mut Analysis, view: &View<'_>, literal: u32) -> Result<boo
         neg(literal),
         &mut analysis.contributions,
         &mut analysis.todo,
-    )?;
-    if !are_met(&analysis.todo, &analysis.is_met, view.states) {
-        return Ok(false);
+    );
+    if !are_met(analysis.todo.items(), &analysis.is_met, view.known) {
+        return false;
     }
-    push(&mut analysis.used, neg(literal))?;
-    for place in 0..analysis.todo.len() {
-        let other = at(&analysis.todo, place, 0);
-        if level_of(view.states, other) == 0 {
-            push(&mut analysis.sure, other)?;
-        }
-    }
-    Ok(true)
+    analysis.used.add(neg(literal));
+    add_sure(&mut analysis.sure, analysis.todo.items(), view.known);
+    true
 }
 
 /// Leaves out the literals of the clause that follow from the others.
-fn shorten(analysis: &mut Analysis, view: &View<'_>) -> Result<(), OutOfMemory> {
+fn shorten(analysis: &mut Analysis, view: &View<'_>) {
     let mut kept: usize = 1;
     for place in 1..analysis.clause.len() {
-        let literal = at(&analysis.clause, place, 0);
-        if !follows(analysis, view, literal)? {
-            set(&mut analysis.clause, kept, literal);
+        let literal = analysis.clause.at(place);
+        if !follows(analysis, view, literal) {
+            analysis.clause.set(kept, literal);
             kept = kept.wrapping_add(1);
         }
     }
     analysis.clause.truncate(kept);
-    Ok(())
 }
 
 /// Puts a literal of the highest level of the others after the first one, and gives that level, from which on the clause forces the first.
-fn order_clause(clause: &mut [u32], states: &[Assigned]) -> u32 {
+fn order_clause(clause: &mut [u32], known: &Known) -> u32 {
     let mut best: usize = 1;
     let mut level = 0;
     for place in 1..clause.len() {
-        let own = level_of(states, clause[place]);
+        let own = level_of(known, clause[place]);
         if own >= level {
             level = own;
             best = place;
@@ -236,53 +241,43 @@ fn clear(analysis: &mut Analysis) {
 }
 
 /// No variable was met.
-fn forget_met(is_met: &mut [bool], met: &[usize]) {
+fn forget_met(is_met: &mut Table<bool>, met: &[usize]) {
     for variable in met {
-        set(is_met, *variable, false);
+        is_met.set(*variable, false);
     }
 }
 
 /// Learns a clause from a conflict at the level, of whose literals `todo` are those that hold. It gives the level from which on the clause
 /// forces its first literal.
-pub(crate) fn learn(
-    analysis: &mut Analysis,
-    heap: &mut Heap,
-    view: &View<'_>,
-    trail: &[u32],
-    level: u32,
-) -> Result<u32, OutOfMemory> {
+pub(crate) fn learn(analysis: &mut Analysis, heap: &mut Heap, view: &View<'_>, level: u32) -> u32 {
     clear(analysis);
-    find_first(analysis, heap, view, trail, level)?;
-    shorten(analysis, view)?;
-    forget_met(&mut analysis.is_met, &analysis.met);
+    find_first(analysis, heap, view, level);
+    shorten(analysis, view);
+    forget_met(&mut analysis.is_met, analysis.met.items());
     analysis.met.clear();
-    Ok(order_clause(&mut analysis.clause, view.states))
+    order_clause(analysis.clause.items_mut(), view.known)
 }
 
 /// Reads the literals that hold and cannot all do, and gives the highest of their levels.
-pub(crate) fn read_conflict(
-    analysis: &mut Analysis,
-    view: &View<'_>,
-    conflict: Conflict,
-) -> Result<u32, OutOfMemory> {
+pub(crate) fn read_conflict(analysis: &mut Analysis, view: &View<'_>, conflict: Conflict) -> u32 {
     analysis.todo.clear();
     explain_conflict(
         view,
         conflict,
         &mut analysis.contributions,
         &mut analysis.todo,
-    )?;
-    Ok(highest(view.states, &analysis.todo))
+    );
+    highest(view.known, analysis.todo.items())
 }
 
 /// Of how many levels the literals of the clause are.
-pub(crate) fn count_levels(analysis: &mut Analysis, states: &[Assigned]) -> u32 {
+pub(crate) fn count_levels(analysis: &mut Analysis, known: &Known) -> u32 {
     analysis.stamp = analysis.stamp.wrapping_add(1);
     let mut count: u32 = 0;
-    for literal in analysis.clause.iter() {
-        let level = level_of(states, *literal) as usize;
-        if at(&analysis.stamps, level, 0) != analysis.stamp {
-            set(&mut analysis.stamps, level, analysis.stamp);
+    for place in 0..analysis.clause.len() {
+        let level = level_of(known, analysis.clause.at(place)) as usize;
+        if analysis.stamps.at(level) != analysis.stamp {
+            analysis.stamps.set(level, analysis.stamp);
             count = count.wrapping_add(1);
         }
     }

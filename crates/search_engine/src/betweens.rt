@@ -1,11 +1,8 @@
 //! Between a source and its reader nobody writes.
 
-use crate::cells::{
-    CellOf, CellUse, Cells, Marks, NO_CELL, NO_FEED, NO_MARKS, NO_READER, NO_SOURCE, NO_USE,
-    NO_WRITER, Writer,
-};
-use crate::known::{Antecedent, Conflict, Known, assign, value};
-use crate::literals::{FALSE, NONE, TRUE, at, neg, short};
+use crate::cells::{CellOf, CellUse, Cells};
+use crate::known::{Antecedent, Conflict, Known, assign};
+use crate::literals::{FALSE, NONE, TRUE, neg, short};
 use crate::spans::{Span, before, span_of};
 use search_model::{Need, meets};
 
@@ -21,9 +18,9 @@ fn before_row(spans: &[Span], other: usize, row: u32) -> u32 {
 /// The clause of a source and another writer of its cell: it is not the source, or the other one does not commit, does not stand before the
 /// reader, or stands before the source. Where the other one is the reader or the source it holds in any case.
 pub(crate) fn clause_of(cells: &Cells, spans: &[Span], source: u32, writer: u32) -> [u32; 4] {
-    let found = at(&cells.sources, source as usize, NO_SOURCE);
-    let reader = at(&cells.readers, found.reader as usize, NO_READER).row;
-    let other = at(&cells.writers, writer as usize, NO_WRITER);
+    let found = cells.sources.at(source as usize);
+    let reader = cells.readers.at(found.reader as usize).row;
+    let other = cells.writers.at(writer as usize);
     if other.row == reader || found.writer == writer {
         return [TRUE; 4];
     }
@@ -33,14 +30,14 @@ pub(crate) fn clause_of(cells: &Cells, spans: &[Span], source: u32, writer: u32)
 }
 
 /// What the clause forces: its only open literal, or the one that never holds, where all fail, or else the one that always does.
-fn forced_by(values: &[i8], clause: &[u32]) -> u32 {
+fn forced_by(known: &Known, clause: &[u32]) -> u32 {
     let mut open = FALSE;
     for literal in clause {
-        let known = value(values, *literal);
-        if known == 1 || (known == 0 && open != FALSE) {
+        let found = known.value(*literal);
+        if found == 1 || (found == 0 && open != FALSE) {
             return TRUE;
         }
-        if known == 0 {
+        if found == 0 {
             open = *literal;
         }
     }
@@ -50,7 +47,7 @@ fn forced_by(values: &[i8], clause: &[u32]) -> u32 {
 /// Follows the clause of the source and the other writer.
 fn follow(known: &mut Known, source: u32, writer: u32, clause: &[u32; 4]) -> Option<Conflict> {
     known.work = known.work.wrapping_add(1);
-    let forced = forced_by(&known.values, clause);
+    let forced = forced_by(known, clause);
     if forced == FALSE {
         return Some(Conflict::Between(source, writer));
     }
@@ -83,16 +80,17 @@ struct Window {
 
 /// The writers of the source's cell that began before the reader ended, and when the source began.
 fn window_of(cells: &Cells, spans: &[Span], source: u32) -> Window {
-    let found = at(&cells.sources, source as usize, NO_SOURCE);
-    let reader = at(&cells.readers, found.reader as usize, NO_READER);
-    let cell = at(&cells.cells, reader.cell as usize, NO_CELL);
-    let began = match cells.writers.get(found.writer as usize) {
-        Some(writer) => span_of(spans, writer.row).first,
-        None => 0,
+    let found = cells.sources.at(source as usize);
+    let reader = cells.readers.at(found.reader as usize);
+    let cell = cells.cells.at(reader.cell as usize);
+    let began = if found.writer == NONE {
+        0
+    } else {
+        span_of(spans, found.row as usize).first
     };
     Window {
         from: cell.writers,
-        to: writers_before(&cells.writers, cell, span_of(spans, reader.row).end),
+        to: writers_before(cells, cell, span_of(spans, reader.row).end),
         began,
         need: reader.need,
     }
@@ -109,7 +107,7 @@ pub(crate) fn propagate_source(
     let window = window_of(cells, spans, source);
     for step in 0..window.to.saturating_sub(window.from) {
         let number = window.to.wrapping_sub(1).wrapping_sub(step);
-        let writer = at(&cells.writers, number, NO_WRITER);
+        let writer = cells.writers.at(number);
         if writer.latest < window.began {
             break;
         }
@@ -124,7 +122,7 @@ pub(crate) fn propagate_source(
 }
 
 /// The first of the cell's writers that is no row before that one, or the end of them.
-fn writers_before(writers: &[Writer], cell: CellOf, row: usize) -> usize {
+fn writers_before(cells: &Cells, cell: CellOf, row: usize) -> usize {
     let mut low = cell.writers;
     let mut high = cell.writers_end;
     for _ in 0..64 {
@@ -132,7 +130,7 @@ fn writers_before(writers: &[Writer], cell: CellOf, row: usize) -> usize {
             break;
         }
         let middle = low.midpoint(high);
-        if at(writers, middle, NO_WRITER).row >= row {
+        if cells.writers.at(middle).row >= row {
             high = middle;
         } else {
             low = middle.saturating_add(1);
@@ -149,19 +147,19 @@ fn propagate_reader(
     reader: u32,
     writer: u32,
 ) -> Option<Conflict> {
-    let found = at(&cells.readers, reader as usize, NO_READER);
-    let other = at(&cells.writers, writer as usize, NO_WRITER);
-    let commits = value(&known.values, other.commits);
+    let found = cells.readers.at(reader as usize);
+    let other = cells.writers.at(writer as usize);
+    let commits = known.value(other.commits);
     if commits == -1 || other.row == found.row || meets(found.need, other.value) {
         return None;
     }
     let stands = before(spans, other.row, found.row);
-    if value(&known.values, stands) == -1 {
+    if known.value(stands) == -1 {
         return None;
     }
     for number in found.sources..found.sources_end {
-        let source = at(&cells.sources, number, NO_SOURCE);
-        let holds = value(&known.values, source.literal);
+        let source = cells.sources.at(number);
+        let holds = known.value(source.literal);
         if holds == -1 || (holds == 0 && commits == 0) {
             continue;
         }
@@ -183,20 +181,20 @@ fn propagate_writers(
     writer: u32,
     other: u32,
 ) -> Option<Conflict> {
-    let one = at(&cells.writers, writer as usize, NO_WRITER);
-    let two = at(&cells.writers, other as usize, NO_WRITER);
-    let commits = value(&known.values, two.commits);
+    let one = cells.writers.at(writer as usize);
+    let two = cells.writers.at(other as usize);
+    let commits = known.value(two.commits);
     if commits == -1 {
         return None;
     }
     let last = before(spans, two.row, one.row);
     for place in one.feeds..one.feeds_end {
-        let feed = at(&cells.feeds, place as usize, NO_FEED);
-        let holds = value(&known.values, feed.literal);
+        let feed = cells.feeds.at(place as usize);
+        let holds = known.value(feed.literal);
         if holds == -1 || (holds == 0 && commits == 0) {
             continue;
         }
-        let reader = at(&cells.readers, feed.reader as usize, NO_READER);
+        let reader = cells.readers.at(feed.reader as usize);
         if reader.row == two.row || meets(reader.need, two.value) {
             continue;
         }
@@ -234,9 +232,8 @@ fn propagate_uses(
 }
 
 /// Whether the one row may write a cell that the other touches.
-fn may_meet(marks: &[Marks], row: usize, other: usize) -> bool {
-    let mine = at(marks, row, NO_MARKS);
-    mine.writes & at(marks, other, NO_MARKS).touches != 0
+fn may_meet(cells: &Cells, row: usize, other: usize) -> bool {
+    cells.marks.at(row).writes & cells.marks.at(other).touches != 0
 }
 
 /// The one row stands before the other: looks at the cells that both touch.
@@ -247,19 +244,19 @@ pub(crate) fn propagate_pair(
     row: usize,
     other: usize,
 ) -> Option<Conflict> {
-    if !may_meet(&cells.marks, row, other) {
+    if !may_meet(cells, row, other) {
         return None;
     }
-    let mut one = at(&cells.starts, row, 0);
-    let one_end = at(&cells.starts, row.wrapping_add(1), 0);
-    let mut two = at(&cells.starts, other, 0);
-    let two_end = at(&cells.starts, other.wrapping_add(1), 0);
+    let mut one = cells.starts.at(row);
+    let one_end = cells.starts.at(row.wrapping_add(1));
+    let mut two = cells.starts.at(other);
+    let two_end = cells.starts.at(other.wrapping_add(1));
     for _ in 0..cells.uses.len().saturating_mul(2) {
         if one >= one_end || two >= two_end {
             break;
         }
-        let mine = at(&cells.uses, one, NO_USE);
-        let theirs = at(&cells.uses, two, NO_USE);
+        let mine = cells.uses.at(one);
+        let theirs = cells.uses.at(two);
         if mine.cell == theirs.cell {
             let conflict = propagate_uses(known, cells, spans, mine, theirs);
             if conflict.is_some() {
@@ -276,6 +273,23 @@ pub(crate) fn propagate_pair(
     None
 }
 
+/// The writer commits: looks at all readers of its cell.
+fn check_writer(
+    known: &mut Known,
+    cells: &Cells,
+    spans: &[Span],
+    cell_use: CellUse,
+) -> Option<Conflict> {
+    let cell = cells.cells.at(cell_use.cell as usize);
+    for reader in cell.readers..cell.readers_end {
+        let conflict = propagate_reader(known, cells, spans, short(reader), cell_use.writer);
+        if conflict.is_some() {
+            return conflict;
+        }
+    }
+    None
+}
+
 /// The row commits: looks at all readers of the cells that it writes.
 pub(crate) fn check_commits(
     known: &mut Known,
@@ -283,15 +297,11 @@ pub(crate) fn check_commits(
     spans: &[Span],
     row: usize,
 ) -> Option<Conflict> {
-    let from = at(&cells.starts, row, 0);
-    let to = at(&cells.starts, row.wrapping_add(1), 0);
-    for cell_use in crate::literals::range(&cells.uses, from, to) {
-        if cell_use.writer == NONE {
-            continue;
-        }
-        let cell = at(&cells.cells, cell_use.cell as usize, NO_CELL);
-        for reader in cell.readers..cell.readers_end {
-            let conflict = propagate_reader(known, cells, spans, short(reader), cell_use.writer);
+    let from = cells.starts.at(row);
+    let to = cells.starts.at(row.wrapping_add(1));
+    for cell_use in cells.uses.range(from, to) {
+        if cell_use.writer != NONE {
+            let conflict = check_writer(known, cells, spans, *cell_use);
             if conflict.is_some() {
                 return conflict;
             }

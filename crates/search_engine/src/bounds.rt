@@ -1,12 +1,13 @@
 //! What the bounds of sums force.
 
-use crate::known::{Antecedent, Conflict, Known, assign, value};
-use crate::literals::{FALSE, at, neg, range, set, short, var};
-use crate::sums::{NO_SLACK, NO_SUM, NO_TERM, Slack, Sums, Term};
+use crate::known::{Antecedent, Conflict, Known, assign};
+use crate::literals::{FALSE, Table, neg, var};
+use crate::sums::{Slack, Sums, Term};
 
 /// The sum is to be looked at, if it does not wait yet.
-fn wake(slack: &mut Slack, waiting: &mut Vec<u32>, number: u32) {
-    if !slack.waits && waiting.push(number).is_ok() {
+fn wake(slack: &mut Slack, waiting: &mut Table<u32>, number: u32) {
+    if !slack.waits {
+        waiting.add(number);
         slack.waits = true;
     }
 }
@@ -74,44 +75,57 @@ fn forget(term: &mut Term, slack: &mut Slack, holds: bool) {
     }
 }
 
+/// One of the term's literals holds or fails from now on.
+fn count_one(sums: &mut Sums, number: usize, holds: bool) {
+    let mut term = sums.terms.at(number);
+    let mut slack = sums.slacks.at(term.sum as usize);
+    let forces = if holds {
+        note_holding(&mut term, &mut slack)
+    } else {
+        note_failing(&mut term, &mut slack)
+    };
+    if forces {
+        wake(&mut slack, &mut sums.waiting, term.sum);
+    }
+    sums.terms.set(number, term);
+    sums.slacks.set(term.sum as usize, slack);
+}
+
+/// One of the term's literals, which held or failed, is open again.
+fn uncount_one(sums: &mut Sums, number: usize, holds: bool) {
+    let mut term = sums.terms.at(number);
+    let mut slack = sums.slacks.at(term.sum as usize);
+    forget(&mut term, &mut slack, holds);
+    sums.terms.set(number, term);
+    sums.slacks.set(term.sum as usize, slack);
+}
+
 /// The literal holds from now on, or no longer: the terms that it is in change.
 pub(crate) fn count_terms(sums: &mut Sums, literal: u32, is_new: bool) -> usize {
-    let from = at(&sums.starts, var(literal), 0);
-    let to = at(&sums.starts, var(literal).wrapping_add(1), 0);
-    for used in range(&sums.occurrences, from as usize, to as usize) {
-        let holds = (*used & 1) == (literal & 1);
-        let Some(term) = sums.terms.get_mut((*used >> 1) as usize) else {
-            continue;
-        };
-        let Some(slack) = sums.slacks.get_mut(term.sum as usize) else {
-            continue;
-        };
-        if !is_new {
-            forget(term, slack, holds);
-            continue;
-        }
-        let forces = if holds {
-            note_holding(term, slack)
+    let from = sums.starts.at(var(literal)) as usize;
+    let to = sums.starts.at(var(literal).wrapping_add(1)) as usize;
+    for place in from..to {
+        let used = sums.occurrences.at(place);
+        let (number, holds) = ((used >> 1) as usize, (used & 1) == (literal & 1));
+        if is_new {
+            count_one(sums, number, holds);
         } else {
-            note_failing(term, slack)
-        };
-        if forces {
-            wake(slack, &mut sums.waiting, term.sum);
+            uncount_one(sums, number, holds);
         }
     }
-    to.saturating_sub(from) as usize
+    to.saturating_sub(from)
 }
 
 /// The sum is looked at where its guard comes to hold.
 pub(crate) fn wake_guarded(sums: &mut Sums, number: u32) {
-    if let Some(slack) = sums.slacks.get_mut(number as usize) {
-        wake(slack, &mut sums.waiting, number);
-    }
+    let mut slack = sums.slacks.at(number as usize);
+    wake(&mut slack, &mut sums.waiting, number);
+    sums.slacks.set(number as usize, slack);
 }
 
 /// The only open literal of the two, if none fails.
-fn only_open(values: &[i8], literals: [u32; 2]) -> u32 {
-    let (first, second) = (value(values, literals[0]), value(values, literals[1]));
+fn only_open(known: &Known, literals: [u32; 2]) -> u32 {
+    let (first, second) = (known.value(literals[0]), known.value(literals[1]));
     if first == 0 && second == 1 {
         literals[0]
     } else if first == 1 && second == 0 {
@@ -134,13 +148,13 @@ fn force(known: &mut Known, term: &Term, slack: Slack, number: u32) {
     let low = Antecedent::Low(number);
     let high = Antecedent::High(number);
     if is_out {
-        let open = only_open(&known.values, term.literals);
+        let open = only_open(known, term.literals);
         if open != FALSE {
             assign(known, neg(open), if gain > 0 { low } else { high });
         }
     } else if is_in {
         for literal in &term.literals {
-            if value(&known.values, *literal) == 0 {
+            if known.value(*literal) == 0 {
                 assign(known, *literal, if gain > 0 { high } else { low });
             }
         }
@@ -149,12 +163,12 @@ fn force(known: &mut Known, term: &Term, slack: Slack, number: u32) {
 
 /// Looks at the sum: whether it can be what is wanted, and what that forces.
 fn propagate_sum(known: &mut Known, sums: &Sums, number: u32) -> Option<Conflict> {
-    let sum = at(&sums.sums, number as usize, NO_SUM);
-    let guard = value(&known.values, sum.guard);
+    let sum = sums.sums.at(number as usize);
+    let guard = known.value(sum.guard);
     if guard == -1 {
         return None;
     }
-    let slack = at(&sums.slacks, number as usize, NO_SLACK);
+    let slack = sums.slacks.at(number as usize);
     let is_low = slack.below < 0;
     if is_low || slack.above < 0 {
         if guard == 0 {
@@ -171,7 +185,7 @@ fn propagate_sum(known: &mut Known, sums: &Sums, number: u32) -> Option<Conflict
     if guard == 0 || (slack.below >= slack.most && slack.above >= slack.most) {
         return None;
     }
-    for term in range(&sums.terms, sum.from, sum.to) {
+    for term in sums.terms.range(sum.from, sum.to) {
         if term.failing == 0 && term.holding < 2 {
             force(known, term, slack, number);
         }
@@ -182,21 +196,25 @@ fn propagate_sum(known: &mut Known, sums: &Sums, number: u32) -> Option<Conflict
     None
 }
 
+/// The sum waits no longer.
+fn settle(sums: &mut Sums, number: u32) {
+    let mut slack = sums.slacks.at(number as usize);
+    slack.waits = false;
+    sums.slacks.set(number as usize, slack);
+}
+
 /// Looks at the last sum that waits, if one does.
 pub(crate) fn propagate_waiting(known: &mut Known, sums: &mut Sums) -> Option<Conflict> {
     let number = sums.waiting.pop()?;
-    if let Some(slack) = sums.slacks.get_mut(number as usize) {
-        slack.waits = false;
-    }
+    settle(sums, number);
     propagate_sum(known, sums, number)
 }
 
 /// No sum waits any longer.
 pub(crate) fn clear_waiting(sums: &mut Sums) {
-    for number in sums.waiting.iter() {
-        if let Some(slack) = sums.slacks.get_mut(*number as usize) {
-            slack.waits = false;
-        }
+    for place in 0..sums.waiting.len() {
+        let number = sums.waiting.at(place);
+        settle(sums, number);
     }
     sums.waiting.clear();
 }

@@ -1,9 +1,8 @@
 //! Who stands before whom: with each pair all that follow from it.
 
-use crate::known::{Antecedent, Conflict, Known, assign, value};
-use crate::literals::{at, push, set, short};
+use crate::known::{Antecedent, Conflict, Known, assign};
+use crate::literals::{Table, short};
 use crate::spans::{Span, before_by, span_of};
-use aud_event::OutOfMemory;
 use std::alloc::Global;
 
 /// For each row the rows after it and those before it, as bits.
@@ -11,8 +10,24 @@ use std::alloc::Global;
 pub(crate) struct Closure {
     /// How many words a row has.
     pub words: usize,
-    pub after: Vec<u64>,
-    pub before: Vec<u64>,
+    pub after: Table<u64>,
+    pub before: Table<u64>,
+}
+
+impl Closure {
+    /// Of no rows. It does not allocate.
+    pub(crate) fn empty(alloc: Global) -> Closure {
+        Closure {
+            words: 0,
+            after: Table::new(alloc, 0),
+            before: Table::new(alloc, 0),
+        }
+    }
+
+    /// Whether some growth was refused.
+    pub(crate) fn is_short(&self) -> bool {
+        self.after.is_short() || self.before.is_short()
+    }
 }
 
 /// The bit of the row in that word of its bits.
@@ -25,58 +40,61 @@ pub(crate) fn bit_in(row: usize, word: usize) -> u64 {
 }
 
 /// Sets or clears the bit of the row in the bits that begin there.
-fn set_bit(bits: &mut [u64], from: usize, row: usize, to: bool) {
+fn set_bit(bits: &mut Table<u64>, from: usize, row: usize, to: bool) {
     let place = from.wrapping_add(row / 64);
-    let word = at(bits, place, 0);
+    let word = bits.at(place);
     let bit = 1u64 << (row % 64);
-    set(bits, place, if to { word | bit } else { word & !bit });
+    bits.set(place, if to { word | bit } else { word & !bit });
 }
 
 /// Sets the bits in the word.
-fn add_bits(bits: &mut [u64], place: usize, more: u64) {
-    let word = at(bits, place, 0);
-    set(bits, place, word | more);
+fn add_bits(bits: &mut Table<u64>, place: usize, more: u64) {
+    bits.set(place, bits.at(place) | more);
 }
 
 /// Whether the one row is known to stand before the other.
-pub(crate) fn is_before(after: &[u64], words: usize, row: usize, other: usize) -> bool {
-    let word = at(after, row.wrapping_mul(words).wrapping_add(other / 64), 0);
-    (word >> (other % 64)) & 1 == 1
+pub(crate) fn is_before(closure: &Closure, row: usize, other: usize) -> bool {
+    let place = row.wrapping_mul(closure.words).wrapping_add(other / 64);
+    (closure.after.at(place) >> (other % 64)) & 1 == 1
 }
 
-/// The rows before and after each one by real time.
-pub(crate) fn close_spans(alloc: Global, spans: &[Span]) -> Result<Closure, OutOfMemory> {
-    let words = spans.len().div_ceil(64);
-    let mut after = Vec::new(alloc);
-    let mut earlier = Vec::new(alloc);
+/// Sets the bits of those rows that began after each one ended.
+fn close_after(closure: &mut Closure, spans: &[Span]) {
+    let last = closure.words.wrapping_sub(1);
     for span in spans {
-        for word in 0..words {
-            push(&mut after, bits_from(span.end, word))?;
-            push(&mut earlier, 0)?;
+        for word in 0..closure.words {
+            let bits = bits_from(span.end, word);
+            let none = if word == last {
+                bits_from(spans.len(), word)
+            } else {
+                0
+            };
+            closure.after.add(bits & !none);
         }
     }
+}
+
+/// Sets the bits of those rows that had ended before each one began.
+fn close_before(closure: &mut Closure, spans: &[Span]) {
+    let words = closure.words;
+    closure.before.fill(spans.len().saturating_mul(words));
     for row in 0..spans.len() {
         let end = spans[row].end;
         if end < spans.len() {
-            set_bit(&mut earlier, end.wrapping_mul(words), row, true);
+            set_bit(&mut closure.before, end.wrapping_mul(words), row, true);
         }
     }
-    for place in words..earlier.len() {
-        let word = at(&earlier, place.wrapping_sub(words), 0) | at(&earlier, place, 0);
-        set(&mut earlier, place, word);
+    for place in words..closure.before.len() {
+        let earlier = closure.before.at(place.wrapping_sub(words));
+        add_bits(&mut closure.before, place, earlier);
     }
-    let count = spans.len();
-    for row in 0..count {
-        let last = count.div_ceil(64).wrapping_sub(1);
-        let place = row.wrapping_mul(words).wrapping_add(last);
-        let word = at(&after, place, 0) & !bits_from(count, last);
-        set(&mut after, place, word);
-    }
-    Ok(Closure {
-        words,
-        after,
-        before: earlier,
-    })
+}
+
+/// Sets the bits of the rows before and after each one by real time.
+pub(crate) fn close_spans(closure: &mut Closure, spans: &[Span]) {
+    closure.words = spans.len().div_ceil(64);
+    close_after(closure, spans);
+    close_before(closure, spans);
 }
 
 /// The bits of that word that stand for the rows from that one on.
@@ -92,10 +110,10 @@ fn bits_from(row: usize, word: usize) -> u64 {
 }
 
 /// Those rows of the word that the first of the two has on its side, and it itself, but not those that the second has.
-fn fresh_in(bits: &[u64], words: usize, rows: (usize, usize), word: usize) -> u64 {
+fn fresh_in(bits: &Table<u64>, words: usize, rows: (usize, usize), word: usize) -> u64 {
     let (one, other) = rows;
-    let wanted = at(bits, one.wrapping_mul(words).wrapping_add(word), 0);
-    let known = at(bits, other.wrapping_mul(words).wrapping_add(word), 0);
+    let wanted = bits.at(one.wrapping_mul(words).wrapping_add(word));
+    let known = bits.at(other.wrapping_mul(words).wrapping_add(word));
     (wanted | bit_in(one, word)) & !known
 }
 
@@ -119,7 +137,7 @@ fn join_word(
             .wrapping_mul(64)
             .wrapping_add(fresh.trailing_zeros() as usize);
         let literal = before_by(spans, found, row, other);
-        match value(&known.values, literal) {
+        match known.value(literal) {
             0 => assign(known, literal, Antecedent::Circle(short(from), short(to))),
             1 => {}
             _ => {
@@ -172,7 +190,7 @@ pub(crate) fn close(
     other: usize,
 ) -> Option<Conflict> {
     let words = closure.words;
-    if is_before(&closure.after, words, row, other) {
+    if is_before(closure, row, other) {
         return None;
     }
     for word in 0..words {

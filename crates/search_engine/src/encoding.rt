@@ -1,8 +1,7 @@
 //! What is asked of an order, as variables and clauses.
 
-use crate::literals::{FALSE, NONE, TRUE, extend_by, push, set, short, var};
+use crate::literals::{FALSE, NONE, TRUE, Table, short, var};
 use crate::spans::Span;
-use aud_event::OutOfMemory;
 use std::alloc::Global;
 
 /// What a variable says.
@@ -43,21 +42,26 @@ pub(crate) enum Origin {
 /// The variables, by their numbers.
 #[derive(Drop)]
 pub(crate) struct Variables {
-    pub roles: Vec<Role>,
+    pub roles: Table<Role>,
     /// Whether it is tried first that it holds.
-    pub phases: Vec<bool>,
+    pub phases: Table<bool>,
     /// Whether its value may be chosen, as something is asked of it.
-    pub choices: Vec<bool>,
+    pub choices: Table<bool>,
 }
 
 impl Variables {
     /// No variables. It does not allocate.
     pub(crate) fn empty(alloc: Global) -> Variables {
         Variables {
-            roles: Vec::new(alloc),
-            phases: Vec::new(alloc),
-            choices: Vec::new(alloc),
+            roles: Table::new(alloc, Role::Nothing),
+            phases: Table::new(alloc, false),
+            choices: Table::new(alloc, false),
         }
+    }
+
+    /// Whether some growth was refused.
+    pub(crate) fn is_short(&self) -> bool {
+        self.roles.is_short() || self.phases.is_short() || self.choices.is_short()
     }
 }
 
@@ -67,36 +71,35 @@ pub(crate) fn add_variable(
     role: Role,
     phase: bool,
     choices: bool,
-) -> Result<u32, OutOfMemory> {
+) -> u32 {
     let number = short(variables.roles.len());
-    push(&mut variables.roles, role)?;
-    push(&mut variables.phases, phase)?;
-    push(&mut variables.choices, choices)?;
-    Ok(number.wrapping_mul(2))
+    variables.roles.add(role);
+    variables.phases.add(phase);
+    variables.choices.add(choices);
+    number.wrapping_mul(2)
 }
 
 /// The value of the literal's variable may be chosen.
-pub(crate) fn ask(choices: &mut [bool], literal: u32) {
+pub(crate) fn ask(variables: &mut Variables, literal: u32) {
     if var(literal) != 0 {
-        set(choices, var(literal), true);
+        variables.choices.set(var(literal), true);
     }
 }
 
 /// Adds the variables of the pairs that are open, and of the fates that are.
-pub(crate) fn add_pairs(variables: &mut Variables, spans: &mut [Span]) -> Result<(), OutOfMemory> {
-    add_variable(variables, Role::Nothing, true, false)?;
+pub(crate) fn add_pairs(variables: &mut Variables, spans: &mut [Span]) {
+    add_variable(variables, Role::Nothing, true, false);
     for row in 0..spans.len() {
         for other in row.wrapping_add(1)..spans[row].end {
             let role = Role::Precedence((row & 0xffff) as u16, (other & 0xffff) as u16);
-            add_variable(variables, role, true, false)?;
+            add_variable(variables, role, true, false);
         }
     }
     for row in 0..spans.len() {
         if spans[row].commits == NONE {
-            spans[row].commits = add_variable(variables, Role::Commits(short(row)), true, true)?;
+            spans[row].commits = add_variable(variables, Role::Commits(short(row)), true, true);
         }
     }
-    Ok(())
 }
 
 /// Where in a clause its length stands, of how many levels its literals were when it was learned (its LBD: Audemard and Simon, Predicting
@@ -117,66 +120,67 @@ pub(crate) const LITERALS: usize = 6;
 /// The clauses, one after the other in the words of an arena. A clause goes by the place of its first word.
 #[derive(Drop)]
 pub(crate) struct Clauses {
-    pub arena: Vec<u32>,
+    pub arena: Table<u32>,
     /// The origins of those that are no learned ones.
-    pub origins: Vec<Origin>,
+    pub origins: Table<Origin>,
     /// For each literal the first clause that watches it.
-    pub heads: Vec<u32>,
+    pub heads: Table<u32>,
     /// The learned ones that are still there.
-    pub learned: Vec<u32>,
+    pub learned: Table<u32>,
 }
 
 impl Clauses {
     /// No clauses. It does not allocate.
     pub(crate) fn empty(alloc: Global) -> Clauses {
         Clauses {
-            arena: Vec::new(alloc),
-            origins: Vec::new(alloc),
-            heads: Vec::new(alloc),
-            learned: Vec::new(alloc),
+            arena: Table::new(alloc, 0),
+            origins: Table::new(alloc, Origin::Tried),
+            heads: Table::new(alloc, NONE),
+            learned: Table::new(alloc, 0),
         }
+    }
+
+    /// Whether some growth was refused.
+    pub(crate) fn is_short(&self) -> bool {
+        let are_words_short = self.arena.is_short() || self.heads.is_short();
+        are_words_short || self.origins.is_short() || self.learned.is_short()
     }
 }
 
 /// Puts the words of a clause at the end of the arena, and gives its place.
 pub(crate) fn append(
-    arena: &mut Vec<u32>,
+    arena: &mut Table<u32>,
     literals: &[u32],
     levels: u32,
     origin: u32,
     step: u32,
-) -> Result<u32, OutOfMemory> {
+) -> u32 {
     let place = short(arena.len());
     let head = [short(literals.len()), levels, NONE, NONE, origin, step];
-    extend_by(arena, &head)?;
-    extend_by(arena, literals)?;
-    Ok(place)
+    arena.add_all(&head);
+    arena.add_all(literals);
+    place
 }
 
 /// Puts the literals after the clause at the place that is the last one, those aside that fail in any case.
-fn extend(arena: &mut Vec<u32>, place: usize, literals: &[u32]) -> Result<(), OutOfMemory> {
+fn extend(arena: &mut Table<u32>, place: usize, literals: &[u32]) {
     for literal in literals {
         if *literal != FALSE {
-            push(arena, *literal)?;
+            arena.add(*literal);
         }
     }
     let length = arena.len().wrapping_sub(place).wrapping_sub(LITERALS);
-    set(arena, place, short(length));
-    Ok(())
+    arena.set(place, short(length));
 }
 
 /// Adds the clause of different literals, if none of them holds in any case. Those that fail in any case are left out.
-pub(crate) fn add_clause(
-    clauses: &mut Clauses,
-    origin: Origin,
-    literals: &[u32],
-) -> Result<(), OutOfMemory> {
+pub(crate) fn add_clause(clauses: &mut Clauses, origin: Origin, literals: &[u32]) {
     if literals.contains(&TRUE) {
-        return Ok(());
+        return;
     }
     let number = short(clauses.origins.len());
     let place = clauses.arena.len();
-    push(&mut clauses.origins, origin)?;
-    append(&mut clauses.arena, &[], 0, number, NONE)?;
-    extend(&mut clauses.arena, place, literals)
+    clauses.origins.add(origin);
+    append(&mut clauses.arena, &[], 0, number, NONE);
+    extend(&mut clauses.arena, place, literals);
 }

@@ -2,13 +2,13 @@
 
 use crate::counting::find_order;
 use crate::encoding::Role;
-use crate::literals::{FALSE, NONE, at, fill, neg, push, set, short};
-use crate::orders::{block, decisions_of, first_bad, order_of};
-use crate::problem::{Allowance, Problem};
+use crate::literals::{FALSE, NONE, Table, at, neg, push, short};
+use crate::orders::{block, first_bad, order_of, put_decisions};
+use crate::problem::{Allowance, has_room};
 use crate::reading::{Encoded, read};
 use crate::refuted::refutation_of;
 use crate::solver::{
-    Found, Limits, Solver, backjump, begin, bytes_held, prepare, search, solver_of,
+    Found, Limits, Solver, backjump, begin, bytes_held, check_room, prepare, search, solver_of,
 };
 use crate::spans::{Span, instant, span_of};
 use aud_event::{ObjKind, OutOfMemory};
@@ -84,30 +84,33 @@ struct Ranked {
     row: usize,
 }
 
-/// The rows in the order of their instants.
-fn sort_rows(ranked: &mut Vec<Ranked>, spans: &[Span], twentieths: u64) -> Result<(), OutOfMemory> {
-    for (row, found) in spans.iter().enumerate() {
-        let key = instant(*found, twentieths);
-        push(ranked, Ranked { key, row })?;
-    }
-    ranked.sort_unstable();
-    Ok(())
-}
+const NOT_RANKED: Ranked = Ranked { key: 0, row: 0 };
 
 /// The rank of each row in the order of their instants.
-fn ranks_of(alloc: Global, spans: &[Span], twentieths: u64) -> Result<Vec<usize>, OutOfMemory> {
-    let mut ranked = Vec::new(alloc);
-    sort_rows(&mut ranked, spans, twentieths)?;
-    let mut ranks = Vec::new(alloc);
-    fill(&mut ranks, spans.len(), 0)?;
-    for (rank, found) in ranked.iter().enumerate() {
-        set(&mut ranks, found.row, rank);
+fn ranks_of(alloc: Global, spans: &[Span], twentieths: u64) -> Result<Table<usize>, OutOfMemory> {
+    let mut ranked = Table::new(alloc, NOT_RANKED);
+    for (row, found) in spans.iter().enumerate() {
+        let key = instant(*found, twentieths);
+        ranked.add(Ranked { key, row });
     }
+    ranked.items_mut().sort_unstable();
+    let mut ranks = Table::new(alloc, 0);
+    ranks.fill(spans.len());
+    for (rank, found) in ranked.items().iter().enumerate() {
+        ranks.set(found.row, rank);
+    }
+    has_room(ranked.is_short() || ranks.is_short())?;
     Ok(ranks)
 }
 
 /// The literal of the pair that stands so far apart, as the ranks say, if both ended; or the one that never holds.
-fn far_literal(role: Role, spans: &[Span], ranks: &[usize], variable: usize, reach: usize) -> u32 {
+fn far_literal(
+    role: Role,
+    spans: &[Span],
+    ranks: &Table<usize>,
+    variable: usize,
+    reach: usize,
+) -> u32 {
     let Role::Precedence(row, other) = role else {
         return FALSE;
     };
@@ -115,8 +118,8 @@ fn far_literal(role: Role, spans: &[Span], ranks: &[usize], variable: usize, rea
     if span_of(spans, row).last == NONE || span_of(spans, other).last == NONE {
         return FALSE;
     }
-    let one = at(ranks, row, 0);
-    let two = at(ranks, other, 0);
+    let one = ranks.at(row);
+    let two = ranks.at(other);
     if one.abs_diff(two) <= reach {
         return FALSE;
     }
@@ -125,19 +128,18 @@ fn far_literal(role: Role, spans: &[Span], ranks: &[usize], variable: usize, rea
 }
 
 /// Assumes that pairs of those that ended stand as in the order of the instants, if they stand so far apart in it.
-fn assume_near(solver: &mut Solver, ranks: &[usize], reach: usize) -> Result<(), OutOfMemory> {
+fn assume_near(solver: &mut Solver, ranks: &Table<usize>, reach: usize) {
     let spans = &solver.problem.spans[..];
     let variables = &solver.problem.variables;
     for variable in 1..variables.roles.len() {
-        if at(&variables.choices, variable, false) {
-            let role = at(&variables.roles, variable, Role::Nothing);
+        if variables.choices.at(variable) {
+            let role = variables.roles.at(variable);
             let literal = far_literal(role, spans, ranks, variable, reach);
             if literal != FALSE {
-                push(&mut solver.assumed, literal)?;
+                solver.assumed.add(literal);
             }
         }
     }
-    Ok(())
 }
 
 /// The next of the instants that may have orders near it, from that one on.
@@ -161,6 +163,14 @@ fn widen(nears: &mut [Near], place: usize, count: usize) {
     }
 }
 
+/// What the trial of an order came to: it is good, or the search goes on without it, or there is no order.
+#[derive(Clone, Copy)]
+enum Tried {
+    Good,
+    Blocked,
+    NoOrder,
+}
+
 /// Tries the order. If the trial refutes it, the search goes on without it, if it can.
 fn try_order(
     alloc: Global,
@@ -168,10 +178,9 @@ fn try_order(
     solver: &mut Solver,
     order: &[usize],
 ) -> Result<Tried, OutOfMemory> {
-    let decisions = decisions_of(alloc, solver, order)?;
-    let bad = first_bad(alloc, shape, &decisions)?;
-    let Some(place) = bad else {
-        return Ok(Tried::Good(decisions));
+    put_decisions(solver, order)?;
+    let Some(place) = first_bad(alloc, shape, &solver.order)? else {
+        return Ok(Tried::Good);
     };
     if block(alloc, solver, order, place)? {
         Ok(Tried::Blocked)
@@ -183,15 +192,7 @@ fn try_order(
 /// Tries the order that the search found.
 fn try_found(alloc: Global, shape: &Shape, solver: &mut Solver) -> Result<Tried, OutOfMemory> {
     let order = order_of(alloc, solver)?;
-    try_order(alloc, shape, solver, &order)
-}
-
-/// What the trial of an order came to.
-#[derive(Drop)]
-enum Tried {
-    Good(Vec<Decision>),
-    Blocked,
-    NoOrder,
+    try_order(alloc, shape, solver, order.items())
 }
 
 /// The restarts of a search: plain ones, whose lengths are in units of so many conflicts, and ones near the orders of instants by turns.
@@ -247,37 +248,38 @@ fn begin_restart(
     let found = schedule.nears[place % 4];
     let ranks = ranks_of(alloc, &solver.problem.spans, found.twentieths)?;
     backjump(solver, 0);
-    assume_near(solver, &ranks, found.reach)?;
+    assume_near(solver, &ranks, found.reach);
+    check_room(solver)?;
     Ok((restart.saturating_mul(100).saturating_add(300), Some(place)))
 }
 
-/// Searches for an order by the next beam, if the rows only count, once the other search did as much as all beams before.
+/// Whether it is time for the next beam: the rows only count, and the other search did as much as all beams before.
+fn is_beam_due(solver: &Solver, schedule: &Schedule) -> bool {
+    solver.problem.counting.is_all
+        && schedule.restart >= 6
+        && schedule.beam_work.saturating_mul(2) <= solver.known.work
+}
+
+/// Searches for an order by the next beam. Whether it finds a good one.
 fn try_beam(
     alloc: Global,
     shape: &Shape,
     solver: &mut Solver,
     schedule: &mut Schedule,
     effort: Effort,
-) -> Result<Option<Solved>, OutOfMemory> {
-    let done = solver.known.work;
-    let is_due = schedule.restart >= 6 && schedule.beam_work.saturating_mul(2) <= done;
-    if !solver.problem.counting.is_all || !is_due {
-        return Ok(None);
-    }
-    let number = schedule.beams;
+) -> Result<bool, OutOfMemory> {
+    let (number, done) = (schedule.beams, solver.known.work);
     schedule.beams = number.saturating_add(1);
     let most = effort.work.saturating_sub(done);
     let bytes = effort.bytes.saturating_sub(bytes_held(solver)) / 2;
-    let (order, work) = find_order(alloc, &solver.problem, number, most, bytes)?;
+    let (problem, order) = (&solver.problem, &mut solver.order);
+    let (is_found, work) = find_order(alloc, problem, order, number, most, bytes)?;
     schedule.beam_work = schedule.beam_work.saturating_add(work);
     solver.known.work = done.saturating_add(work);
-    let Some(decisions) = order else {
-        return Ok(None);
-    };
-    if first_bad(alloc, shape, &decisions)?.is_some() {
-        return Ok(None);
+    if !is_found {
+        return Ok(false);
     }
-    Ok(Some(Solved::Order(decisions)))
+    Ok(first_bad(alloc, shape, &solver.order)?.is_none())
 }
 
 /// Searches within the effort, by at most so many conflicts more.
@@ -301,49 +303,89 @@ fn is_over(solver: &Solver, effort: Effort) -> bool {
         || bytes_held(solver) > effort.bytes
 }
 
-/// Searches by restarts, plainly and near the orders of instants by turns. None where there is no order.
+/// How a search ended.
+#[derive(Clone, Copy)]
+enum Ended {
+    /// By an order, which is the solver's.
+    Order,
+    NoOrder,
+    /// As its effort was spent.
+    Spent,
+}
+
+/// What the restart came to, which searched near that instant, if near one. None where the search goes on.
+fn end_restart(
+    alloc: Global,
+    shape: &Shape,
+    solver: &mut Solver,
+    schedule: &mut Schedule,
+    near: Option<usize>,
+    effort: Effort,
+    found: Found,
+) -> Result<Option<Ended>, OutOfMemory> {
+    match found {
+        Found::NoOrder => return Ok(Some(Ended::NoOrder)),
+        Found::All => match try_found(alloc, shape, solver)? {
+            Tried::Good => return Ok(Some(Ended::Order)),
+            Tried::Blocked => {}
+            Tried::NoOrder => return Ok(Some(Ended::NoOrder)),
+        },
+        Found::NotAssumed => {
+            if let Some(place) = near {
+                widen(&mut schedule.nears, place, solver.problem.spans.len());
+            }
+        }
+        Found::Spent => {
+            if is_over(solver, effort) {
+                return Ok(Some(Ended::Spent));
+            }
+        }
+    }
+    Ok(None)
+}
+
+/// Makes the next restart, after a beam, if it is time for one. None where the search goes on.
+fn restart(
+    alloc: Global,
+    shape: &Shape,
+    solver: &mut Solver,
+    schedule: &mut Schedule,
+    effort: Effort,
+) -> Result<Option<Ended>, OutOfMemory> {
+    if is_beam_due(solver, schedule) && try_beam(alloc, shape, solver, schedule, effort)? {
+        return Ok(Some(Ended::Order));
+    }
+    let (budget, near) = begin_restart(alloc, schedule, solver)?;
+    let found = search_on(solver, effort, budget)?;
+    end_restart(alloc, shape, solver, schedule, near, effort, found)
+}
+
+/// Searches by restarts, plainly and near the orders of instants by turns.
 fn search_by_restarts(
     alloc: Global,
     shape: &Shape,
     solver: &mut Solver,
     effort: Effort,
-) -> Result<Option<Solved>, OutOfMemory> {
-    let rows = solver.problem.spans.len();
-    let mut schedule = schedule_for(rows);
+) -> Result<Ended, OutOfMemory> {
+    let mut schedule = schedule_for(solver.problem.spans.len());
     for _ in 0..u64::MAX {
-        let found = try_beam(alloc, shape, solver, &mut schedule, effort)?;
-        if found.is_some() {
-            return Ok(found);
-        }
-        let (budget, near) = begin_restart(alloc, &mut schedule, solver)?;
-        match search_on(solver, effort, budget)? {
-            Found::NoOrder => return Ok(None),
-            Found::All => match try_found(alloc, shape, solver)? {
-                Tried::Good(decisions) => return Ok(Some(Solved::Order(decisions))),
-                Tried::Blocked => {}
-                Tried::NoOrder => return Ok(None),
-            },
-            Found::NotAssumed => {
-                if let Some(place) = near {
-                    widen(&mut schedule.nears, place, rows);
-                }
-            }
-            Found::Spent => {
-                if is_over(solver, effort) {
-                    return Ok(Some(Solved::Unknown));
-                }
-            }
+        let ended = restart(alloc, shape, solver, &mut schedule, effort)?;
+        if let Some(ended) = ended {
+            return Ok(ended);
         }
     }
-    Ok(Some(Solved::Unknown))
+    Ok(Ended::Spent)
 }
 
-/// The refutation that the search wrote down, if it did.
-fn refuted(alloc: Global, solver: &Solver) -> Result<Solved, OutOfMemory> {
-    let found = refutation_of(alloc, &solver.problem, &solver.log.steps, solver.log.last)?;
-    match found {
-        Some(refutation) => Ok(Solved::Refuted(refutation)),
-        None => Ok(Solved::Unknown),
+/// The refutation that the search wrote down. None where it wrote nothing down.
+fn refuted(alloc: Global, solver: &Solver) -> Result<Option<Solved>, OutOfMemory> {
+    let (steps, last) = (&solver.log.steps, solver.log.last);
+    if last == NONE {
+        return Ok(None);
+    }
+    match refutation_of(alloc, &solver.problem, steps, last)? {
+        Some(refutation) => Ok(Some(Solved::Refuted(refutation))),
+        None => Ok(Some(Solved::Unknown)),
     }
 }
 
@@ -363,37 +405,44 @@ fn refuted_by(alloc: Global, law: ObjectLaw) -> Result<Solved, OutOfMemory> {
     Ok(Solved::Refuted(Refutation { atoms, steps }))
 }
 
-/// Searches, and gives the order that it found or the steps that it wrote down. None where there is no order, and nothing was written
-/// down of that.
-fn search_for(
+/// Searches for an order of the problem.
+fn search_problem(
+    alloc: Global,
+    shape: &Shape,
+    solver: &mut Solver,
+    effort: Effort,
+) -> Result<Ended, OutOfMemory> {
+    prepare(solver)?;
+    if begin(solver)? {
+        search_by_restarts(alloc, shape, solver, effort)
+    } else {
+        Ok(Ended::NoOrder)
+    }
+}
+
+/// Reads what the history asks, and searches for an order of it. None where there is no order, and nothing was written down of that.
+fn read_and_search(
     alloc: Global,
     shape: &Shape,
     solver: &mut Solver,
     effort: Effort,
 ) -> Result<Option<Solved>, OutOfMemory> {
-    prepare(solver)?;
-    if begin(solver)? {
-        let found = search_by_restarts(alloc, shape, solver, effort)?;
-        if found.is_some() {
-            return Ok(found);
+    match read(alloc, shape, &mut solver.problem)? {
+        Encoded::Whole => {}
+        Encoded::Large => return Ok(Some(Solved::Unknown)),
+        Encoded::Clash(tx, object, cell) => {
+            let law = law_of_clash(shape, tx, object, cell);
+            return Ok(Some(refuted_by(alloc, law)?));
         }
     }
-    if solver.log.last == NONE {
-        return Ok(None);
+    match search_problem(alloc, shape, solver, effort)? {
+        Ended::Spent => Ok(Some(Solved::Unknown)),
+        Ended::NoOrder => refuted(alloc, solver),
+        Ended::Order => {
+            let order = std::mem::replace(&mut solver.order, Vec::new(alloc));
+            Ok(Some(Solved::Order(order)))
+        }
     }
-    Ok(Some(refuted(alloc, solver)?))
-}
-
-/// Searches for an order of the problem.
-fn search_problem(
-    alloc: Global,
-    shape: &Shape,
-    problem: Problem,
-    effort: Effort,
-    logs: bool,
-) -> Result<Option<Solved>, OutOfMemory> {
-    let mut solver = solver_of(alloc, problem, logs)?;
-    search_for(alloc, shape, &mut solver, effort)
 }
 
 /// Searches once, and writes its steps down, if that is asked for.
@@ -408,14 +457,8 @@ fn search_once(
         most: effort.work,
         bytes: effort.bytes,
     };
-    match read(alloc, shape, allowance)? {
-        Encoded::Problem(problem) => search_problem(alloc, shape, problem, effort, logs),
-        Encoded::Clash(tx, object, cell) => {
-            let law = law_of_clash(shape, tx, object, cell);
-            Ok(Some(refuted_by(alloc, law)?))
-        }
-        Encoded::Large => Ok(Some(Solved::Unknown)),
-    }
+    let mut solver = solver_of(alloc, allowance, logs);
+    read_and_search(alloc, shape, &mut solver, effort)
 }
 
 /// Searches for an order that shows the history, or for steps that refute it, within the effort. The order is tried; whoever needs it

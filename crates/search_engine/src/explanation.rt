@@ -1,26 +1,18 @@
 //! The literals that force another one.
 
 use crate::betweens::clause_of;
-use crate::cells::Cells;
-use crate::encoding::{LITERALS, Origin, Role};
-use crate::known::{Antecedent, Assigned, Conflict, Known, UNKNOWN, place_if, value};
-use crate::literals::{FALSE, NONE, TRUE, at, neg, push, range, var};
+use crate::encoding::{Clauses, LITERALS, Role};
+use crate::known::{Antecedent, Conflict, Known, place_if};
+use crate::literals::{FALSE, NONE, TRUE, Table, neg, var};
+use crate::problem::Problem;
 use crate::spans::{Span, before};
-use crate::sums::{NO_SUM, NO_TERM, Sum, Sums, Term};
-use aud_event::OutOfMemory;
+use crate::sums::{Sum, Term};
 
-/// What explanations are read from.
-#[derive(Drop)]
+/// What explanations are read from: what is asked, and what is known.
+#[derive(Clone, Copy)]
 pub(crate) struct View<'a> {
-    pub values: &'a [i8],
-    pub states: &'a [Assigned],
-    pub arena: &'a [u32],
-    pub origins: &'a [Origin],
-    pub roles: &'a [Role],
-    pub spans: &'a [Span],
-    pub cells: &'a Cells,
-    pub sums: &'a [Sum],
-    pub terms: &'a [Term],
+    pub problem: &'a Problem,
+    pub known: &'a Known,
 }
 
 /// A term that contributes to a forced bound: since which place of the trail it does, by how much, and its number.
@@ -31,26 +23,32 @@ pub(crate) struct Contribution {
     term: usize,
 }
 
+pub(crate) const NO_CONTRIBUTION: Contribution = Contribution {
+    place: 0,
+    gain: 0,
+    term: 0,
+};
+
 /// Adds the opposites of the clause's literals other than the forced one. They hold.
-fn add_others(literals: &[u32], forced: u32, out: &mut Vec<u32>) -> Result<(), OutOfMemory> {
+fn add_others(literals: &[u32], forced: u32, out: &mut Table<u32>) {
     for literal in literals {
         if *literal != forced && var(*literal) != 0 {
-            push(out, neg(*literal))?;
+            out.add(neg(*literal));
         }
     }
-    Ok(())
 }
 
 /// The literals of the clause at the place.
-pub(crate) fn literals_of(arena: &[u32], clause: u32) -> &[u32] {
+pub(crate) fn literals_of(clauses: &Clauses, clause: u32) -> &[u32] {
     let place = clause as usize;
     let from = place.wrapping_add(LITERALS);
-    range(arena, from, from.wrapping_add(at(arena, place, 0) as usize))
+    let length = clauses.arena.at(place) as usize;
+    clauses.arena.range(from, from.wrapping_add(length))
 }
 
 /// The two rows of a literal of a pair, the one that stands before first.
-pub(crate) fn pair_of(roles: &[Role], literal: u32) -> Option<(usize, usize)> {
-    match at(roles, var(literal), Role::Nothing) {
+pub(crate) fn pair_of(roles: &Table<Role>, literal: u32) -> Option<(usize, usize)> {
+    match roles.at(var(literal)) {
         Role::Precedence(row, other) => {
             let (row, other) = (row as usize, other as usize);
             if literal & 1 == 0 {
@@ -64,71 +62,57 @@ pub(crate) fn pair_of(roles: &[Role], literal: u32) -> Option<(usize, usize)> {
 }
 
 /// The literals of a circle over the pair, but for the one that the first row stands before the last.
-fn add_circle(
-    spans: &[Span],
-    ends: (usize, usize),
-    pair: (usize, usize),
-    out: &mut Vec<u32>,
-) -> Result<(), OutOfMemory> {
+fn add_circle(spans: &[Span], ends: (usize, usize), pair: (usize, usize), out: &mut Table<u32>) {
     let steps = [(ends.0, pair.0), pair, (pair.1, ends.1)];
     for (row, other) in &steps {
         let literal = before(spans, *row, *other);
         if *row != *other && literal != TRUE {
-            push(out, literal)?;
+            out.add(literal);
         }
     }
-    Ok(())
 }
 
 /// Whether the term was known to hold or to fail before that place.
-fn is_known(values: &[i8], states: &[Assigned], term: &Term, limit: u32) -> bool {
+fn is_known(known: &Known, term: &Term, limit: u32) -> bool {
     let [first, second] = term.literals;
-    let fails = place_if(values, states, first, -1).min(place_if(values, states, second, -1));
-    let holds = place_if(values, states, first, 1).max(place_if(values, states, second, 1));
+    let fails = place_if(known, first, -1).min(place_if(known, second, -1));
+    let holds = place_if(known, first, 1).max(place_if(known, second, 1));
     fails < limit || holds < limit
 }
 
 /// When the term came to raise the least of the sum, or to lower the greatest, or never.
-fn contributes_at(values: &[i8], states: &[Assigned], term: &Term, rises: bool) -> u32 {
+fn contributes_at(known: &Known, term: &Term, rises: bool) -> u32 {
     let [first, second] = term.literals;
     if rises {
-        place_if(values, states, first, 1).max(place_if(values, states, second, 1))
+        place_if(known, first, 1).max(place_if(known, second, 1))
     } else {
-        place_if(values, states, first, -1).min(place_if(values, states, second, -1))
+        place_if(known, first, -1).min(place_if(known, second, -1))
     }
 }
 
 /// Adds the literals by which the term contributes.
-fn add_contribution(
-    values: &[i8],
-    states: &[Assigned],
-    term: &Term,
-    rises: bool,
-    out: &mut Vec<u32>,
-) -> Result<(), OutOfMemory> {
+fn add_contribution(known: &Known, term: &Term, rises: bool, out: &mut Table<u32>) {
     let [first, second] = term.literals;
     if rises {
         for literal in &term.literals {
             if *literal != TRUE {
-                push(out, *literal)?;
+                out.add(*literal);
             }
         }
-        return Ok(());
+        return;
     }
-    let one = place_if(values, states, first, -1);
-    let other = place_if(values, states, second, -1);
-    push(out, neg(if one <= other { first } else { second }))?;
-    Ok(())
+    let one = place_if(known, first, -1);
+    let other = place_if(known, second, -1);
+    out.add(neg(if one <= other { first } else { second }));
 }
 
 /// Adds the literal of the term beside that one, unless it holds in any case.
-fn add_partner(literals: [u32; 2], one: u32, out: &mut Vec<u32>) -> Result<(), OutOfMemory> {
+fn add_partner(literals: [u32; 2], one: u32, out: &mut Table<u32>) {
     let [first, second] = literals;
     let other = if first == one { second } else { first };
     if other != TRUE {
-        push(out, other)?;
+        out.add(other);
     }
-    Ok(())
 }
 
 /// Finds the terms that contribute to the bound before the limit, the forced literal's own term aside, whose other literal is added. It gives
@@ -139,14 +123,14 @@ fn find_contributions(
     is_low: bool,
     forced: u32,
     limit: u32,
-    contributions: &mut Vec<Contribution>,
-    out: &mut Vec<u32>,
-) -> Result<i64, OutOfMemory> {
+    contributions: &mut Table<Contribution>,
+    out: &mut Table<u32>,
+) -> i64 {
     let sign: i64 = if is_low { 1 } else { -1 };
     let mut lacks = sum.wanted.wrapping_mul(sign).wrapping_add(1);
     let mut is_found = forced == FALSE;
     for place in sum.from..sum.to {
-        let term = at(view.terms, place, NO_TERM);
+        let term = view.problem.sums.terms.at(place);
         let gain = term.gain.wrapping_mul(sign);
         let rises = gain > 0;
         if !rises {
@@ -154,28 +138,25 @@ fn find_contributions(
         }
         let wanted = if rises { neg(forced) } else { forced };
         let is_own = !is_found && term.literals.contains(&wanted);
-        if is_own && !is_known(view.values, view.states, &term, limit) {
+        if is_own && !is_known(view.known, &term, limit) {
             is_found = true;
             lacks = lacks.wrapping_sub(gain.wrapping_abs());
             if rises {
-                add_partner(term.literals, wanted, out)?;
+                add_partner(term.literals, wanted, out);
             }
             continue;
         }
-        let came = contributes_at(view.values, view.states, &term, rises);
+        let came = contributes_at(view.known, &term, rises);
         if came < limit {
             let gain = gain.wrapping_abs();
-            push(
-                contributions,
-                Contribution {
-                    place: came,
-                    gain,
-                    term: place,
-                },
-            )?;
+            contributions.add(Contribution {
+                place: came,
+                gain,
+                term: place,
+            });
         }
     }
-    Ok(lacks)
+    lacks
 }
 
 /// The literals that force the least of the sum above what is wanted, or the greatest below it, before the limit: the earliest ones that
@@ -186,93 +167,94 @@ pub(crate) fn add_bound(
     is_low: bool,
     forced: u32,
     limit: u32,
-    contributions: &mut Vec<Contribution>,
-    out: &mut Vec<u32>,
-) -> Result<(), OutOfMemory> {
-    let sum = at(view.sums, number as usize, NO_SUM);
+    contributions: &mut Table<Contribution>,
+    out: &mut Table<u32>,
+) {
+    let sum = view.problem.sums.sums.at(number as usize);
     contributions.clear();
-    let mut lacks = find_contributions(view, &sum, is_low, forced, limit, contributions, out)?;
-    contributions.sort_unstable();
-    for contribution in contributions.iter() {
+    let mut lacks = find_contributions(view, &sum, is_low, forced, limit, contributions, out);
+    contributions.items_mut().sort_unstable();
+    for contribution in contributions.items() {
         if lacks <= 0 {
             break;
         }
         lacks = lacks.wrapping_sub(contribution.gain);
-        let term = at(view.terms, contribution.term, NO_TERM);
-        add_contribution(
-            view.values,
-            view.states,
-            &term,
-            (term.gain > 0) == is_low,
-            out,
-        )?;
+        let term = view.problem.sums.terms.at(contribution.term);
+        add_contribution(view.known, &term, (term.gain > 0) == is_low, out);
     }
     if sum.guard != TRUE && forced != neg(sum.guard) {
-        push(out, sum.guard)?;
+        out.add(sum.guard);
     }
-    Ok(())
+}
+
+/// Adds the literals of a source's clause other than the forced one, as they hold.
+fn add_between(view: &View<'_>, source: u32, writer: u32, forced: u32, out: &mut Table<u32>) {
+    let clause = clause_of(&view.problem.cells, &view.problem.spans, source, writer);
+    add_others(&clause, forced, out)
 }
 
 /// Adds the literals that force this one.
 pub(crate) fn explain(
     view: &View<'_>,
     literal: u32,
-    contributions: &mut Vec<Contribution>,
-    out: &mut Vec<u32>,
-) -> Result<(), OutOfMemory> {
-    let state = at(view.states, var(literal), UNKNOWN);
+    contributions: &mut Table<Contribution>,
+    out: &mut Table<u32>,
+) {
+    let state = view.known.state(literal);
+    let limit = state.place;
     match state.antecedent {
-        Antecedent::Choice => Ok(()),
-        Antecedent::Clause(clause) => add_others(literals_of(view.arena, clause), literal, out),
-        Antecedent::Circle(row, other) => match pair_of(view.roles, literal) {
-            Some(ends) => add_circle(view.spans, ends, (row as usize, other as usize), out),
-            None => Ok(()),
+        Antecedent::Choice => {}
+        Antecedent::Clause(clause) => add_others(
+            literals_of(&view.problem.clauses, clause),
+            literal,
+            out,
+        ),
+        Antecedent::Between(source, writer) => add_between(view, source, writer, literal, out),
+        Antecedent::Circle(row, other) => match pair_of(&view.problem.variables.roles, literal) {
+            Some(ends) => add_circle(
+                &view.problem.spans,
+                ends,
+                (row as usize, other as usize),
+                out,
+            ),
+            None => {}
         },
-        Antecedent::Between(source, writer) => {
-            let clause = clause_of(view.cells, view.spans, source, writer);
-            add_others(&clause, literal, out)
-        }
-        Antecedent::Low(sum) => add_bound(
-            view,
-            sum,
-            true,
-            literal,
-            state.place,
-            contributions,
-            out,
-        ),
-        Antecedent::High(sum) => add_bound(
-            view,
-            sum,
-            false,
-            literal,
-            state.place,
-            contributions,
-            out,
-        ),
+        Antecedent::Low(sum) => add_bound(view, sum, true, literal, limit, contributions, out),
+        Antecedent::High(sum) => add_bound(view, sum, false, literal, limit, contributions, out),
     }
+}
+
+/// Adds the literals of the circle.
+fn add_whole_circle(
+    spans: &[Span],
+    (row, other): (usize, usize),
+    pair: (usize, usize),
+    out: &mut Table<u32>,
+) {
+    let literal = before(spans, other, row);
+    if row != other && literal != TRUE {
+        out.add(literal);
+    }
+    add_circle(spans, (row, other), pair, out)
 }
 
 /// Adds the literals that hold, and cannot all do.
 pub(crate) fn explain_conflict(
     view: &View<'_>,
     conflict: Conflict,
-    contributions: &mut Vec<Contribution>,
-    out: &mut Vec<u32>,
-) -> Result<(), OutOfMemory> {
+    contributions: &mut Table<Contribution>,
+    out: &mut Table<u32>,
+) {
     match conflict {
-        Conflict::Clause(clause) => add_others(literals_of(view.arena, clause), FALSE, out),
+        Conflict::Clause(clause) => add_others(
+            literals_of(&view.problem.clauses, clause),
+            FALSE,
+            out,
+        ),
         Conflict::Circle(row, from, to, other) => {
-            let literal = before(view.spans, other, row);
-            if row != other && literal != TRUE {
-                push(out, literal)?;
-            }
-            add_circle(view.spans, (row, other), (from, to), out)
+            add_whole_circle(&view.problem.spans, (row, other), (from, to), out)
         }
-        Conflict::Between(source, writer) => {
-            let clause = clause_of(view.cells, view.spans, source, writer);
-            add_others(&clause, FALSE, out)
-        }
+        Conflict::Between(source, writer) => add_between(view, source, writer, FALSE, out),
         Conflict::Sum(sum, is_low) => add_bound(view, sum, is_low, FALSE, NONE, contributions, out),
     }
 }

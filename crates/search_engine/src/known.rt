@@ -1,7 +1,6 @@
 //! What is assigned: which literals hold, since when and why.
 
-use crate::literals::{FALSE, NONE, TRUE, at, fill, neg, set, short, var};
-use aud_event::OutOfMemory;
+use crate::literals::{FALSE, NONE, TRUE, Table, neg, short, var};
 use std::alloc::Global;
 
 /// Why a literal holds.
@@ -47,15 +46,15 @@ pub(crate) enum Conflict {
 #[derive(Drop)]
 pub(crate) struct Known {
     /// Of each literal 1 if it holds, -1 if it fails, and else 0.
-    pub values: Vec<i8>,
-    pub states: Vec<Assigned>,
-    pub trail: Vec<u32>,
+    pub values: Table<i8>,
+    pub states: Table<Assigned>,
+    pub trail: Table<u32>,
     pub count: usize,
     /// How many of them were followed by clauses, and by the rest.
     pub seen: usize,
     pub propagated: usize,
     /// Where each level begins.
-    pub levels: Vec<usize>,
+    pub levels: Table<usize>,
     /// The work that was done.
     pub work: u64,
 }
@@ -64,51 +63,63 @@ impl Known {
     /// Nothing is known. It does not allocate.
     pub(crate) fn empty(alloc: Global) -> Known {
         Known {
-            values: Vec::new(alloc),
-            states: Vec::new(alloc),
-            trail: Vec::new(alloc),
+            values: Table::new(alloc, 0),
+            states: Table::new(alloc, UNKNOWN),
+            trail: Table::new(alloc, TRUE),
             count: 0,
             seen: 0,
             propagated: 0,
-            levels: Vec::new(alloc),
+            levels: Table::new(alloc, 0),
             work: 0,
         }
+    }
+
+    /// Whether some growth was refused.
+    pub(crate) fn is_short(&self) -> bool {
+        self.values.is_short()
+            || self.states.is_short()
+            || self.trail.is_short()
+            || self.levels.is_short()
+    }
+
+    /// Whether the literal holds, 1, fails, -1, or is open.
+    pub(crate) fn value(&self, literal: u32) -> i8 {
+        self.values.at(literal as usize)
+    }
+
+    /// Since when and why the literal's variable is assigned.
+    pub(crate) fn state(&self, literal: u32) -> Assigned {
+        self.states.at(var(literal))
     }
 }
 
 /// Room for so many variables.
-pub(crate) fn make_room(known: &mut Known, count: usize) -> Result<(), OutOfMemory> {
-    fill(&mut known.values, count.saturating_mul(2), 0)?;
-    fill(&mut known.states, count, UNKNOWN)?;
-    fill(&mut known.trail, count, TRUE)?;
-    set(&mut known.values, TRUE as usize, 1);
-    set(&mut known.values, FALSE as usize, -1);
-    Ok(())
-}
-
-/// Whether the literal holds, 1, fails, -1, or is open.
-pub(crate) fn value(values: &[i8], literal: u32) -> i8 {
-    at(values, literal as usize, 0)
+pub(crate) fn make_room(known: &mut Known, count: usize) {
+    known.values.fill(count.saturating_mul(2));
+    known.states.fill(count);
+    known.trail.fill(count);
+    known.values.set(TRUE as usize, 1);
+    known.values.set(FALSE as usize, -1);
 }
 
 /// The literal holds from now on.
 pub(crate) fn assign(known: &mut Known, literal: u32, antecedent: Antecedent) {
-    set(&mut known.values, literal as usize, 1);
-    set(&mut known.values, neg(literal) as usize, -1);
+    known.values.set(literal as usize, 1);
+    known.values.set(neg(literal) as usize, -1);
     let state = Assigned {
         level: short(known.levels.len()),
         place: short(known.count).wrapping_add(1),
         antecedent,
     };
-    set(&mut known.states, var(literal), state);
-    set(&mut known.trail, known.count, literal);
+    known.states.set(var(literal), state);
+    known.trail.set(known.count, literal);
     known.count = known.count.wrapping_add(1);
 }
 
-/// When the variable was assigned, or never.
-pub(crate) fn place_if(values: &[i8], states: &[Assigned], literal: u32, wanted: i8) -> u32 {
-    if value(values, literal) == wanted {
-        at(states, var(literal), UNKNOWN).place
+/// When the literal came to have the wanted value, or never.
+pub(crate) fn place_if(known: &Known, literal: u32, wanted: i8) -> u32 {
+    if known.value(literal) == wanted {
+        known.state(literal).place
     } else {
         NONE
     }

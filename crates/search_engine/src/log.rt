@@ -3,10 +3,8 @@
 use crate::analysis::Analysis;
 use crate::encoding::{ORIGIN, Origin, STEP};
 use crate::explanation::{Contribution, View, explain, literals_of, pair_of};
-use crate::known::{Antecedent, Conflict, UNKNOWN};
-use crate::literals::{NONE, at, extend_by, fill, neg, push, range, set, short, var};
-use crate::sums::NO_SUM;
-use aud_event::OutOfMemory;
+use crate::known::{Antecedent, Conflict};
+use crate::literals::{NONE, Table, neg, short, var};
 use std::alloc::Global;
 
 /// What a step follows from: its origin alone, or the steps that the hints between these places name.
@@ -33,9 +31,9 @@ pub(crate) const NOT_LOGGED: Logged = Logged {
 /// The steps, with their literals and hints.
 #[derive(Drop)]
 pub(crate) struct StepLog {
-    pub steps: Vec<Logged>,
-    pub literals: Vec<u32>,
-    pub hints: Vec<u32>,
+    pub steps: Table<Logged>,
+    pub literals: Table<u32>,
+    pub hints: Table<u32>,
 }
 
 /// A literal or a step by the place of the trail that it is about.
@@ -59,13 +57,13 @@ pub(crate) struct Log {
     pub last: u32,
     /// For each origin of a clause the step that gives it; for each variable the step that gives the literal which holds in any case, and
     /// the last step that it was forced by.
-    origins: Vec<u32>,
-    units: Vec<u32>,
-    forced: Vec<u32>,
-    is_needed: Vec<bool>,
-    needed: Vec<Placed>,
-    todo: Vec<u32>,
-    clause: Vec<u32>,
+    origins: Table<u32>,
+    units: Table<u32>,
+    forced: Table<u32>,
+    is_needed: Table<bool>,
+    needed: Table<Placed>,
+    todo: Table<u32>,
+    clause: Table<u32>,
 }
 
 impl Log {
@@ -74,28 +72,45 @@ impl Log {
         Log {
             is_on,
             steps: StepLog {
-                steps: Vec::new(alloc),
-                literals: Vec::new(alloc),
-                hints: Vec::new(alloc),
+                steps: Table::new(alloc, NOT_LOGGED),
+                literals: Table::new(alloc, 0),
+                hints: Table::new(alloc, NONE),
             },
             last: NONE,
-            origins: Vec::new(alloc),
-            units: Vec::new(alloc),
-            forced: Vec::new(alloc),
-            is_needed: Vec::new(alloc),
-            needed: Vec::new(alloc),
-            todo: Vec::new(alloc),
-            clause: Vec::new(alloc),
+            origins: Table::new(alloc, NONE),
+            units: Table::new(alloc, NONE),
+            forced: Table::new(alloc, NONE),
+            is_needed: Table::new(alloc, false),
+            needed: Table::new(alloc, NOT_PLACED),
+            todo: Table::new(alloc, 0),
+            clause: Table::new(alloc, 0),
         }
+    }
+
+    /// Whether some growth was refused.
+    pub(crate) fn is_short(&self) -> bool {
+        let steps = &self.steps;
+        let has_all_steps = !steps.steps.is_short()
+            && !steps.literals.is_short()
+            && !steps.hints.is_short();
+        let has_numbers = !self.origins.is_short()
+            && !self.units.is_short()
+            && !self.forced.is_short();
+        let has_needed = !self.is_needed.is_short() && !self.needed.is_short();
+        !has_all_steps
+            || !has_numbers
+            || !has_needed
+            || self.todo.is_short()
+            || self.clause.is_short()
     }
 }
 
 /// Room for so many variables and origins.
-pub(crate) fn make_log(log: &mut Log, variables: usize, origins: usize) -> Result<(), OutOfMemory> {
-    fill(&mut log.origins, origins, NONE)?;
-    fill(&mut log.units, variables, NONE)?;
-    fill(&mut log.forced, variables, NONE)?;
-    fill(&mut log.is_needed, variables, false)
+pub(crate) fn make_log(log: &mut Log, variables: usize, origins: usize) {
+    log.origins.fill(origins);
+    log.units.fill(variables);
+    log.forced.fill(variables);
+    log.is_needed.fill(variables);
 }
 
 /// How many bytes the steps take, about.
@@ -106,56 +121,61 @@ pub(crate) fn bytes_logged(steps: &StepLog) -> usize {
 }
 
 /// Adds a step, and gives its number.
-fn add_step(steps: &mut StepLog, literals: &[u32], why: Why) -> Result<u32, OutOfMemory> {
+fn add_step(steps: &mut StepLog, literals: &[u32], why: Why) -> u32 {
     let number = short(steps.steps.len());
     let from = steps.literals.len();
-    extend_by(&mut steps.literals, literals)?;
+    steps.literals.add_all(literals);
     let to = steps.literals.len();
-    push(&mut steps.steps, Logged { from, to, why })?;
-    Ok(number)
+    steps.steps.add(Logged { from, to, why });
+    number
 }
 
 /// The step that gives the clause.
 fn step_of_clause(
     steps: &mut StepLog,
-    origins: &mut [u32],
+    origins: &mut Table<u32>,
     view: &View<'_>,
     clause: u32,
-) -> Result<u32, OutOfMemory> {
+) -> u32 {
     let place = clause as usize;
-    let origin = at(view.arena, place.wrapping_add(ORIGIN), NONE);
+    let clauses = &view.problem.clauses;
+    let origin = clauses.arena.at(place.wrapping_add(ORIGIN));
     if origin == NONE {
-        return Ok(at(view.arena, place.wrapping_add(STEP), NONE));
+        return clauses.arena.at(place.wrapping_add(STEP));
     }
-    let known = at(origins, origin as usize, NONE);
+    let known = origins.at(origin as usize);
     if known != NONE {
-        return Ok(known);
+        return known;
     }
-    let why = Why::Origin(at(view.origins, origin as usize, Origin::Tried));
-    let number = add_step(steps, literals_of(view.arena, clause), why)?;
-    set(origins, origin as usize, number);
-    Ok(number)
+    let why = Why::Origin(clauses.origins.at(origin as usize));
+    let number = add_step(steps, literals_of(clauses, clause), why);
+    origins.set(origin as usize, number);
+    number
 }
 
 /// Why the literals force this one, where no clause does.
 fn origin_of(view: &View<'_>, literal: u32, antecedent: Antecedent) -> Origin {
     match antecedent {
-        Antecedent::Circle(row, other) => match pair_of(view.roles, literal) {
+        Antecedent::Circle(row, other) => match pair_of(&view.problem.variables.roles, literal) {
             Some((first, last)) => Origin::Circle(short(first), row, other, short(last)),
             None => Origin::Tried,
         },
         Antecedent::Between(source, writer) => Origin::Between(source, writer),
-        Antecedent::Low(sum) | Antecedent::High(sum) => at(view.sums, sum as usize, NO_SUM).origin,
+        Antecedent::Low(sum) | Antecedent::High(sum) => view
+            .problem
+            .sums
+            .sums
+            .at(sum as usize)
+            .origin,
         Antecedent::Choice | Antecedent::Clause(_) => Origin::Tried,
     }
 }
 
 /// Whether the step has these literals.
 fn is_step(steps: &StepLog, number: u32, literals: &[u32]) -> bool {
-    match steps.steps.get(number as usize) {
-        Some(step) => *range(&steps.literals, step.from, step.to) == *literals,
-        None => false,
-    }
+    let step = steps.steps.at(number as usize);
+    let is_there = (number as usize) < steps.steps.len();
+    is_there && *steps.literals.range(step.from, step.to) == *literals
 }
 
 /// Turns the literals into their opposites.
@@ -167,38 +187,37 @@ fn turn_all(literals: &mut [u32]) {
 
 /// Puts the literals to the clause by which they force this one.
 fn make_clause(
-    clause: &mut Vec<u32>,
+    clause: &mut Table<u32>,
     view: &View<'_>,
-    contributions: &mut Vec<Contribution>,
+    contributions: &mut Table<Contribution>,
     literal: u32,
-) -> Result<(), OutOfMemory> {
+) {
     clause.clear();
-    explain(view, literal, contributions, clause)?;
-    turn_all(clause);
-    push(clause, literal)?;
-    Ok(())
+    explain(view, literal, contributions, clause);
+    turn_all(clause.items_mut());
+    clause.add(literal);
 }
 
 /// The step whose clause forced the literal. If it is the same as when one was last made of it, that one is taken.
 fn step_of(
     log: &mut Log,
     view: &View<'_>,
-    contributions: &mut Vec<Contribution>,
+    contributions: &mut Table<Contribution>,
     literal: u32,
-) -> Result<u32, OutOfMemory> {
-    let antecedent = at(view.states, var(literal), UNKNOWN).antecedent;
+) -> u32 {
+    let antecedent = view.known.state(literal).antecedent;
     if let Antecedent::Clause(clause) = antecedent {
         return step_of_clause(&mut log.steps, &mut log.origins, view, clause);
     }
-    make_clause(&mut log.clause, view, contributions, literal)?;
-    let known = at(&log.forced, var(literal), NONE);
-    if is_step(&log.steps, known, &log.clause) {
-        return Ok(known);
+    make_clause(&mut log.clause, view, contributions, literal);
+    let known = log.forced.at(var(literal));
+    if is_step(&log.steps, known, log.clause.items()) {
+        return known;
     }
     let why = Why::Origin(origin_of(view, literal, antecedent));
-    let number = add_step(&mut log.steps, &log.clause, why)?;
-    set(&mut log.forced, var(literal), number);
-    Ok(number)
+    let number = add_step(&mut log.steps, log.clause.items(), why);
+    log.forced.set(var(literal), number);
+    number
 }
 
 /// Why the conflict cannot be, if it is of no clause.
@@ -209,35 +228,30 @@ fn origin_of_conflict(view: &View<'_>, conflict: Conflict) -> Origin {
             Origin::Circle(short(row), short(from), short(to), short(other))
         }
         Conflict::Between(source, writer) => Origin::Between(source, writer),
-        Conflict::Sum(sum, _) => at(view.sums, sum as usize, NO_SUM).origin,
+        Conflict::Sum(sum, _) => view.problem.sums.sums.at(sum as usize).origin,
     }
 }
 
 /// Notes the step of what cannot be. The literals are those that hold and cannot all do.
-pub(crate) fn log_conflict(
-    log: &mut Log,
-    view: &View<'_>,
-    conflict: Conflict,
-    literals: &[u32],
-) -> Result<(), OutOfMemory> {
+pub(crate) fn log_conflict(log: &mut Log, view: &View<'_>, conflict: Conflict, literals: &[u32]) {
     if let Conflict::Clause(clause) = conflict {
-        log.last = step_of_clause(&mut log.steps, &mut log.origins, view, clause)?;
-        return Ok(());
+        log.last = step_of_clause(&mut log.steps, &mut log.origins, view, clause);
+        return;
     }
     log.clause.clear();
-    extend_by(&mut log.clause, literals)?;
-    turn_all(&mut log.clause);
+    log.clause.add_all(literals);
+    turn_all(log.clause.items_mut());
     let why = Why::Origin(origin_of_conflict(view, conflict));
-    log.last = add_step(&mut log.steps, &log.clause, why)?;
-    Ok(())
+    log.last = add_step(&mut log.steps, log.clause.items(), why);
 }
 
 /// Takes the next literal of which no step is needed yet, and notes that one is.
-fn take_needed(todo: &mut Vec<u32>, is_needed: &mut [bool]) -> Option<u32> {
+fn take_needed(todo: &mut Table<u32>, is_needed: &mut Table<bool>) -> Option<u32> {
     for _ in 0..todo.len() {
         let literal = todo.pop()?;
-        if var(literal) != 0 && !at(is_needed, var(literal), true) {
-            set(is_needed, var(literal), true);
+        let variable = var(literal);
+        if variable != 0 && variable < is_needed.len() && !is_needed.at(variable) {
+            is_needed.set(variable, true);
             return Some(literal);
         }
     }
@@ -245,9 +259,9 @@ fn take_needed(todo: &mut Vec<u32>, is_needed: &mut [bool]) -> Option<u32> {
 }
 
 /// No step of them is needed.
-fn forget_needed(needed: &[Placed], is_needed: &mut [bool]) {
+fn forget_needed(needed: &[Placed], is_needed: &mut Table<bool>) {
     for found in needed {
-        set(is_needed, var(found.number), false);
+        is_needed.set(var(found.number), false);
     }
 }
 
@@ -255,159 +269,176 @@ fn forget_needed(needed: &[Placed], is_needed: &mut [bool]) {
 fn find_needed(
     log: &mut Log,
     view: &View<'_>,
-    contributions: &mut Vec<Contribution>,
+    contributions: &mut Table<Contribution>,
     literals: &[u32],
-) -> Result<(), OutOfMemory> {
+) {
     log.needed.clear();
     log.todo.clear();
-    extend_by(&mut log.todo, literals)?;
+    log.todo.add_all(literals);
     for _ in 0..u64::MAX {
         let Some(number) = take_needed(&mut log.todo, &mut log.is_needed) else {
             break;
         };
-        let place = at(view.states, var(number), UNKNOWN).place;
-        push(&mut log.needed, Placed { place, number })?;
-        if at(&log.units, var(number), NONE) == NONE {
-            explain(view, number, contributions, &mut log.todo)?;
+        let place = view.known.state(number).place;
+        log.needed.add(Placed { place, number });
+        if log.units.at(var(number)) == NONE {
+            explain(view, number, contributions, &mut log.todo);
         }
     }
-    log.needed.sort_unstable();
-    forget_needed(&log.needed, &mut log.is_needed);
-    Ok(())
+    log.needed.items_mut().sort_unstable();
+    forget_needed(log.needed.items(), &mut log.is_needed);
+}
+
+/// Puts the steps to the hints that give the literals.
+fn add_givers(hints: &mut Table<u32>, units: &Table<u32>, literals: &[u32]) {
+    for literal in literals {
+        hints.add(units.at(var(*literal)));
+    }
+}
+
+/// The step that the literal holds in any case, which follows from that step and from those that give the others; it is added, but where
+/// there are no others, as then that step says so.
+fn add_unit(
+    steps: &mut StepLog,
+    units: &Table<u32>,
+    literal: u32,
+    others: &[u32],
+    step: u32,
+) -> u32 {
+    if others.is_empty() {
+        return step;
+    }
+    let from = steps.hints.len();
+    add_givers(&mut steps.hints, units, others);
+    steps.hints.add(step);
+    let to = steps.hints.len();
+    add_step(steps, &[literal], Why::Units(from, to))
 }
 
 /// Adds the step that the literal holds in any case, which follows from the step that forced it and from earlier such ones.
-fn log_unit(
-    log: &mut Log,
-    view: &View<'_>,
-    contributions: &mut Vec<Contribution>,
-    literal: u32,
-) -> Result<(), OutOfMemory> {
-    let step = step_of(log, view, contributions, literal)?;
-    let from = log.steps.hints.len();
+fn log_unit(log: &mut Log, view: &View<'_>, contributions: &mut Table<Contribution>, literal: u32) {
+    let step = step_of(log, view, contributions, literal);
     log.clause.clear();
-    explain(view, literal, contributions, &mut log.clause)?;
-    for other in log.clause.iter() {
-        push(&mut log.steps.hints, at(&log.units, var(*other), NONE))?;
-    }
-    let mut number = step;
-    if !log.clause.is_empty() {
-        push(&mut log.steps.hints, step)?;
-        let to = log.steps.hints.len();
-        number = add_step(&mut log.steps, &[literal], Why::Units(from, to))?;
-    }
-    set(&mut log.units, var(literal), number);
-    Ok(())
+    explain(view, literal, contributions, &mut log.clause);
+    let number = add_unit(
+        &mut log.steps,
+        &log.units,
+        literal,
+        log.clause.items(),
+        step,
+    );
+    log.units.set(var(literal), number);
 }
 
 /// Adds the steps that the literals hold in any case.
 fn log_units(
     log: &mut Log,
     view: &View<'_>,
-    contributions: &mut Vec<Contribution>,
+    contributions: &mut Table<Contribution>,
     literals: &[u32],
-) -> Result<(), OutOfMemory> {
-    find_needed(log, view, contributions, literals)?;
+) {
+    find_needed(log, view, contributions, literals);
     for place in 0..log.needed.len() {
-        let literal = at(&log.needed, place, NOT_PLACED).number;
-        if at(&log.units, var(literal), NONE) == NONE {
-            log_unit(log, view, contributions, literal)?;
+        let literal = log.needed.at(place).number;
+        if log.units.at(var(literal)) == NONE {
+            log_unit(log, view, contributions, literal);
         }
     }
-    Ok(())
 }
 
 /// Puts the steps that give the literals to the hints, each once.
-fn push_units(log: &mut Log, sure: &[u32]) -> Result<(), OutOfMemory> {
+fn add_units(log: &mut Log, sure: &[u32]) {
     for literal in sure {
-        if !at(&log.is_needed, var(*literal), true) {
-            set(&mut log.is_needed, var(*literal), true);
-            push(&mut log.steps.hints, at(&log.units, var(*literal), NONE))?;
+        let variable = var(*literal);
+        if variable < log.is_needed.len() && !log.is_needed.at(variable) {
+            log.is_needed.set(variable, true);
+            log.steps.hints.add(log.units.at(variable));
         }
     }
     for literal in sure {
-        set(&mut log.is_needed, var(*literal), false);
+        log.is_needed.set(var(*literal), false);
     }
-    Ok(())
 }
 
 /// The steps that forced the literals, in the order of the trail.
 fn find_steps(
     log: &mut Log,
     view: &View<'_>,
-    contributions: &mut Vec<Contribution>,
+    contributions: &mut Table<Contribution>,
     literals: &[u32],
-) -> Result<(), OutOfMemory> {
+) {
     log.needed.clear();
     for literal in literals {
-        let number = step_of(log, view, contributions, *literal)?;
-        let place = at(view.states, var(*literal), UNKNOWN).place;
-        push(&mut log.needed, Placed { place, number })?;
+        let number = step_of(log, view, contributions, *literal);
+        let place = view.known.state(*literal).place;
+        log.needed.add(Placed { place, number });
     }
-    log.needed.sort_unstable();
-    Ok(())
+    log.needed.items_mut().sort_unstable();
 }
 
 /// Adds the step of a learned clause: it follows from those that give what holds in any case, from those that forced the literals that
 /// were used, and from the last conflict.
-pub(crate) fn log_learned(
-    log: &mut Log,
-    view: &View<'_>,
-    analysis: &mut Analysis,
-) -> Result<u32, OutOfMemory> {
-    log_units(log, view, &mut analysis.contributions, &analysis.sure)?;
-    find_steps(log, view, &mut analysis.contributions, &analysis.used)?;
+pub(crate) fn log_learned(log: &mut Log, view: &View<'_>, analysis: &mut Analysis) -> u32 {
+    log_units(
+        log,
+        view,
+        &mut analysis.contributions,
+        analysis.sure.items(),
+    );
+    find_steps(
+        log,
+        view,
+        &mut analysis.contributions,
+        analysis.used.items(),
+    );
     let from = log.steps.hints.len();
-    push_units(log, &analysis.sure)?;
-    push_needed(&mut log.steps.hints, &log.needed)?;
-    push(&mut log.steps.hints, log.last)?;
+    add_units(log, analysis.sure.items());
+    add_needed(&mut log.steps.hints, log.needed.items());
+    log.steps.hints.add(log.last);
     let to = log.steps.hints.len();
-    add_step(&mut log.steps, &analysis.clause, Why::Units(from, to))
+    add_step(
+        &mut log.steps,
+        analysis.clause.items(),
+        Why::Units(from, to),
+    )
 }
 
 /// The steps that give or force the literals that are needed, in their place.
-fn find_last_steps(
-    log: &mut Log,
-    view: &View<'_>,
-    contributions: &mut Vec<Contribution>,
-) -> Result<(), OutOfMemory> {
+fn find_last_steps(log: &mut Log, view: &View<'_>, contributions: &mut Table<Contribution>) {
     for place in 0..log.needed.len() {
-        let mut found = at(&log.needed, place, NOT_PLACED);
-        let unit = at(&log.units, var(found.number), NONE);
-        if unit == NONE {
-            found.number = step_of(log, view, contributions, found.number)?;
+        let mut found = log.needed.at(place);
+        let unit = log.units.at(var(found.number));
+        found.number = if unit == NONE {
+            step_of(log, view, contributions, found.number)
         } else {
-            found.number = unit;
-        }
-        set(&mut log.needed, place, found);
+            unit
+        };
+        log.needed.set(place, found);
     }
-    Ok(())
 }
 
 /// Puts the steps to the hints that were found.
-fn push_needed(hints: &mut Vec<u32>, needed: &[Placed]) -> Result<(), OutOfMemory> {
+fn add_needed(hints: &mut Table<u32>, needed: &[Placed]) {
     for found in needed {
-        push(hints, found.number)?;
+        hints.add(found.number);
     }
-    Ok(())
 }
 
 /// Adds the step with no literal, where the last conflict needs but what holds in any case.
 pub(crate) fn log_end(
     log: &mut Log,
     view: &View<'_>,
-    contributions: &mut Vec<Contribution>,
+    contributions: &mut Table<Contribution>,
     literals: &[u32],
-) -> Result<(), OutOfMemory> {
+) {
     if is_step(&log.steps, log.last, &[]) {
-        return Ok(());
+        return;
     }
-    find_needed(log, view, contributions, literals)?;
-    find_last_steps(log, view, contributions)?;
+    find_needed(log, view, contributions, literals);
+    find_last_steps(log, view, contributions);
     let from = log.steps.hints.len();
-    push_needed(&mut log.steps.hints, &log.needed)?;
-    push(&mut log.steps.hints, log.last)?;
+    add_needed(&mut log.steps.hints, log.needed.items());
+    log.steps.hints.add(log.last);
     let to = log.steps.hints.len();
-    log.last = add_step(&mut log.steps, &[], Why::Units(from, to))?;
-    Ok(())
+    log.last = add_step(&mut log.steps, &[], Why::Units(from, to));
 }

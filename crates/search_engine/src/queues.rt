@@ -1,8 +1,8 @@
 //! Queues: which addition is taken, how many are taken and added before, and what was added before is taken before.
 
-use crate::encoding::{Clauses, Origin, Role, Variables, add_clause, add_variable, ask};
-use crate::literals::{FALSE, NONE, TRUE, at, neg, push, range, set, short};
-use crate::problem::{Problem, is_large, spend};
+use crate::encoding::{Origin, Role, add_clause, add_variable, ask};
+use crate::literals::{FALSE, NONE, TRUE, Table, at, neg, range, short};
+use crate::problem::{Problem, has_room, is_large, spend};
 use crate::spans::{Span, before, instant, span_of};
 use crate::sums::{Concurrent, add_all_terms, add_terms, end_sum, find_concurrent, sum_ended};
 use aud_event::OutOfMemory;
@@ -57,6 +57,13 @@ pub(crate) const NO_TAKE: TakeOf = TakeOf {
     number: 0,
 };
 
+pub(crate) const NO_GONE: GoneOf = GoneOf {
+    take: NO_TAKE,
+    item: NONE,
+    row: 0,
+    value: 0,
+};
+
 pub(crate) const NO_ITEM: ItemOf = ItemOf {
     take: 0,
     row: 0,
@@ -67,19 +74,24 @@ pub(crate) const NO_ITEM: ItemOf = ItemOf {
 /// What the clauses of queues are about, by numbers.
 #[derive(Drop)]
 pub(crate) struct QueueItems {
-    pub takes: Vec<TakeOf>,
-    pub items: Vec<ItemOf>,
-    pub gone: Vec<GoneOf>,
+    pub takes: Table<TakeOf>,
+    pub items: Table<ItemOf>,
+    pub gone: Table<GoneOf>,
 }
 
 impl QueueItems {
     /// No items. It does not allocate.
     pub(crate) fn empty(alloc: Global) -> QueueItems {
         QueueItems {
-            takes: Vec::new(alloc),
-            items: Vec::new(alloc),
-            gone: Vec::new(alloc),
+            takes: Table::new(alloc, NO_TAKE),
+            items: Table::new(alloc, NO_ITEM),
+            gone: Table::new(alloc, NO_GONE),
         }
+    }
+
+    /// Whether some growth was refused.
+    pub(crate) fn is_short(&self) -> bool {
+        self.takes.is_short() || self.items.is_short() || self.gone.is_short()
     }
 }
 
@@ -107,21 +119,44 @@ struct Added {
 struct QueueUse {
     /// The rows that touch it, and how many each one takes, and less how many it adds, if it may commit; and both together.
     rows: Vec<usize>,
-    takes: Vec<i64>,
-    adds: Vec<i64>,
-    both: Vec<i64>,
+    takes: Table<i64>,
+    adds: Table<i64>,
+    both: Table<i64>,
     /// Who adds and who takes each value.
-    adders: Vec<Holding>,
-    takers: Vec<Holding>,
-    added: Vec<Added>,
+    adders: Table<Holding>,
+    takers: Table<Holding>,
+    added: Table<Added>,
+    /// Those additions that one take may be of, and a clause that is being made.
+    found: Table<Holding>,
+    clause: Table<u32>,
+}
+
+impl QueueUse {
+    /// Whether some growth was refused.
+    fn is_short(&self) -> bool {
+        let are_counts_short = self.takes.is_short()
+            || self.adds.is_short()
+            || self.both.is_short();
+        let are_users_short = self.adders.is_short()
+            || self.takers.is_short()
+            || self.added.is_short();
+        are_counts_short || are_users_short || self.found.is_short() || self.clause.is_short()
+    }
 }
 
 /// For each row how many those take that had ended before it, less how many they add, and both together.
 #[derive(Drop)]
 struct EndedTotals {
-    takes: Vec<i64>,
-    adds: Vec<i64>,
-    both: Vec<i64>,
+    takes: Table<i64>,
+    adds: Table<i64>,
+    both: Table<i64>,
+}
+
+impl EndedTotals {
+    /// Whether some growth was refused.
+    fn is_short(&self) -> bool {
+        self.takes.is_short() || self.adds.is_short() || self.both.is_short()
+    }
 }
 
 const NOT_HELD: Holding = Holding {
@@ -159,13 +194,12 @@ fn place_of(held: &[Holding], value: i64, above: bool) -> usize {
 }
 
 /// Adds the amount to the count of the place.
-fn count(counts: &mut [i64], place: usize, amount: i64) {
-    let known = at(counts, place, 0);
-    set(counts, place, known.wrapping_add(amount));
+fn count(counts: &mut Table<i64>, place: usize, amount: i64) {
+    counts.set(place, counts.at(place).wrapping_add(amount));
 }
 
 /// Reads who adds what, as which of its own additions.
-fn read_adders(adders: &mut Vec<Holding>, ops: &[PlacedOp]) -> Result<(), OutOfMemory> {
+fn read_adders(adders: &mut Table<Holding>, ops: &[PlacedOp]) {
     let mut index: u32 = 0;
     let mut last = usize::MAX;
     for found in ops {
@@ -175,61 +209,47 @@ fn read_adders(adders: &mut Vec<Holding>, ops: &[PlacedOp]) -> Result<(), OutOfM
             last = place;
         }
         if let QueueOp::Adds(value) = found.op {
-            push(
-                adders,
-                Holding {
-                    value,
-                    place,
-                    index,
-                },
-            )?;
+            adders.add(Holding {
+                value,
+                place,
+                index,
+            });
             index = index.wrapping_add(1);
         }
     }
-    adders.sort_unstable();
-    Ok(())
+    adders.items_mut().sort_unstable();
+}
+
+/// Whether the row at the place may commit.
+fn may_commit(rows: &[usize], spans: &[Span], place: usize) -> bool {
+    span_of(spans, at(rows, place, 0)).commits != FALSE
 }
 
 /// Reads who takes what, of those that may commit.
-fn read_takers(
-    takers: &mut Vec<Holding>,
-    rows: &[usize],
-    spans: &[Span],
-    ops: &[PlacedOp],
-) -> Result<(), OutOfMemory> {
+fn read_takers(takers: &mut Table<Holding>, rows: &[usize], spans: &[Span], ops: &[PlacedOp]) {
     for found in ops {
         let place = found.place;
         if let QueueOp::Takes(value) = found.op {
-            if span_of(spans, at(rows, place, 0)).commits != FALSE {
+            if may_commit(rows, spans, place) {
                 let index = 0;
-                push(
-                    takers,
-                    Holding {
-                        value,
-                        place,
-                        index,
-                    },
-                )?;
+                takers.add(Holding {
+                    value,
+                    place,
+                    index,
+                });
             }
         }
     }
-    takers.sort_unstable();
-    Ok(())
+    takers.items_mut().sort_unstable();
 }
 
 /// Counts what each row takes, and less what it adds, if it may commit.
-fn count_ops(
-    takes: &mut [i64],
-    adds: &mut [i64],
-    rows: &[usize],
-    spans: &[Span],
-    ops: &[PlacedOp],
-) {
+fn count_ops(queue: &mut QueueUse, spans: &[Span], ops: &[PlacedOp]) {
     for found in ops {
-        if span_of(spans, at(rows, found.place, 0)).commits != FALSE {
+        if may_commit(&queue.rows, spans, found.place) {
             match found.op {
-                QueueOp::Adds(_) => count(adds, found.place, -1),
-                QueueOp::Takes(_) => count(takes, found.place, 1),
+                QueueOp::Adds(_) => count(&mut queue.adds, found.place, -1),
+                QueueOp::Takes(_) => count(&mut queue.takes, found.place, 1),
                 QueueOp::SeesEmpty => {}
             }
         }
@@ -245,36 +265,38 @@ fn first_end(takers: &[Holding], rows: &[usize], spans: &[Span]) -> u32 {
     first
 }
 
+/// The value that the row at the place adds, with who may take it.
+fn added_by(queue: &QueueUse, spans: &[Span], place: usize, value: i64) -> Added {
+    let takers = place_of(queue.takers.items(), value, false);
+    let takers_end = place_of(queue.takers.items(), value, true);
+    let found = queue.takers.range(takers, takers_end);
+    Added {
+        place,
+        value,
+        takers,
+        takers_end,
+        taken: first_end(found, &queue.rows, spans),
+        next: queue.added.len().wrapping_add(1),
+    }
+}
+
 /// Lists the values that are added by those that may commit, in the order of their rows, after one that is none. A row's value after
 /// itself counts once.
-fn list_added(queue: &mut QueueUse, spans: &[Span], ops: &[PlacedOp]) -> Result<(), OutOfMemory> {
+fn list_added(queue: &mut QueueUse, spans: &[Span], ops: &[PlacedOp]) {
     let mut last = NOT_ADDED;
     last.place = usize::MAX;
     last.next = 1;
-    push(&mut queue.added, last)?;
+    queue.added.add(last);
     for found in ops {
         let QueueOp::Adds(value) = found.op else {
             continue;
         };
-        let row = at(&queue.rows, found.place, 0);
         let is_same = last.place == found.place && last.value == value;
-        if span_of(spans, row).commits == FALSE || is_same {
-            continue;
+        if !is_same && may_commit(&queue.rows, spans, found.place) {
+            last = added_by(queue, spans, found.place, value);
+            queue.added.add(last);
         }
-        let takers = place_of(&queue.takers, value, false);
-        let takers_end = place_of(&queue.takers, value, true);
-        let found_takers = range(&queue.takers, takers, takers_end);
-        last = Added {
-            place: found.place,
-            value,
-            takers,
-            takers_end,
-            taken: first_end(found_takers, &queue.rows, spans),
-            next: queue.added.len().wrapping_add(1),
-        };
-        push(&mut queue.added, last)?;
     }
-    Ok(())
 }
 
 /// What a row asks of the queue at one of its operations.
@@ -287,36 +309,54 @@ struct Demand {
     added: i64,
 }
 
-/// The clause that the value, which was added before, is taken before.
+/// What is asked where a literal holds: of the item of that number, or, if that is none, of the queue that is empty.
+#[derive(Clone, Copy)]
+struct Guard {
+    literal: u32,
+    item: u32,
+}
+
+/// Puts to the clause that one of the takers of the value stands before the asked row, that row's own aside.
+fn add_takers(queue: &mut QueueUse, spans: &[Span], asked: Demand, added: Added) {
+    let mut last = usize::MAX;
+    for number in added.takers..added.takers_end {
+        let place = queue.takers.at(number).place;
+        if place != asked.place && place != last {
+            last = place;
+            let row = at(&queue.rows, place, 0);
+            queue.clause.add(before(spans, row, asked.take.row));
+        }
+    }
+}
+
+/// The law that the value that another row added before is taken before, and its clause.
 fn add_gone(
-    alloc: Global,
-    queue: &QueueUse,
-    variables: &mut Variables,
-    clauses: &mut Clauses,
-    spans: &[Span],
+    queue: &mut QueueUse,
+    problem: &mut Problem,
     asked: Demand,
     added: Added,
     ahead: u32,
-    guard: u32,
-    number: u32,
-) -> Result<(), OutOfMemory> {
-    let commits = span_of(spans, at(&queue.rows, added.place, 0)).commits;
-    let mut clause = Vec::new(alloc);
-    push(&mut clause, neg(ahead))?;
-    push(&mut clause, neg(guard))?;
-    push(&mut clause, neg(commits))?;
-    let mut last = usize::MAX;
-    for taker in range(&queue.takers, added.takers, added.takers_end) {
-        if taker.place != asked.place && taker.place != last {
-            last = taker.place;
-            let row = at(&queue.rows, taker.place, 0);
-            push(&mut clause, before(spans, row, asked.take.row))?;
-        }
+    guard: Guard,
+) {
+    let number = short(problem.items.gone.len());
+    let row = at(&queue.rows, added.place, 0);
+    problem.items.gone.add(GoneOf {
+        take: asked.take,
+        item: guard.item,
+        row,
+        value: added.value,
+    });
+    let commits = span_of(&problem.spans, row).commits;
+    queue.clause.clear();
+    queue
+        .clause
+        .add_all(&[neg(ahead), neg(guard.literal), neg(commits)]);
+    add_takers(queue, &problem.spans, asked, added);
+    for literal in queue.clause.items() {
+        ask(&mut problem.variables, *literal);
     }
-    for literal in clause.iter() {
-        ask(&mut variables.choices, *literal);
-    }
-    add_clause(clauses, Origin::Gone(number), &clause)
+    let origin = Origin::Gone(number);
+    add_clause(&mut problem.clauses, origin, queue.clause.items());
 }
 
 /// Whether the row takes the value from the queue. Its operations are given.
@@ -331,59 +371,28 @@ fn takes_value(ops: &[PlacedOp], value: i64) -> bool {
 
 /// The next of the values after the known one, which are in the order of their rows, that not surely is taken before the stamp; or their
 /// number. Those between go out of the list for all rows that follow.
-fn next_added(added: &mut [Added], known: usize, began: u32) -> usize {
+fn next_added(added: &mut Table<Added>, known: usize, began: u32) -> usize {
     for _ in 0..added.len() {
-        let place = at(added, known, NOT_ADDED).next;
-        let found = at(added, place, NOT_ADDED);
-        if place >= added.len() || found.taken >= began {
-            return place;
+        let mut before = added.at(known);
+        let found = added.at(before.next);
+        if before.next >= added.len() || found.taken >= began {
+            return before.next;
         }
-        if let Some(before) = added.get_mut(known) {
-            before.next = found.next;
-        }
+        before.next = found.next;
+        added.set(known, before);
     }
     added.len()
 }
 
-/// The value that another row added before the item is taken before: the law, and its clause.
-fn add_one_gone(
-    alloc: Global,
-    queue: &QueueUse,
-    problem: &mut Problem,
-    asked: Demand,
-    added: Added,
-    ahead: u32,
-    guard: u32,
-    item: u32,
-) -> Result<(), OutOfMemory> {
-    let number = short(problem.items.gone.len());
-    push(
-        &mut problem.items.gone,
-        GoneOf {
-            take: asked.take,
-            item,
-            row: at(&queue.rows, added.place, 0),
-            value: added.value,
-        },
-    )?;
-    let (variables, clauses) = (&mut problem.variables, &mut problem.clauses);
-    let spans = &problem.spans[..];
-    add_gone(
-        alloc, queue, variables, clauses, spans, asked, added, ahead, guard, number,
-    )
-}
-
 /// What was added before the item of the row at that place, or before the queue is empty, is taken before.
 fn add_all_gone(
-    alloc: Global,
     queue: &mut QueueUse,
     problem: &mut Problem,
     own: &[PlacedOp],
     asked: Demand,
     adder: usize,
-    guard: u32,
-    item: u32,
-) -> Result<(), OutOfMemory> {
+    guard: Guard,
+) {
     let began = span_of(&problem.spans, asked.take.row).first;
     let row = at(&queue.rows, adder, 0);
     let last = span_of(&problem.spans, row).last;
@@ -391,38 +400,28 @@ fn add_all_gone(
     for _ in 0..queue.added.len() {
         spend(&mut problem.allowance, 1);
         known = next_added(&mut queue.added, known, began);
-        let Some(found) = queue.added.get(known) else {
-            break;
-        };
-        let (found, other) = (*found, at(&queue.rows, found.place, 0));
-        if span_of(&problem.spans, other).first > last {
+        let found = queue.added.at(known);
+        let other = at(&queue.rows, found.place, 0);
+        if known >= queue.added.len() || span_of(&problem.spans, other).first > last {
             break;
         }
         let ahead = before(&problem.spans, other, row);
         let is_own = found.place == asked.place || found.place == adder;
         if !is_own && ahead != FALSE && !takes_value(own, found.value) {
-            add_one_gone(alloc, queue, problem, asked, found, ahead, guard, item)?;
+            add_gone(queue, problem, asked, found, ahead, guard);
         }
     }
-    Ok(())
 }
 
 /// Whether the addition may be what the row at the place takes: its row may commit, and stand before that one.
-fn may_be_taken(queue_rows: &[usize], spans: &[Span], adder: usize, place: usize) -> bool {
-    let row = at(queue_rows, adder, 0);
-    let taker = at(queue_rows, place, 0);
+fn may_be_taken(queue: &QueueUse, spans: &[Span], adder: usize, place: usize) -> bool {
+    let row = at(&queue.rows, adder, 0);
+    let taker = at(&queue.rows, place, 0);
     span_of(spans, row).commits != FALSE && before(spans, row, taker) != FALSE
 }
 
-/// The additions that the row may take the value from: first its own ones before, then those of others.
-fn find_items(
-    found: &mut Vec<Holding>,
-    queue: &QueueUse,
-    spans: &[Span],
-    own: &[PlacedOp],
-    asked: Demand,
-    value: i64,
-) -> Result<(), OutOfMemory> {
+/// Finds the row's own additions of the value before.
+fn find_own(queue: &mut QueueUse, own: &[PlacedOp], asked: Demand, value: i64) {
     let mut index: u32 = 0;
     for known in own {
         if known.number >= asked.number {
@@ -431,72 +430,40 @@ fn find_items(
         if let QueueOp::Adds(added) = known.op {
             if added == value {
                 let place = asked.place;
-                push(
-                    found,
-                    Holding {
-                        value,
-                        place,
-                        index,
-                    },
-                )?;
+                queue.found.add(Holding {
+                    value,
+                    place,
+                    index,
+                });
             }
             index = index.wrapping_add(1);
         }
     }
-    let from = place_of(&queue.adders, value, false);
-    let to = place_of(&queue.adders, value, true);
-    for held in range(&queue.adders, from, to) {
-        if held.place != asked.place && may_be_taken(&queue.rows, spans, held.place, asked.place) {
-            push(found, *held)?;
+}
+
+/// Finds the additions that the row may take the value from: first its own ones before, then those of others.
+fn find_items(queue: &mut QueueUse, spans: &[Span], own: &[PlacedOp], asked: Demand, value: i64) {
+    queue.found.clear();
+    find_own(queue, own, asked, value);
+    let from = place_of(queue.adders.items(), value, false);
+    let to = place_of(queue.adders.items(), value, true);
+    for number in from..to {
+        let held = queue.adders.at(number);
+        if held.place != asked.place && may_be_taken(queue, spans, held.place, asked.place) {
+            queue.found.add(held);
         }
     }
-    Ok(())
 }
 
 /// An addition that is taken stands before the taker, and commits.
-fn add_stands(
-    problem: &mut Problem,
-    row: usize,
-    taker: usize,
-    literal: u32,
-    item: u32,
-) -> Result<(), OutOfMemory> {
+fn add_stands(problem: &mut Problem, row: usize, taker: usize, guard: Guard) {
     let stands = before(&problem.spans, row, taker);
     let commits = span_of(&problem.spans, row).commits;
-    ask(&mut problem.variables.choices, stands);
-    let origin = Origin::ItemStands(item);
-    add_clause(&mut problem.clauses, origin, &[neg(literal), stands])?;
-    add_clause(&mut problem.clauses, origin, &[neg(literal), commits])
-}
-
-/// As many are taken before the row at the first place as are added before that at the second, less what is wanted, where the literal
-/// holds.
-fn add_place(
-    queue: &QueueUse,
-    ended: &EndedTotals,
-    concurrent: &Concurrent,
-    problem: &mut Problem,
-    (place, adder): (usize, usize),
-    wanted: i64,
-    literal: u32,
-    item: u32,
-) -> Result<(), OutOfMemory> {
-    let (takes, adds) = (at(&ended.takes, place, 0), at(&ended.adds, adder, 0));
-    let wanted = wanted.wrapping_sub(takes).wrapping_sub(adds);
-    let from = problem.sums.terms.len();
-    add_all_terms(problem, concurrent, &queue.rows, &queue.takes, place)?;
-    let (sums, choices) = (&mut problem.sums, &mut problem.variables.choices);
-    add_terms(
-        sums,
-        choices,
-        &problem.spans,
-        concurrent,
-        &queue.rows,
-        &queue.adds,
-        adder,
-        place,
-    )?;
-    end_sum(sums, from, literal, wanted, Origin::Place(item))
+    ask(&mut problem.variables, stands);
+    let origin = Origin::ItemStands(guard.item);
+    let denied = neg(guard.literal);
+    add_clause(&mut problem.clauses, origin, &[denied, stands]);
+    add_clause(&mut problem.clauses, origin, &[denied, commits]);
 }
 
 /// As many are taken before the row at the place as are added, less what is wanted, where the literal holds.
@@ -509,14 +476,35 @@ fn add_own_place(
     wanted: i64,
     literal: u32,
     origin: Origin,
-) -> Result<(), OutOfMemory> {
-    let wanted = wanted.wrapping_sub(at(&ended.both, place, 0));
+) {
+    let wanted = wanted.wrapping_sub(ended.both.at(place));
     let from = problem.sums.terms.len();
-    add_all_terms(problem, concurrent, &queue.rows, &queue.both, place)?;
-    end_sum(&mut problem.sums, from, literal, wanted, origin)
+    add_all_terms(problem, concurrent, &queue.rows, &queue.both, place);
+    end_sum(&mut problem.sums, from, literal, wanted, origin);
 }
 
-/// An addition that is taken stands before the taker, commits, and as many are taken before as were added before it.
+/// An addition of another row that is taken stands before the taker, commits, and as many are taken before as were added before it.
+fn add_other_place(
+    queue: &QueueUse,
+    ended: &EndedTotals,
+    concurrent: &Concurrent,
+    problem: &mut Problem,
+    (taker, adder): (usize, usize),
+    wanted: i64,
+    guard: Guard,
+) {
+    let rows = &queue.rows[..];
+    add_stands(problem, at(rows, adder, 0), at(rows, taker, 0), guard);
+    let wanted = wanted.wrapping_sub(ended.takes.at(taker));
+    let wanted = wanted.wrapping_sub(ended.adds.at(adder));
+    let from = problem.sums.terms.len();
+    add_all_terms(problem, concurrent, rows, &queue.takes, taker);
+    add_terms(problem, concurrent, rows, &queue.adds, adder, taker);
+    let origin = Origin::Place(guard.item);
+    end_sum(&mut problem.sums, from, guard.literal, wanted, origin);
+}
+
+/// Adds what it asks that the addition is taken.
 fn add_item(
     queue: &QueueUse,
     ended: &EndedTotals,
@@ -524,94 +512,98 @@ fn add_item(
     problem: &mut Problem,
     asked: Demand,
     held: Holding,
-    literal: u32,
-    item: u32,
-) -> Result<(), OutOfMemory> {
+    guard: Guard,
+) {
     let wanted = i64::from(held.index).wrapping_sub(asked.taken);
     let (place, adder) = (asked.place, held.place);
     if adder == place {
-        let origin = Origin::Place(item);
-        return add_own_place(
+        let (literal, origin) = (guard.literal, Origin::Place(guard.item));
+        add_own_place(
             queue, ended, concurrent, problem, place, wanted, literal, origin,
         );
+    } else {
+        let places = (place, adder);
+        add_other_place(queue, ended, concurrent, problem, places, wanted, guard);
     }
-    let row = at(&queue.rows, adder, 0);
-    add_stands(problem, row, asked.take.row, literal, item)?;
-    let places = (place, adder);
-    add_place(
-        queue, ended, concurrent, problem, places, wanted, literal, item,
-    )
 }
 
 /// Which of the additions is tried first: the first that took effect before the taker did.
-fn favoured(found: &[Holding], queue_rows: &[usize], spans: &[Span], row: usize) -> usize {
+fn favoured(queue: &QueueUse, spans: &[Span], row: usize) -> usize {
     let own = instant(span_of(spans, row), 15);
-    for (index, held) in found.iter().enumerate() {
-        if instant(span_of(spans, at(queue_rows, held.place, 0)), 15) <= own {
+    for index in 0..queue.found.len() {
+        let other = at(&queue.rows, queue.found.at(index).place, 0);
+        if instant(span_of(spans, other), 15) <= own {
             return index;
         }
     }
     usize::MAX
 }
 
-/// Adds what a take of the value asks.
+/// That the take is of that addition: its number, and the literal that says so.
+fn make_guard(
+    queue: &QueueUse,
+    problem: &mut Problem,
+    held: Holding,
+    take: u32,
+    is_tried: bool,
+) -> Guard {
+    let item = short(problem.items.items.len());
+    problem.items.items.add(ItemOf {
+        take,
+        row: at(&queue.rows, held.place, 0),
+        addition: held.index,
+        sum: short(problem.sums.sums.len()),
+    });
+    let role = Role::Item(item);
+    let literal = add_variable(&mut problem.variables, role, is_tried, true);
+    Guard { literal, item }
+}
+
+/// Adds what a take of the value asks: it is of one of the additions that were found.
 fn add_take(
-    alloc: Global,
     queue: &mut QueueUse,
     ended: &EndedTotals,
     concurrent: &Concurrent,
     problem: &mut Problem,
     own: &[PlacedOp],
     asked: Demand,
-    value: i64,
-) -> Result<(), OutOfMemory> {
-    let mut found = Vec::new(alloc);
-    spend(&mut problem.allowance, own.len());
-    find_items(&mut found, queue, &problem.spans, own, asked, value)?;
-    let best = favoured(&found, &queue.rows, &problem.spans, asked.take.row);
+    choices: &mut Table<u32>,
+) {
+    let best = favoured(queue, &problem.spans, asked.take.row);
     let take = short(problem.items.takes.len());
-    push(&mut problem.items.takes, asked.take)?;
-    let mut clause = Vec::new(alloc);
-    for (index, held) in found.iter().enumerate() {
-        let row = at(&queue.rows, held.place, 0);
-        let item = short(problem.items.items.len());
-        push(
-            &mut problem.items.items,
-            ItemOf {
-                take,
-                row,
-                addition: held.index,
-                sum: short(problem.sums.sums.len()),
-            },
-        )?;
-        let role = Role::Item(item);
-        let literal = add_variable(&mut problem.variables, role, index == best, true)?;
-        push(&mut clause, literal)?;
-        add_item(
-            queue, ended, concurrent, problem, asked, *held, literal, item,
-        )?;
-        add_all_gone(alloc, queue, problem, own, asked, held.place, literal, item)?;
+    problem.items.takes.add(asked.take);
+    choices.clear();
+    for index in 0..queue.found.len() {
+        let held = queue.found.at(index);
+        let guard = make_guard(queue, problem, held, take, index == best);
+        choices.add(guard.literal);
+        add_item(queue, ended, concurrent, problem, asked, held, guard);
+        add_all_gone(queue, problem, own, asked, held.place, guard);
     }
-    add_clause(&mut problem.clauses, Origin::Items(take), &clause)
+    let origin = Origin::Items(take);
+    add_clause(&mut problem.clauses, origin, choices.items());
 }
 
 /// Adds what it asks that the queue is seen empty.
 fn add_empty(
-    alloc: Global,
     queue: &mut QueueUse,
     ended: &EndedTotals,
     concurrent: &Concurrent,
     problem: &mut Problem,
     own: &[PlacedOp],
     asked: Demand,
-) -> Result<(), OutOfMemory> {
+) {
     let place = asked.place;
     let wanted = asked.added.wrapping_sub(asked.taken);
     let origin = Origin::Empty(short(asked.take.row), asked.take.object, asked.number);
     add_own_place(
         queue, ended, concurrent, problem, place, wanted, TRUE, origin,
-    )?;
-    add_all_gone(alloc, queue, problem, own, asked, place, TRUE, NONE)
+    );
+    let guard = Guard {
+        literal: TRUE,
+        item: NONE,
+    };
+    add_all_gone(queue, problem, own, asked, place, guard);
 }
 
 /// What the operation asks, before which its row took and added so many. A take goes by the number of takes before it.
@@ -636,14 +628,14 @@ fn demand_of(rows: &[usize], found: PlacedOp, object: u16, (taken, added): (i64,
 
 /// Adds what the operations of one row ask.
 fn add_row(
-    alloc: Global,
     queue: &mut QueueUse,
     ended: &EndedTotals,
     concurrent: &Concurrent,
     problem: &mut Problem,
     own: &[PlacedOp],
     object: u16,
-) -> Result<(), OutOfMemory> {
+    choices: &mut Table<u32>,
+) {
     let (mut taken, mut added): (i64, i64) = (0, 0);
     for found in own {
         if is_large(problem) {
@@ -653,57 +645,77 @@ fn add_row(
         match found.op {
             QueueOp::Adds(_) => added = added.wrapping_add(1),
             QueueOp::Takes(value) => {
-                add_take(alloc, queue, ended, concurrent, problem, own, asked, value)?;
+                spend(&mut problem.allowance, own.len());
+                find_items(queue, &problem.spans, own, asked, value);
+                add_take(queue, ended, concurrent, problem, own, asked, choices);
                 taken = taken.wrapping_add(1);
             }
-            QueueOp::SeesEmpty => {
-                add_empty(alloc, queue, ended, concurrent, problem, own, asked)?;
-            }
+            QueueOp::SeesEmpty => add_empty(queue, ended, concurrent, problem, own, asked),
         }
     }
-    Ok(())
 }
 
 /// The queue of these rows, before its operations are read.
 fn queue_of(alloc: Global, rows: Vec<usize>) -> QueueUse {
     QueueUse {
         rows,
-        takes: Vec::new(alloc),
-        adds: Vec::new(alloc),
-        both: Vec::new(alloc),
-        adders: Vec::new(alloc),
-        takers: Vec::new(alloc),
-        added: Vec::new(alloc),
+        takes: Table::new(alloc, 0),
+        adds: Table::new(alloc, 0),
+        both: Table::new(alloc, 0),
+        adders: Table::new(alloc, NOT_HELD),
+        takers: Table::new(alloc, NOT_HELD),
+        added: Table::new(alloc, NOT_ADDED),
+        found: Table::new(alloc, NOT_HELD),
+        clause: Table::new(alloc, FALSE),
     }
 }
 
 /// Reads the operations.
-fn read_queue(queue: &mut QueueUse, spans: &[Span], ops: &[PlacedOp]) -> Result<(), OutOfMemory> {
+fn read_queue(queue: &mut QueueUse, spans: &[Span], ops: &[PlacedOp]) {
     let count = queue.rows.len();
-    crate::literals::fill(&mut queue.takes, count, 0)?;
-    crate::literals::fill(&mut queue.adds, count, 0)?;
-    read_adders(&mut queue.adders, ops)?;
-    read_takers(&mut queue.takers, &queue.rows, spans, ops)?;
-    let (takes, adds) = (&mut queue.takes, &mut queue.adds);
-    count_ops(takes, adds, &queue.rows, spans, ops);
+    queue.takes.fill(count);
+    queue.adds.fill(count);
+    read_adders(&mut queue.adders, ops);
+    read_takers(&mut queue.takers, &queue.rows, spans, ops);
+    count_ops(queue, spans, ops);
     for place in 0..count {
-        let both = at(&queue.takes, place, 0).wrapping_add(at(&queue.adds, place, 0));
-        push(&mut queue.both, both)?;
+        let both = queue.takes.at(place).wrapping_add(queue.adds.at(place));
+        queue.both.add(both);
     }
-    list_added(queue, spans, ops)
+    list_added(queue, spans, ops);
 }
 
 /// Adds up what ended before each row.
-fn read_ended(
-    ended: &mut EndedTotals,
-    queue: &QueueUse,
+fn read_ended(ended: &mut EndedTotals, queue: &QueueUse, concurrent: &Concurrent, spans: &[Span]) {
+    let rows = &queue.rows[..];
+    sum_ended(&mut ended.takes, concurrent, spans, rows, &queue.takes);
+    sum_ended(&mut ended.adds, concurrent, spans, rows, &queue.adds);
+    sum_ended(&mut ended.both, concurrent, spans, rows, &queue.both);
+}
+
+/// Adds what all operations ask, which are in the order of the rows and of their blocks.
+fn add_rows(
+    queue: &mut QueueUse,
+    ended: &EndedTotals,
     concurrent: &Concurrent,
-    spans: &[Span],
-) -> Result<(), OutOfMemory> {
-    let (rows, places) = (&queue.rows[..], &concurrent.ended[..]);
-    sum_ended(&mut ended.takes, places, spans, rows, &queue.takes)?;
-    sum_ended(&mut ended.adds, places, spans, rows, &queue.adds)?;
-    sum_ended(&mut ended.both, places, spans, rows, &queue.both)
+    problem: &mut Problem,
+    ops: &[PlacedOp],
+    object: u16,
+    choices: &mut Table<u32>,
+) {
+    let mut from = 0;
+    for place in 0..ops.len() {
+        let next = place.wrapping_add(1);
+        let is_last = match ops.get(next) {
+            Some(other) => other.place != ops[place].place,
+            None => true,
+        };
+        if is_last {
+            let own = range(ops, from, next);
+            add_row(queue, ended, concurrent, problem, own, object, choices);
+            from = next;
+        }
+    }
 }
 
 /// Adds a queue: the rows that touch it, and their operations in the order of the rows and of their blocks.
@@ -716,26 +728,23 @@ pub(crate) fn add_queue(
     ops: &[PlacedOp],
 ) -> Result<(), OutOfMemory> {
     let mut queue = queue_of(alloc, rows);
-    read_queue(&mut queue, &problem.spans, ops)?;
-    find_concurrent(concurrent, &problem.spans, &queue.rows)?;
     let mut ended = EndedTotals {
-        takes: Vec::new(alloc),
-        adds: Vec::new(alloc),
-        both: Vec::new(alloc),
+        takes: Table::new(alloc, 0),
+        adds: Table::new(alloc, 0),
+        both: Table::new(alloc, 0),
     };
-    read_ended(&mut ended, &queue, concurrent, &problem.spans)?;
-    let mut from = 0;
-    for place in 0..ops.len() {
-        let next = place.wrapping_add(1);
-        let is_last = match ops.get(next) {
-            Some(other) => other.place != ops[place].place,
-            None => true,
-        };
-        if is_last {
-            let own = range(ops, from, next);
-            add_row(alloc, &mut queue, &ended, concurrent, problem, own, object)?;
-            from = next;
-        }
-    }
-    Ok(())
+    let mut choices = Table::new(alloc, FALSE);
+    read_queue(&mut queue, &problem.spans, ops);
+    find_concurrent(concurrent, &problem.spans, &queue.rows);
+    read_ended(&mut ended, &queue, concurrent, &problem.spans);
+    add_rows(
+        &mut queue,
+        &ended,
+        concurrent,
+        problem,
+        ops,
+        object,
+        &mut choices,
+    );
+    has_room(queue.is_short() || ended.is_short() || choices.is_short() || concurrent.is_short())
 }

@@ -3,10 +3,10 @@
 use crate::cell_index::{mark_cells, sort_feeds};
 use crate::cells::{Touch, add_cell, sort_uses};
 use crate::encoding::{Origin, add_pairs};
-use crate::literals::{TRUE, at, push, range, short};
-use crate::problem::{Allowance, Problem, is_large, sort_occurrences, spend};
+use crate::literals::{TRUE, Table, at, push, range, short};
+use crate::problem::{Allowance, Problem, has_room, is_large, sort_occurrences, spend};
 use crate::queues::{PlacedOp, QueueOp, add_queue};
-use crate::spans::{NOBODY, Span, count_pairs, spans_of};
+use crate::spans::{NOBODY, Span, count_pairs, read_spans};
 use crate::sums::{Concurrent, add_all_terms, end_sum, find_concurrent, sum_ended};
 use aud_event::{Answer, ObjDecl, ObjKind, Op, OutOfMemory};
 use aud_history::TxRow;
@@ -17,11 +17,11 @@ use search_model::{
 };
 use std::alloc::Global;
 
-/// What a history asks: an order, as a problem, or nothing, as one transaction contradicts itself on a cell, or more than there is room
-/// for.
-#[derive(Drop)]
+/// What a history asks: an order, as the problem says, or nothing, as one transaction contradicts itself on a cell, or more than there is
+/// room for.
+#[derive(Clone, Copy)]
 pub(crate) enum Encoded {
-    Problem(Problem),
+    Whole,
     Clash(u32, u16, Cell),
     Large,
 }
@@ -45,6 +45,27 @@ struct Count {
     gain: i64,
 }
 
+const NO_EXECUTION: Execution = Execution {
+    object: 0,
+    key: 0,
+    row: 0,
+    number: 0,
+    op: Op::Read,
+    answer: Answer::Done,
+};
+
+const NO_TOUCH: Touch = Touch {
+    row: 0,
+    need: None,
+    leaves: None,
+};
+
+const NO_COUNT: Count = Count {
+    row: 0,
+    need: None,
+    gain: 0,
+};
+
 /// The element or the key that the operation is about.
 fn key_of(op: Op) -> i64 {
     match cell_of(op) {
@@ -63,24 +84,20 @@ pub(crate) fn cell_with(kind: ObjKind, key: i64) -> Cell {
 }
 
 /// All executions, by their cells.
-fn read_executions(executions: &mut Vec<Execution>, rows: &[TxRow]) -> Result<(), OutOfMemory> {
+fn read_executions(executions: &mut Table<Execution>, rows: &[TxRow]) {
     for (row, found) in rows.iter().enumerate() {
         for (number, x) in found.block().executions().iter().enumerate() {
-            push(
-                executions,
-                Execution {
-                    object: x.object,
-                    key: key_of(x.op),
-                    row,
-                    number,
-                    op: x.op,
-                    answer: x.answer,
-                },
-            )?;
+            executions.add(Execution {
+                object: x.object,
+                key: key_of(x.op),
+                row,
+                number,
+                op: x.op,
+                answer: x.answer,
+            });
         }
     }
-    executions.sort_unstable();
-    Ok(())
+    executions.items_mut().sort_unstable();
 }
 
 /// What the cell holds that is as it is needed, where that is one thing.
@@ -113,40 +130,42 @@ fn add_left(touch: &mut Touch, content: &mut Option<Option<i64>>, left: Option<O
     }
 }
 
+/// Adds what the execution needs of the cell, and what it leaves there. False where it contradicts what its transaction did before.
+fn add_touch(
+    touch: &mut Touch,
+    content: &mut Option<Option<i64>>,
+    cell: Cell,
+    found: &Execution,
+) -> bool {
+    if !add_need(touch, content, asks(cell, found.op, found.answer)) {
+        return false;
+    }
+    add_left(touch, content, puts(cell, found.op, found.answer));
+    true
+}
+
 /// What each row does with a cell, by its executions there; or the row that contradicts itself.
 fn read_touches(
-    touches: &mut Vec<Touch>,
+    touches: &mut Table<Touch>,
     executions: &[Execution],
     kind: ObjKind,
-) -> Result<Option<usize>, OutOfMemory> {
+) -> Option<usize> {
     let mut content = None;
-    for found in executions {
-        let is_same = match touches.last() {
-            Some(last) => last.row == found.row,
-            None => false,
-        };
-        if !is_same {
-            push(
-                touches,
-                Touch {
-                    row: found.row,
-                    need: None,
-                    leaves: None,
-                },
-            )?;
+    let mut touch = NO_TOUCH;
+    for (place, found) in executions.iter().enumerate() {
+        if place == 0 || touch.row != found.row {
+            touch = NO_TOUCH;
+            touch.row = found.row;
+            touches.add(touch);
             content = None;
         }
         let cell = cell_with(kind, found.key);
-        let need = asks(cell, found.op, found.answer);
-        let last = touches.len().wrapping_sub(1);
-        if let Some(touch) = touches.get_mut(last) {
-            if !add_need(touch, &mut content, need) {
-                return Ok(Some(found.row));
-            }
-            add_left(touch, &mut content, puts(cell, found.op, found.answer));
+        if !add_touch(&mut touch, &mut content, cell, found) {
+            return Some(found.row);
         }
+        touches.set(touches.len().wrapping_sub(1), touch);
     }
-    Ok(None)
+    None
 }
 
 /// Adds what the execution tells of the counter. False where it contradicts what its transaction did before.
@@ -165,56 +184,37 @@ fn add_count(count: &mut Count, op: Op, answer: Answer) -> bool {
 }
 
 /// What each row does with a counter; or the row that contradicts itself.
-fn read_counts(
-    counts: &mut Vec<Count>,
-    executions: &[Execution],
-) -> Result<Option<usize>, OutOfMemory> {
-    for found in executions {
-        let is_same = match counts.last() {
-            Some(last) => last.row == found.row,
-            None => false,
-        };
-        if !is_same {
-            push(
-                counts,
-                Count {
-                    row: found.row,
-                    need: None,
-                    gain: 0,
-                },
-            )?;
+fn read_counts(counts: &mut Table<Count>, executions: &[Execution]) -> Option<usize> {
+    let mut count = NO_COUNT;
+    for (place, found) in executions.iter().enumerate() {
+        if place == 0 || count.row != found.row {
+            count = NO_COUNT;
+            count.row = found.row;
+            counts.add(count);
         }
-        let last = counts.len().wrapping_sub(1);
-        if let Some(count) = counts.get_mut(last) {
-            if !add_count(count, found.op, found.answer) {
-                return Ok(Some(found.row));
-            }
+        if !add_count(&mut count, found.op, found.answer) {
+            return Some(found.row);
         }
+        counts.set(counts.len().wrapping_sub(1), count);
     }
-    Ok(None)
+    None
 }
 
-/// What the rows do with an element of a set, as a count of 0 or 1.
-fn count_members(counts: &mut Vec<Count>, touches: &[Touch]) -> Result<(), OutOfMemory> {
-    for touch in touches {
-        let need = match touch.need {
-            Some(need) => Some(i64::from(need != Need::Absent)),
-            None => None,
-        };
-        let gain = match (touch.need, touch.leaves) {
-            (Some(need), Some(left)) if !meets(need, left) => if left.is_some() { 1 } else { -1 },
-            _ => 0,
-        };
-        push(
-            counts,
-            Count {
-                row: touch.row,
-                need,
-                gain,
-            },
-        )?;
+/// What the row does with an element of a set, as a count of 0 or 1.
+fn member_of(touch: &Touch) -> Count {
+    let need = match touch.need {
+        Some(need) => Some(i64::from(need != Need::Absent)),
+        None => None,
+    };
+    let gain = match (touch.need, touch.leaves) {
+        (Some(need), Some(left)) if !meets(need, left) => if left.is_some() { 1 } else { -1 },
+        _ => 0,
+    };
+    Count {
+        row: touch.row,
+        need,
+        gain,
     }
-    Ok(())
 }
 
 /// Adds a sum for each reader of a counter, or of an element of a set, as far as there is room.
@@ -225,7 +225,7 @@ fn add_all_sums(
     named: (u16, Option<i64>),
     opening: i64,
     tables: &Tables,
-) -> Result<(), OutOfMemory> {
+) {
     for (place, count) in counts.iter().enumerate() {
         let Some(need) = count.need else {
             continue;
@@ -239,18 +239,24 @@ fn add_all_sums(
             None => Origin::Counter(row, named.0),
         };
         let wanted = need.saturating_sub(opening);
-        let wanted = wanted.saturating_sub(at(&tables.ended, place, 0));
-        add_sum(problem, concurrent, tables, place, wanted, origin)?;
+        let wanted = wanted.saturating_sub(tables.ended.at(place));
+        add_sum(problem, concurrent, tables, place, wanted, origin);
     }
-    Ok(())
 }
 
 /// The rows that touch a counter, what each one adds, and what those add that had ended before it began.
 #[derive(Drop)]
 struct Tables {
-    rows: Vec<usize>,
-    gains: Vec<i64>,
-    ended: Vec<i64>,
+    rows: Table<usize>,
+    gains: Table<i64>,
+    ended: Table<i64>,
+}
+
+impl Tables {
+    /// Whether some growth was refused.
+    fn is_short(&self) -> bool {
+        self.rows.is_short() || self.gains.is_short() || self.ended.is_short()
+    }
 }
 
 /// Adds the sum of what stands before the row at the place.
@@ -261,44 +267,43 @@ fn add_sum(
     place: usize,
     wanted: i64,
     origin: Origin,
-) -> Result<(), OutOfMemory> {
+) {
     let from = problem.sums.terms.len();
-    add_all_terms(problem, concurrent, &tables.rows, &tables.gains, place)?;
+    add_all_terms(
+        problem,
+        concurrent,
+        tables.rows.items(),
+        &tables.gains,
+        place,
+    );
     let count = problem.sums.terms.len().saturating_sub(from);
     spend(&mut problem.allowance, count);
-    end_sum(&mut problem.sums, from, TRUE, wanted, origin)
+    end_sum(&mut problem.sums, from, TRUE, wanted, origin);
 }
 
 /// Reads the tables of the counts.
-fn read_tables(
-    tables: &mut Tables,
-    concurrent: &mut Concurrent,
-    spans: &[Span],
-    counts: &[Count],
-) -> Result<(), OutOfMemory> {
+fn read_tables(tables: &mut Tables, concurrent: &mut Concurrent, spans: &[Span], counts: &[Count]) {
     for count in counts {
-        push(&mut tables.rows, count.row)?;
-        push(&mut tables.gains, count.gain)?;
+        tables.rows.add(count.row);
+        tables.gains.add(count.gain);
     }
-    find_concurrent(concurrent, spans, &tables.rows)?;
-    let (rows, gains) = (&tables.rows[..], &tables.gains[..]);
-    sum_ended(&mut tables.ended, &concurrent.ended, spans, rows, gains)
+    find_concurrent(concurrent, spans, tables.rows.items());
+    let (rows, gains) = (tables.rows.items(), &tables.gains);
+    sum_ended(&mut tables.ended, concurrent, spans, rows, gains);
 }
 
 /// Notes what the rows do with the cell.
-fn note_counts(problem: &mut Problem, counts: &[Count], opening: i64) -> Result<(), OutOfMemory> {
+fn note_counts(problem: &mut Problem, counts: &[Count], opening: i64) {
     let cell = problem.counting.openings.len();
-    push(&mut problem.counting.openings, opening)?;
+    problem.counting.openings.add(opening);
     for count in counts {
-        let touch = CountTouch {
+        problem.counting.touches.add(CountTouch {
             row: count.row,
             cell,
             need: count.need,
             gain: count.gain,
-        };
-        push(&mut problem.counting.touches, touch)?;
+        });
     }
-    Ok(())
 }
 
 /// Adds what is asked of a counter, or of an element of a set.
@@ -311,13 +316,14 @@ fn add_counts(
     opening: i64,
 ) -> Result<(), OutOfMemory> {
     let mut tables = Tables {
-        rows: Vec::new(alloc),
-        gains: Vec::new(alloc),
-        ended: Vec::new(alloc),
+        rows: Table::new(alloc, 0),
+        gains: Table::new(alloc, 0),
+        ended: Table::new(alloc, 0),
     };
-    note_counts(problem, counts, opening)?;
-    read_tables(&mut tables, concurrent, &problem.spans, counts)?;
-    add_all_sums(problem, concurrent, counts, named, opening, &tables)
+    note_counts(problem, counts, opening);
+    read_tables(&mut tables, concurrent, &problem.spans, counts);
+    add_all_sums(problem, concurrent, counts, named, opening, &tables);
+    has_room(tables.is_short() || concurrent.is_short())
 }
 
 /// What the execution does to its queue.
@@ -381,16 +387,13 @@ fn add_members(
     touches: &[Touch],
     named: (u16, i64),
 ) -> Result<(), OutOfMemory> {
-    let mut counts = Vec::new(alloc);
-    count_members(&mut counts, touches)?;
-    add_counts(
-        alloc,
-        problem,
-        concurrent,
-        &counts,
-        (named.0, Some(named.1)),
-        0,
-    )
+    let mut counts = Table::new(alloc, NO_COUNT);
+    for touch in touches {
+        counts.add(member_of(touch));
+    }
+    has_room(counts.is_short())?;
+    let (counts, named) = (counts.items(), (named.0, Some(named.1)));
+    add_counts(alloc, problem, concurrent, counts, named, 0)
 }
 
 /// Adds what is asked of a cell of a register or a map.
@@ -419,15 +422,16 @@ fn add_cell_executions(
     named: (u16, i64),
     declared: (ObjKind, i64),
 ) -> Result<Option<usize>, OutOfMemory> {
-    let mut touches = Vec::new(alloc);
-    let refused = read_touches(&mut touches, executions, declared.0)?;
+    let mut touches = Table::new(alloc, NO_TOUCH);
+    let refused = read_touches(&mut touches, executions, declared.0);
+    has_room(touches.is_short())?;
     if refused.is_some() {
         return Ok(refused);
     }
     if declared.0 == ObjKind::SetOf {
-        add_members(alloc, problem, concurrent, &touches, named)?;
+        add_members(alloc, problem, concurrent, touches.items(), named)?;
     } else {
-        add_values(alloc, problem, &touches, named, declared)?;
+        add_values(alloc, problem, touches.items(), named, declared)?;
     }
     Ok(None)
 }
@@ -443,17 +447,12 @@ fn add_uses(
 ) -> Result<Option<usize>, OutOfMemory> {
     match declared.0 {
         ObjKind::Counter => {
-            let mut counts = Vec::new(alloc);
-            let refused = read_counts(&mut counts, executions)?;
+            let mut counts = Table::new(alloc, NO_COUNT);
+            let refused = read_counts(&mut counts, executions);
+            has_room(counts.is_short())?;
             if refused.is_none() {
-                add_counts(
-                    alloc,
-                    problem,
-                    concurrent,
-                    &counts,
-                    (named.0, None),
-                    declared.1,
-                )?;
+                let (counts, named) = (counts.items(), (named.0, None));
+                add_counts(alloc, problem, concurrent, counts, named, declared.1)?;
             }
             Ok(refused)
         }
@@ -504,44 +503,49 @@ fn add_all(
     Ok(None)
 }
 
+/// Sorts what is asked, as the search looks for it.
+fn sort_all(alloc: Global, problem: &mut Problem) {
+    let rows = problem.spans.len();
+    sort_uses(alloc, &mut problem.cells, rows);
+    sort_feeds(&mut problem.cells);
+    mark_cells(&mut problem.cells, rows);
+    sort_occurrences(&mut problem.sums, problem.variables.roles.len());
+    problem.counting.touches.items_mut().sort_unstable();
+}
+
 /// Adds what is asked of all objects, and sorts it; or gives the row that contradicts itself, on that object and key.
 fn add_history(
     alloc: Global,
     problem: &mut Problem,
     shape: &Shape,
 ) -> Result<Option<Execution>, OutOfMemory> {
-    let rows = shape.table().rows();
-    add_pairs(&mut problem.variables, &mut problem.spans)?;
-    let mut executions = Vec::new(alloc);
-    read_executions(&mut executions, rows)?;
-    let refused = add_all(alloc, problem, shape.plan().objects(), &executions)?;
-    sort_uses(alloc, &mut problem.cells, rows.len())?;
-    sort_feeds(&mut problem.cells)?;
-    mark_cells(&mut problem.cells, rows.len())?;
-    sort_occurrences(&mut problem.sums, problem.variables.roles.len())?;
-    problem.counting.touches.sort_unstable();
+    add_pairs(&mut problem.variables, &mut problem.spans);
+    let mut executions = Table::new(alloc, NO_EXECUTION);
+    read_executions(&mut executions, shape.table().rows());
+    has_room(executions.is_short())?;
+    let refused = add_all(alloc, problem, shape.plan().objects(), executions.items())?;
+    sort_all(alloc, problem);
+    has_room(problem.is_short())?;
     Ok(refused)
 }
 
-/// What the history asks of an order, if so much work and so many bytes suffice for it.
+/// Reads what the history asks of an order, if the work and the bytes that the problem may take suffice for it.
 pub(crate) fn read(
     alloc: Global,
     shape: &Shape,
-    allowance: Allowance,
+    problem: &mut Problem,
 ) -> Result<Encoded, OutOfMemory> {
-    let spans = spans_of(alloc, shape.table().rows())?;
-    if count_pairs(&spans).saturating_mul(100) > allowance.bytes {
+    read_spans(&mut problem.spans, shape.table().rows())?;
+    if count_pairs(&problem.spans).saturating_mul(100) > problem.allowance.bytes {
         return Ok(Encoded::Large);
     }
-    let mut problem = Problem::of(alloc, spans, allowance);
-    let refused = add_history(alloc, &mut problem, shape)?;
-    if let Some(found) = refused {
+    if let Some(found) = add_history(alloc, problem, shape)? {
         let tx = at(&problem.spans, found.row, NOBODY).tx;
         let (kind, _) = declared_as(shape.plan().objects(), found.object);
         return Ok(Encoded::Clash(tx, found.object, cell_with(kind, found.key)));
     }
-    if is_large(&problem) {
+    if is_large(problem) {
         return Ok(Encoded::Large);
     }
-    Ok(Encoded::Problem(problem))
+    Ok(Encoded::Whole)
 }

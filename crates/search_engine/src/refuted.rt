@@ -1,11 +1,10 @@
 //! Refutations from the steps of a search.
 
-use crate::cells::{NO_CELL, NO_READER, NO_SOURCE, NO_WRITER};
 use crate::encoding::{Origin, Role};
-use crate::literals::{NONE, at, fill, push, range, set, short, var};
-use crate::log::{Logged, NOT_LOGGED, StepLog, Why};
+use crate::literals::{NONE, Table, push, short, var};
+use crate::log::{Logged, StepLog, Why};
 use crate::problem::Problem;
-use crate::queues::{NO_ITEM, NO_TAKE, TakeOf};
+use crate::queues::TakeOf;
 use crate::spans::span_of;
 use aud_event::OutOfMemory;
 use judge_clauses::{Atom, Literal, Read, Reason, Refutation, Step, Take};
@@ -19,8 +18,8 @@ fn tx_of(problem: &Problem, row: usize) -> u32 {
 
 /// What the reader of that number reads.
 fn read_of(problem: &Problem, reader: u32) -> Read {
-    let found = at(&problem.cells.readers, reader as usize, NO_READER);
-    let cell = at(&problem.cells.cells, found.cell as usize, NO_CELL);
+    let found = problem.cells.readers.at(reader as usize);
+    let cell = problem.cells.cells.at(found.cell as usize);
     Read {
         reader: tx_of(problem, found.row),
         object: cell.object,
@@ -30,9 +29,10 @@ fn read_of(problem: &Problem, reader: u32) -> Read {
 
 /// The transaction of the writer, if there is one.
 fn writer_of(problem: &Problem, writer: u32) -> Option<u32> {
-    match problem.cells.writers.get(writer as usize) {
-        Some(found) => Some(tx_of(problem, found.row)),
-        None => None,
+    if writer == NONE {
+        None
+    } else {
+        Some(tx_of(problem, problem.cells.writers.at(writer as usize).row))
     }
 }
 
@@ -47,15 +47,15 @@ fn take_of(problem: &Problem, take: TakeOf) -> Take {
 
 /// The take of the item, and the addition that it is.
 fn item_of(problem: &Problem, item: u32) -> (Take, u32, u32) {
-    let found = at(&problem.items.items, item as usize, NO_ITEM);
-    let take = at(&problem.items.takes, found.take as usize, NO_TAKE);
+    let found = problem.items.items.at(item as usize);
+    let take = problem.items.takes.at(found.take as usize);
     let adder = tx_of(problem, found.row);
     (take_of(problem, take), adder, found.addition)
 }
 
 /// The source: what is read, and by whom it was written, or that it was there from the beginning.
 fn source_of(problem: &Problem, source: u32) -> (Read, Option<u32>) {
-    let found = at(&problem.cells.sources, source as usize, NO_SOURCE);
+    let found = problem.cells.sources.at(source as usize);
     (
         read_of(problem, found.reader),
         writer_of(problem, found.writer),
@@ -64,7 +64,7 @@ fn source_of(problem: &Problem, source: u32) -> (Read, Option<u32>) {
 
 /// What the variable says.
 fn atom_of(problem: &Problem, variable: usize) -> Atom {
-    match at(&problem.variables.roles, variable, Role::Nothing) {
+    match problem.variables.roles.at(variable) {
         Role::Nothing => Atom::Commits(0),
         Role::Precedence(row, other) => {
             let first = tx_of(problem, row as usize);
@@ -83,8 +83,8 @@ fn atom_of(problem: &Problem, variable: usize) -> Atom {
 }
 
 /// The law that what was added before is taken before.
-fn gone_of(problem: &Problem, number: u32) -> Option<QueueLaw> {
-    let found = problem.items.gone.get(number as usize)?;
+fn gone_of(problem: &Problem, number: u32) -> QueueLaw {
+    let found = problem.items.gone.at(number as usize);
     let front = FrontItem {
         adder: tx_of(problem, found.row),
         value: found.value,
@@ -92,10 +92,10 @@ fn gone_of(problem: &Problem, number: u32) -> Option<QueueLaw> {
     if found.item == NONE {
         let taker = tx_of(problem, found.take.row);
         let (object, place) = (found.take.object, found.take.number);
-        return Some(QueueLaw::Left(taker, object, place, front));
+        return QueueLaw::Left(taker, object, place, front);
     }
     let (take, adder, addition) = item_of(problem, found.item);
-    Some(QueueLaw::Gone(take, adder, addition, front))
+    QueueLaw::Gone(take, adder, addition, front)
 }
 
 /// The law of a cell that the origin is, if it is one.
@@ -134,7 +134,7 @@ fn sum_law(problem: &Problem, origin: Origin) -> Option<SumLaw> {
 fn queue_law(problem: &Problem, origin: Origin) -> Option<QueueLaw> {
     match origin {
         Origin::Items(take) => {
-            let found = at(&problem.items.takes, take as usize, NO_TAKE);
+            let found = problem.items.takes.at(take as usize);
             Some(QueueLaw::Items(take_of(problem, found)))
         }
         Origin::ItemStands(item) => {
@@ -148,7 +148,7 @@ fn queue_law(problem: &Problem, origin: Origin) -> Option<QueueLaw> {
         Origin::Empty(row, object, place) => {
             Some(QueueLaw::Empty(tx_of(problem, row as usize), object, place))
         }
-        Origin::Gone(number) => gone_of(problem, number),
+        Origin::Gone(number) => Some(gone_of(problem, number)),
         _ => None,
     }
 }
@@ -170,20 +170,20 @@ fn law_of(problem: &Problem, origin: Origin) -> Option<ObjectLaw> {
 /// The steps that the last one needs, with their numbers among these, and the numbers of the atoms.
 #[derive(Drop)]
 struct Renumbering {
-    steps: Vec<u32>,
-    atoms: Vec<u32>,
+    steps: Table<u32>,
+    atoms: Table<u32>,
 }
 
 /// Marks the steps that the last one needs.
-fn mark_needed(numbers: &mut [u32], steps: &[Logged], hints: &[u32], last: u32) {
-    set(numbers, last as usize, 0);
+fn mark_needed(numbers: &mut Table<u32>, steps: &StepLog, last: u32) {
+    numbers.set(last as usize, 0);
     let count = (last as usize).saturating_add(1);
     for gone in 0..count {
         let number = count - 1 - gone;
-        if at(numbers, number, NONE) != NONE {
-            if let Why::Units(from, to) = at(steps, number, NOT_LOGGED).why {
-                for hint in range(hints, from, to) {
-                    set(numbers, *hint as usize, 0);
+        if numbers.at(number) != NONE {
+            if let Why::Units(from, to) = steps.steps.at(number).why {
+                for hint in steps.hints.range(from, to) {
+                    numbers.set(*hint as usize, 0);
                 }
             }
         }
@@ -204,14 +204,15 @@ fn number_needed(numbers: &mut [u32]) {
 /// Adds the atoms of the literals that are new.
 fn add_atoms(
     atoms: &mut Vec<Atom>,
-    numbers: &mut [u32],
+    numbers: &mut Table<u32>,
     problem: &Problem,
     literals: &[u32],
 ) -> Result<(), OutOfMemory> {
     for literal in literals {
-        if at(numbers, var(*literal), 0) == NONE {
-            set(numbers, var(*literal), short(atoms.len()));
-            push(atoms, atom_of(problem, var(*literal)))?;
+        let variable = var(*literal);
+        if variable < numbers.len() && numbers.at(variable) == NONE {
+            numbers.set(variable, short(atoms.len()));
+            push(atoms, atom_of(problem, variable))?;
         }
     }
     Ok(())
@@ -221,19 +222,19 @@ fn add_atoms(
 fn clause_of(
     alloc: Global,
     problem: &Problem,
-    numbers: &[u32],
+    numbers: &Table<u32>,
     literals: &[u32],
 ) -> Result<Vec<Literal>, OutOfMemory> {
     let mut clause = Vec::new(alloc);
     for is_first in &[true, false] {
         for literal in literals {
-            let role = at(&problem.variables.roles, var(*literal), Role::Nothing);
+            let role = problem.variables.roles.at(var(*literal));
             let is_guard = matches!(role, Role::Source(_) | Role::Item(_)) && literal & 1 == 1;
             if is_guard == *is_first {
                 push(
                     &mut clause,
                     Literal {
-                        atom: at(numbers, var(*literal), NONE),
+                        atom: numbers.at(var(*literal)),
                         holds: literal & 1 == 0,
                     },
                 )?;
@@ -256,10 +257,10 @@ fn circle_of(alloc: Global, problem: &Problem, rows: [u32; 4]) -> Result<Vec<u32
 }
 
 /// The numbers of the hints between those places.
-fn hints_of(alloc: Global, hints: &[u32], numbers: &[u32]) -> Result<Vec<u32>, OutOfMemory> {
+fn hints_of(alloc: Global, hints: &[u32], numbers: &Table<u32>) -> Result<Vec<u32>, OutOfMemory> {
     let mut found = Vec::new(alloc);
     for hint in hints {
-        push(&mut found, at(numbers, *hint as usize, NONE))?;
+        push(&mut found, numbers.at(*hint as usize))?;
     }
     Ok(found)
 }
@@ -269,12 +270,12 @@ fn reason_of(
     alloc: Global,
     problem: &Problem,
     steps: &StepLog,
-    numbers: &[u32],
+    numbers: &Table<u32>,
     why: Why,
 ) -> Result<Option<Reason<ObjectLaw>>, OutOfMemory> {
     match why {
         Why::Units(from, to) => {
-            let hints = range(&steps.hints, from, to);
+            let hints = steps.hints.range(from, to);
             Ok(Some(Reason::Units(hints_of(alloc, hints, numbers)?)))
         }
         Why::Origin(Origin::Circle(first, row, other, last)) => {
@@ -288,35 +289,17 @@ fn reason_of(
     }
 }
 
-/// Room for the numbers of steps and atoms.
-fn make_numbers(
-    numbers: &mut Renumbering,
-    steps: usize,
-    variables: usize,
-) -> Result<(), OutOfMemory> {
-    fill(&mut numbers.steps, steps, NONE)?;
-    fill(&mut numbers.atoms, variables, NONE)
-}
-
 /// The numbers of the steps that the last one needs, and room for those of atoms.
-fn numbers_of(
-    alloc: Global,
-    problem: &Problem,
-    steps: &StepLog,
-    last: u32,
-) -> Result<Renumbering, OutOfMemory> {
+fn numbers_of(alloc: Global, problem: &Problem, steps: &StepLog, last: u32) -> Renumbering {
     let mut numbers = Renumbering {
-        steps: Vec::new(alloc),
-        atoms: Vec::new(alloc),
+        steps: Table::new(alloc, NONE),
+        atoms: Table::new(alloc, NONE),
     };
-    make_numbers(
-        &mut numbers,
-        steps.steps.len(),
-        problem.variables.roles.len(),
-    )?;
-    mark_needed(&mut numbers.steps, &steps.steps, &steps.hints, last);
-    number_needed(&mut numbers.steps);
-    Ok(numbers)
+    numbers.steps.fill(steps.steps.len());
+    numbers.atoms.fill(problem.variables.roles.len());
+    mark_needed(&mut numbers.steps, steps, last);
+    number_needed(numbers.steps.items_mut());
+    numbers
 }
 
 /// Adds the step to the refutation. False where its reason cannot be said.
@@ -328,7 +311,7 @@ fn add_step(
     steps: &StepLog,
     logged: Logged,
 ) -> Result<bool, OutOfMemory> {
-    let literals = range(&steps.literals, logged.from, logged.to);
+    let literals = steps.literals.range(logged.from, logged.to);
     add_atoms(&mut refutation.atoms, &mut numbers.atoms, problem, literals)?;
     let clause = clause_of(alloc, problem, &numbers.atoms, literals)?;
     let found = reason_of(alloc, problem, steps, &numbers.steps, logged.why)?;
@@ -347,9 +330,10 @@ fn add_steps(
     problem: &Problem,
     steps: &StepLog,
 ) -> Result<bool, OutOfMemory> {
-    for (number, logged) in steps.steps.iter().enumerate() {
-        if at(&numbers.steps, number, NONE) != NONE {
-            let is_said = add_step(alloc, refutation, numbers, problem, steps, *logged)?;
+    for number in 0..steps.steps.len() {
+        if numbers.steps.at(number) != NONE {
+            let logged = steps.steps.at(number);
+            let is_said = add_step(alloc, refutation, numbers, problem, steps, logged)?;
             if !is_said {
                 return Ok(false);
             }
@@ -365,7 +349,10 @@ pub(crate) fn refutation_of(
     steps: &StepLog,
     last: u32,
 ) -> Result<Option<Refutation<ObjectLaw>>, OutOfMemory> {
-    let mut numbers = numbers_of(alloc, problem, steps, last)?;
+    let mut numbers = numbers_of(alloc, problem, steps, last);
+    if numbers.steps.is_short() || numbers.atoms.is_short() {
+        return Err(OutOfMemory);
+    }
     let mut refutation = Refutation {
         atoms: Vec::new(alloc),
         steps: Vec::new(alloc),

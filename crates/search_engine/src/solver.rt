@@ -4,19 +4,19 @@ use crate::analysis::{Analysis, count_levels, learn, make_marks, read_conflict};
 use crate::betweens::{check_commits, propagate_pair, propagate_source};
 use crate::bounds::{clear_waiting, count_terms, propagate_waiting, wake_guarded};
 use crate::closure::{Closure, close, close_spans, reopen};
-use crate::encoding::{LITERALS, Role, append};
+use crate::encoding::{Clauses, LITERALS, Role, Variables, append};
 use crate::explanation::{View, pair_of};
 use crate::heap::{Heap, heaviest, insert, make_heap, take_heaviest};
-use crate::known::{Antecedent, Conflict, Known, assign, make_room, value};
-use crate::literals::{NONE, TRUE, at, extend_by, neg, push, range, set, short, var};
+use crate::known::{Antecedent, Conflict, Known, assign, make_room};
+use crate::literals::{NONE, TRUE, Table, neg, short, var};
 use crate::log::{Log, bytes_logged, log_conflict, log_end, log_learned, make_log};
-use crate::problem::{Problem, bytes_of};
-use crate::queues::NO_ITEM;
+use crate::problem::{Allowance, Problem, bytes_of, has_room};
 use crate::reduce::reduce;
 use crate::spans::{Span, instant, span_of};
 use crate::sums::Sums;
 use crate::watches::{follow_clauses, watch_all, watch_both};
 use aud_event::OutOfMemory;
+use aud_witness::Decision;
 use std::alloc::Global;
 
 /// After so many conflicts the worse half of the learned clauses goes.
@@ -32,6 +32,11 @@ struct Late {
     level: u32,
 }
 
+const NOT_LATE: Late = Late {
+    clause: NONE,
+    level: 0,
+};
+
 /// A search, as far as it is.
 #[derive(Drop)]
 pub(crate) struct Solver {
@@ -43,10 +48,12 @@ pub(crate) struct Solver {
     pub analysis: Analysis,
     pub log: Log,
     pub conflicts: u64,
+    /// The order that was tried last, as decisions.
+    pub order: Vec<Decision>,
     /// Literals that are taken to hold for a while.
-    pub assumed: Vec<u32>,
+    pub assumed: Table<u32>,
     /// The phases of the longest trail, its length, how many of its first literals still hold, and whether its phases are tried.
-    best: Vec<bool>,
+    best: Table<bool>,
     best_count: usize,
     best_kept: usize,
     pub tries_best: bool,
@@ -56,7 +63,7 @@ pub(crate) struct Solver {
     at_conflict: u64,
     /// How many levels the search goes back, where more would be far.
     stride: u32,
-    late: Vec<Late>,
+    late: Table<Late>,
 }
 
 /// What a search came to.
@@ -73,23 +80,19 @@ pub(crate) enum Found {
 }
 
 /// A search of the problem, for which no room is made yet.
-pub(crate) fn solver_of(
-    alloc: Global,
-    problem: Problem,
-    logs: bool,
-) -> Result<Solver, OutOfMemory> {
-    let closure = close_spans(alloc, &problem.spans)?;
-    Ok(Solver {
+pub(crate) fn solver_of(alloc: Global, allowance: Allowance, logs: bool) -> Solver {
+    Solver {
         alloc,
-        problem,
+        problem: Problem::empty(alloc, allowance),
         known: Known::empty(alloc),
-        closure,
+        closure: Closure::empty(alloc),
+        order: Vec::new(alloc),
         heap: Heap::empty(alloc),
         analysis: Analysis::empty(alloc),
         log: Log::empty(alloc, logs),
         conflicts: 0,
-        assumed: Vec::new(alloc),
-        best: Vec::new(alloc),
+        assumed: Table::new(alloc, TRUE),
+        best: Table::new(alloc, false),
         best_count: 0,
         best_kept: 0,
         tries_best: false,
@@ -97,25 +100,40 @@ pub(crate) fn solver_of(
         choice_count: 0,
         at_conflict: 0,
         stride: 1,
-        late: Vec::new(alloc),
-    })
+        late: Table::new(alloc, NOT_LATE),
+    }
 }
 
-/// Makes room for what is known and learned.
-fn make_room_to_learn(solver: &mut Solver, count: usize) -> Result<(), OutOfMemory> {
-    make_heap(&mut solver.heap, count)?;
-    make_marks(&mut solver.analysis, count)?;
-    let origins = solver.problem.clauses.origins.len();
-    make_log(&mut solver.log, count, origins)
+/// Whether some growth was refused since the search began.
+fn is_short(solver: &Solver) -> bool {
+    let is_list_short = solver.assumed.is_short()
+        || solver.best.is_short()
+        || solver.late.is_short();
+    is_list_short
+        || solver.known.is_short()
+        || solver.closure.is_short()
+        || solver.heap.is_short()
+        || solver.analysis.is_short()
+        || solver.log.is_short()
+}
+
+/// Want of memory, where some growth was refused.
+pub(crate) fn check_room(solver: &Solver) -> Result<(), OutOfMemory> {
+    has_room(is_short(solver) || solver.problem.is_short())
 }
 
 /// Makes room.
 fn make_all_room(solver: &mut Solver) -> Result<(), OutOfMemory> {
     let count = solver.problem.variables.roles.len();
-    make_room(&mut solver.known, count)?;
+    let origins = solver.problem.clauses.origins.len();
+    close_spans(&mut solver.closure, &solver.problem.spans);
+    make_room(&mut solver.known, count);
+    make_heap(&mut solver.heap, count);
+    make_marks(&mut solver.analysis, count);
+    make_log(&mut solver.log, count, origins);
     solver.known.work = solver.problem.allowance.work;
-    make_room_to_learn(solver, count)?;
-    watch_all(&mut solver.problem.clauses, count.saturating_mul(2))
+    watch_all(&mut solver.problem.clauses, count.saturating_mul(2));
+    check_room(solver)
 }
 
 /// The stamp of the last event.
@@ -128,23 +146,23 @@ fn last_stamp(spans: &[Span]) -> u32 {
 }
 
 /// Tries pairs first as they took effect, the earlier ones first.
-fn weigh_pairs(roles: &[Role], spans: &[Span], phases: &mut [bool], weights: &mut [f64]) {
+fn weigh_pairs(variables: &mut Variables, spans: &[Span], heap: &mut Heap) {
     let whole = f64::from(last_stamp(spans)) * 20.0 + 20.0;
-    for variable in 1..roles.len() {
-        if let Role::Precedence(row, other) = roles[variable] {
+    for variable in 1..variables.roles.len() {
+        if let Role::Precedence(row, other) = variables.roles.at(variable) {
             let one = instant(span_of(spans, row as usize), 15);
             let two = instant(span_of(spans, other as usize), 15);
-            set(phases, variable, one < two);
+            variables.phases.set(variable, one < two);
             let late = f64::from(short(one.max(two) as usize));
-            set(weights, variable, 1.0 - 0.5 * (late / whole));
+            heap.weights.set(variable, 1.0 - 0.5 * (late / whole));
         }
     }
 }
 
 /// All whose values may be chosen wait for that.
-fn insert_all(heap: &mut Heap, choices: &[bool]) {
+fn insert_all(heap: &mut Heap, choices: &Table<bool>) {
     for variable in 1..choices.len() {
-        if choices[variable] {
+        if choices.at(variable) {
             insert(heap, variable);
         }
     }
@@ -153,11 +171,38 @@ fn insert_all(heap: &mut Heap, choices: &[bool]) {
 /// Makes room, and decides first what comes first.
 pub(crate) fn prepare(solver: &mut Solver) -> Result<(), OutOfMemory> {
     make_all_room(solver)?;
-    let variables = &mut solver.problem.variables;
-    let (spans, weights) = (&solver.problem.spans[..], &mut solver.heap.weights);
-    weigh_pairs(&variables.roles, spans, &mut variables.phases, weights);
-    insert_all(&mut solver.heap, &variables.choices);
+    let (problem, heap) = (&mut solver.problem, &mut solver.heap);
+    weigh_pairs(&mut problem.variables, &problem.spans, heap);
+    insert_all(heap, &problem.variables.choices);
     Ok(())
+}
+
+/// Follows that the pair stands so, by the closure and the cells.
+fn propagate_order(
+    problem: &Problem,
+    known: &mut Known,
+    closure: &mut Closure,
+    (row, other): (usize, usize),
+) -> Option<Conflict> {
+    let conflict = close(known, closure, &problem.spans, row, other);
+    if conflict.is_some() {
+        return conflict;
+    }
+    propagate_pair(known, &problem.cells, &problem.spans, row, other)
+}
+
+/// Follows that the variable holds, which is of no pair.
+fn propagate_role(problem: &mut Problem, known: &mut Known, role: Role) -> Option<Conflict> {
+    match role {
+        Role::Source(source) => propagate_source(known, &problem.cells, &problem.spans, source),
+        Role::Commits(row) => check_commits(known, &problem.cells, &problem.spans, row as usize),
+        Role::Item(item) => {
+            let sum = problem.items.items.at(item as usize).sum;
+            wake_guarded(&mut problem.sums, sum);
+            None
+        }
+        Role::Nothing | Role::Precedence(..) => None,
+    }
 }
 
 /// Follows the next literal that holds by all but clauses.
@@ -166,30 +211,18 @@ fn propagate_next(
     known: &mut Known,
     closure: &mut Closure,
 ) -> Option<Conflict> {
-    let literal = at(&known.trail, known.propagated, 0);
+    let literal = known.trail.at(known.propagated);
     known.propagated = known.propagated.wrapping_add(1);
     let count = count_terms(&mut problem.sums, literal, true);
     known.work = known.work.wrapping_add(count as u64);
-    if let Some((row, other)) = pair_of(&problem.variables.roles, literal) {
-        let conflict = close(known, closure, &problem.spans, row, other);
-        if conflict.is_some() {
-            return conflict;
-        }
-        return propagate_pair(known, &problem.cells, &problem.spans, row, other);
+    if let Some(pair) = pair_of(&problem.variables.roles, literal) {
+        return propagate_order(problem, known, closure, pair);
     }
     if literal & 1 == 1 {
         return None;
     }
-    match at(&problem.variables.roles, var(literal), Role::Nothing) {
-        Role::Source(source) => propagate_source(known, &problem.cells, &problem.spans, source),
-        Role::Commits(row) => check_commits(known, &problem.cells, &problem.spans, row as usize),
-        Role::Item(item) => {
-            let sum = at(&problem.items.items, item as usize, NO_ITEM).sum;
-            wake_guarded(&mut problem.sums, sum);
-            None
-        }
-        _ => None,
-    }
+    let role = problem.variables.roles.at(var(literal));
+    propagate_role(problem, known, role)
 }
 
 /// Follows what holds as far as it forces more.
@@ -218,10 +251,10 @@ fn propagate(problem: &mut Problem, known: &mut Known, closure: &mut Closure) ->
 }
 
 /// The literal is open again.
-fn reopen_literal(values: &mut [i8], phases: &mut [bool], literal: u32) {
-    set(values, literal as usize, 0);
-    set(values, neg(literal) as usize, 0);
-    set(phases, var(literal), literal & 1 == 0);
+fn reopen_literal(known: &mut Known, variables: &mut Variables, literal: u32) {
+    known.values.set(literal as usize, 0);
+    known.values.set(neg(literal) as usize, 0);
+    variables.phases.set(var(literal), literal & 1 == 0);
 }
 
 /// The literal no longer holds.
@@ -235,15 +268,15 @@ fn unassign(
     if let Some((row, other)) = pair_of(&problem.variables.roles, literal) {
         reopen(closure, row, other);
     }
-    reopen_literal(&mut known.values, &mut problem.variables.phases, literal);
-    if at(&problem.variables.choices, var(literal), false) {
+    reopen_literal(known, &mut problem.variables, literal);
+    if problem.variables.choices.at(var(literal)) {
         insert(heap, var(literal));
     }
 }
 
-/// The literals between those places of the trail hold no longer, as the terms count them.
-fn uncount(sums: &mut Sums, trail: &[u32], from: usize, to: usize) {
-    for literal in range(trail, from, to) {
+/// The literals of the trail hold no longer, as the terms count them.
+fn uncount(sums: &mut Sums, literals: &[u32]) {
+    for literal in literals {
         let _count = count_terms(sums, *literal, false);
     }
 }
@@ -257,7 +290,7 @@ fn unassign_from(
     from: usize,
 ) {
     for place in from..known.count {
-        let literal = at(&known.trail, place, 0);
+        let literal = known.trail.at(place);
         unassign(problem, known, closure, heap, literal);
     }
     known.count = from;
@@ -270,122 +303,117 @@ pub(crate) fn backjump(solver: &mut Solver, level: u32) {
     if solver.known.levels.len() <= level as usize {
         return;
     }
-    let to = at(&solver.known.levels, level as usize, 0);
+    let to = solver.known.levels.at(level as usize);
     let (problem, known) = (&mut solver.problem, &mut solver.known);
-    uncount(&mut problem.sums, &known.trail, to, known.propagated);
+    uncount(&mut problem.sums, known.trail.range(to, known.propagated));
     unassign_from(problem, known, &mut solver.closure, &mut solver.heap, to);
     known.levels.truncate(level as usize);
     solver.best_kept = solver.best_kept.min(to);
     clear_waiting(&mut problem.sums);
-    let kept = force_late(known, &problem.clauses.arena, &mut solver.late, level);
-    solver.late.truncate(kept);
+    force_late(known, &problem.clauses, &mut solver.late, level);
 }
 
-/// What late clauses forced that are of this level or of lower ones they force again. It gives how many these are; they come first.
-fn force_late(known: &mut Known, arena: &[u32], late: &mut [Late], level: u32) -> usize {
+/// What late clauses forced that are of this level or of lower ones they force again; the others are late no longer.
+fn force_late(known: &mut Known, clauses: &Clauses, late: &mut Table<Late>, level: u32) {
     let mut kept: usize = 0;
     for place in 0..late.len() {
-        let found = late[place];
+        let found = late.at(place);
         if found.level > level {
             continue;
         }
-        let first = at(arena, (found.clause as usize).wrapping_add(LITERALS), TRUE);
-        if value(&known.values, first) == 0 {
+        let place = (found.clause as usize).wrapping_add(LITERALS);
+        let first = clauses.arena.at(place);
+        if known.value(first) == 0 {
             assign(known, first, Antecedent::Clause(found.clause));
         }
-        set(late, kept, found);
+        late.set(kept, found);
         kept = kept.wrapping_add(1);
     }
-    kept
+    late.truncate(kept);
 }
 
 /// Notes the phases of the first literals of the trail, so many, if none longer was noted. Those that held when the last one was noted, and
 /// still do, are noted already.
-fn note_best(solver: &mut Solver, count: usize) -> Result<(), OutOfMemory> {
+fn note_best(solver: &mut Solver, count: usize) {
     if count <= solver.best_count {
-        return Ok(());
+        return;
     }
     if solver.best.is_empty() {
-        let phases = &solver.problem.variables.phases[..];
-        extend_by(&mut solver.best, phases)?;
+        solver.best.add_all(solver.problem.variables.phases.items());
     }
-    for literal in range(&solver.known.trail, solver.best_kept, count) {
-        set(&mut solver.best, var(*literal), *literal & 1 == 0);
+    for literal in solver.known.trail.range(solver.best_kept, count) {
+        solver.best.set(var(*literal), *literal & 1 == 0);
     }
     solver.best_count = count;
     solver.best_kept = count;
-    Ok(())
 }
 
-/// What explanations are read from.
-macro_rules! view_of {
-    ($solver:expr) => {
-        View {
-            values: &$solver.known.values,
-            states: &$solver.known.states,
-            arena: &$solver.problem.clauses.arena,
-            origins: &$solver.problem.clauses.origins,
-            roles: &$solver.problem.variables.roles,
-            spans: &$solver.problem.spans,
-            cells: &$solver.problem.cells,
-            sums: &$solver.problem.sums.sums,
-            terms: &$solver.problem.sums.terms,
-        }
-    };
+/// What was learned from a conflict, beside the clause: the level from which on the clause forces its first literal, of how many levels
+/// its literals are, and the step that gives it.
+#[derive(Clone, Copy)]
+struct Learned {
+    level: u32,
+    levels: u32,
+    step: u32,
 }
 
-/// Adds the learned clause, and what it forces since the level.
-fn add_learned(solver: &mut Solver, levels: u32, step: u32, level: u32) -> Result<(), OutOfMemory> {
+/// Adds the learned clause, and what it forces since its level.
+fn add_learned(solver: &mut Solver, learned: Learned) {
     let clauses = &mut solver.problem.clauses;
-    let clause = append(
-        &mut clauses.arena,
-        &solver.analysis.clause,
-        levels,
-        NONE,
-        step,
-    )?;
-    push(&mut clauses.learned, clause)?;
-    watch_both(&mut clauses.arena, &mut clauses.heads, clause);
-    let first = at(&solver.analysis.clause, 0, 0);
-    if value(&solver.known.values, first) == 0 {
+    let literals = solver.analysis.clause.items();
+    let (levels, step) = (learned.levels, learned.step);
+    let clause = append(&mut clauses.arena, literals, levels, NONE, step);
+    clauses.learned.add(clause);
+    watch_both(clauses, clause);
+    let first = solver.analysis.clause.at(0);
+    if solver.known.value(first) == 0 {
         assign(&mut solver.known, first, Antecedent::Clause(clause));
     }
+    let level = learned.level;
     if level < short(solver.known.levels.len()) {
-        push(&mut solver.late, Late { clause, level })?;
+        solver.late.add(Late { clause, level });
     }
-    Ok(())
 }
 
 /// Notes what the conflict needs. Its literals are those that hold and cannot all do.
-fn note_conflict(solver: &mut Solver, conflict: Conflict, is_end: bool) -> Result<(), OutOfMemory> {
-    let view = view_of!(solver);
-    let literals = &solver.analysis.todo[..];
-    log_conflict(&mut solver.log, &view, conflict, literals)?;
+fn note_conflict(
+    log: &mut Log,
+    analysis: &mut Analysis,
+    view: &View<'_>,
+    conflict: Conflict,
+    is_end: bool,
+) {
+    log_conflict(log, view, conflict, analysis.todo.items());
     if is_end {
         log_end(
-            &mut solver.log,
-            &view,
-            &mut solver.analysis.contributions,
-            literals,
-        )?;
+            log,
+            view,
+            &mut analysis.contributions,
+            analysis.todo.items(),
+        );
     }
-    Ok(())
 }
 
-/// Makes a clause of the conflict, whose highest level is given; and gives the level at which the clause forces a literal.
-fn make_clause(solver: &mut Solver, top: u32) -> Result<u32, OutOfMemory> {
-    let view = view_of!(solver);
-    let trail = range(&solver.known.trail, 0, solver.known.count);
-    learn(&mut solver.analysis, &mut solver.heap, &view, trail, top)
-}
-
-/// Writes down what the clause follows from, if that is asked for, and gives the step.
-fn write_clause(solver: &mut Solver) -> Result<u32, OutOfMemory> {
-    if !solver.log.is_on {
-        return Ok(NONE);
+/// Makes a clause of the conflict, whose highest level is given, and writes down what it follows from, if that is asked for.
+fn make_clause(
+    analysis: &mut Analysis,
+    heap: &mut Heap,
+    log: &mut Log,
+    view: &View<'_>,
+    top: u32,
+) -> Learned {
+    let level = learn(analysis, heap, view, top);
+    let levels = count_levels(analysis, view.known);
+    let step = if log.is_on {
+        log_learned(log, view, analysis)
+    } else {
+        NONE
+    };
+    Learned {
+        level,
+        levels,
+        step,
     }
-    let view = view_of!(solver);
-    log_learned(&mut solver.log, &view, &mut solver.analysis)
 }
 
 /// The level to which the search goes back, where the clause forces a literal from that one on. Where that is far, it is one below the
@@ -406,12 +434,17 @@ fn backjump_level(solver: &mut Solver, level: u32, top: u32) -> u32 {
 
 /// Learns a clause from the conflict, whose highest level is given, and goes back to where the clause forces a literal.
 fn learn_clause(solver: &mut Solver, top: u32) -> Result<(), OutOfMemory> {
-    let level = make_clause(solver, top)?;
-    let levels = count_levels(&mut solver.analysis, &solver.known.states);
-    let step = write_clause(solver)?;
-    let to = backjump_level(solver, level, top);
+    let view = View {
+        problem: &solver.problem,
+        known: &solver.known,
+    };
+    let (analysis, heap, log) = (&mut solver.analysis, &mut solver.heap, &mut solver.log);
+    let learned = make_clause(analysis, heap, log, &view, top);
+    check_room(solver)?;
+    let to = backjump_level(solver, learned.level, top);
     backjump(solver, to);
-    add_learned(solver, levels, step, level)
+    add_learned(solver, learned);
+    check_room(solver)
 }
 
 /// Drops learned clauses, if it is time.
@@ -426,11 +459,17 @@ fn reduce_if_due(solver: &mut Solver) -> Result<(), OutOfMemory> {
 
 /// Reads what the conflict needs, and notes it, if that is asked for or is the end. The highest level of it is given.
 fn read_top(solver: &mut Solver, conflict: Conflict) -> Result<u32, OutOfMemory> {
-    let view = view_of!(solver);
-    let top = read_conflict(&mut solver.analysis, &view, conflict)?;
-    if solver.log.is_on || (top == 0 && solver.problem.clauses.learned.is_empty()) {
-        note_conflict(solver, conflict, top == 0)?;
+    let has_learned = !solver.problem.clauses.learned.is_empty();
+    let view = View {
+        problem: &solver.problem,
+        known: &solver.known,
+    };
+    let (analysis, log) = (&mut solver.analysis, &mut solver.log);
+    let top = read_conflict(analysis, &view, conflict);
+    if log.is_on || (top == 0 && !has_learned) {
+        note_conflict(log, analysis, &view, conflict, top == 0);
     }
+    check_room(solver)?;
     Ok(top)
 }
 
@@ -438,8 +477,8 @@ fn read_top(solver: &mut Solver, conflict: Conflict) -> Result<u32, OutOfMemory>
 fn handle_conflict(solver: &mut Solver, conflict: Conflict) -> Result<Option<Found>, OutOfMemory> {
     solver.conflicts = solver.conflicts.wrapping_add(1);
     let last = solver.known.levels.len().wrapping_sub(1);
-    let begun = at(&solver.known.levels, last, 0);
-    note_best(solver, begun)?;
+    let begun = solver.known.levels.at(last);
+    note_best(solver, begun);
     let top = read_top(solver, conflict)?;
     if top == 0 {
         return Ok(Some(Found::NoOrder));
@@ -455,93 +494,105 @@ fn handle_conflict(solver: &mut Solver, conflict: Conflict) -> Result<Option<Fou
     Ok(None)
 }
 
-/// Takes the literal to hold, if it is open. False where that cannot be.
-fn assume_one(solver: &mut Solver, literal: u32) -> bool {
-    if value(&solver.known.values, literal) != 0 {
-        return true;
+/// Takes the literals to hold that are open. False where they cannot all.
+fn assume_all(
+    problem: &mut Problem,
+    known: &mut Known,
+    closure: &mut Closure,
+    literals: &[u32],
+) -> bool {
+    for literal in literals {
+        if known.value(*literal) == 0 {
+            assign(known, *literal, Antecedent::Choice);
+            if propagate(problem, known, closure).is_some() {
+                return false;
+            }
+        }
     }
-    assign(&mut solver.known, literal, Antecedent::Choice);
-    propagate(&mut solver.problem, &mut solver.known, &mut solver.closure).is_none()
+    true
 }
 
 /// Takes the assumed literals to hold, at a level of their own. False where they cannot all.
-fn assume(solver: &mut Solver) -> Result<bool, OutOfMemory> {
-    push(&mut solver.known.levels, solver.known.count)?;
-    for place in 0..solver.assumed.len() {
-        let literal = at(&solver.assumed, place, 0);
-        if !assume_one(solver, literal) {
-            return Ok(false);
-        }
-    }
-    Ok(true)
+fn assume(solver: &mut Solver) -> bool {
+    solver.known.levels.add(solver.known.count);
+    let (problem, known) = (&mut solver.problem, &mut solver.known);
+    assume_all(problem, known, &mut solver.closure, solver.assumed.items())
 }
 
 /// Which of the variable's literals is tried first.
 fn first_literal(solver: &Solver, variable: u32) -> u32 {
-    let phases = if solver.tries_best && solver.best_count > 0 {
-        &solver.best[..]
+    let place = variable as usize;
+    let is_first = if solver.tries_best && solver.best_count > 0 {
+        solver.best.at(place)
     } else {
-        &solver.problem.variables.phases[..]
+        solver.problem.variables.phases.at(place)
     };
     let literal = variable.wrapping_mul(2);
-    if at(phases, variable as usize, false) {
-        literal
-    } else {
-        neg(literal)
-    }
+    if is_first { literal } else { neg(literal) }
 }
 
 /// Decides the next variable. False where none is left.
-fn choose(solver: &mut Solver) -> Result<bool, OutOfMemory> {
+fn choose(solver: &mut Solver) -> bool {
     for _ in 0..solver.known.values.len() {
         let Some(variable) = take_heaviest(&mut solver.heap) else {
-            return Ok(false);
+            return false;
         };
-        if value(&solver.known.values, variable.wrapping_mul(2)) == 0 {
+        if solver.known.value(variable.wrapping_mul(2)) == 0 {
             let literal = first_literal(solver, variable);
             solver.choice_count = solver.choice_count.wrapping_add(1);
-            push(&mut solver.known.levels, solver.known.count)?;
+            solver.known.levels.add(solver.known.count);
             assign(&mut solver.known, literal, Antecedent::Choice);
-            return Ok(true);
+            return true;
         }
     }
-    Ok(false)
+    false
 }
 
 /// The clauses of one literal hold. The first that cannot is given.
-fn begin_clauses(solver: &mut Solver) -> Option<Conflict> {
+fn begin_clauses(known: &mut Known, arena: &Table<u32>) -> Option<Conflict> {
     let mut place: usize = 0;
-    for _ in 0..solver.problem.clauses.arena.len() {
-        if place >= solver.problem.clauses.arena.len() {
+    for _ in 0..arena.len() {
+        if place >= arena.len() {
             break;
         }
-        let length = at(&solver.problem.clauses.arena, place, 0);
-        let literal = at(
-            &solver.problem.clauses.arena,
-            place.wrapping_add(LITERALS),
-            0,
-        );
+        let length = arena.at(place);
+        let literal = arena.at(place.wrapping_add(LITERALS));
         let clause = short(place);
-        let known = value(&solver.known.values, literal);
-        if length == 0 || (length == 1 && known == -1) {
+        let found = known.value(literal);
+        if length == 0 || (length == 1 && found == -1) {
             return Some(Conflict::Clause(clause));
         }
-        if length == 1 && known == 0 {
-            assign(&mut solver.known, literal, Antecedent::Clause(clause));
+        if length == 1 && found == 0 {
+            assign(known, literal, Antecedent::Clause(clause));
         }
         place = place.wrapping_add(LITERALS).wrapping_add(length as usize);
     }
-    propagate(&mut solver.problem, &mut solver.known, &mut solver.closure)
+    None
+}
+
+/// What cannot be of what holds in any case, if something cannot.
+fn begin_all(problem: &mut Problem, known: &mut Known, closure: &mut Closure) -> Option<Conflict> {
+    let conflict = begin_clauses(known, &problem.clauses.arena);
+    if conflict.is_some() {
+        return conflict;
+    }
+    propagate(problem, known, closure)
 }
 
 /// Follows what holds in any case. False where that cannot be.
 pub(crate) fn begin(solver: &mut Solver) -> Result<bool, OutOfMemory> {
-    let Some(conflict) = begin_clauses(solver) else {
+    let (problem, known) = (&mut solver.problem, &mut solver.known);
+    let Some(conflict) = begin_all(problem, known, &mut solver.closure) else {
         return Ok(true);
     };
-    let view = view_of!(solver);
-    read_conflict(&mut solver.analysis, &view, conflict)?;
-    note_conflict(solver, conflict, true)?;
+    let view = View {
+        problem: &solver.problem,
+        known: &solver.known,
+    };
+    let (analysis, log) = (&mut solver.analysis, &mut solver.log);
+    read_conflict(analysis, &view, conflict);
+    note_conflict(log, analysis, &view, conflict, true);
+    check_room(solver)?;
     Ok(false)
 }
 
@@ -566,13 +617,13 @@ fn is_spent(solver: &Solver, limits: Limits) -> bool {
 }
 
 /// The weight of the variable whose value would be chosen next.
-fn next_weight(heap: &mut Heap, values: &[i8]) -> f64 {
-    for _ in 0..values.len() {
+fn next_weight(heap: &mut Heap, known: &Known) -> f64 {
+    for _ in 0..known.values.len() {
         let Some(variable) = heaviest(heap) else {
             break;
         };
-        if value(values, variable.wrapping_mul(2)) == 0 {
-            return at(&heap.weights, variable as usize, 0.0);
+        if known.value(variable.wrapping_mul(2)) == 0 {
+            return heap.weights.at(variable as usize);
         }
         let _taken = take_heaviest(heap);
     }
@@ -580,14 +631,14 @@ fn next_weight(heap: &mut Heap, values: &[i8]) -> f64 {
 }
 
 /// How many of the first levels would come again, as their variables weigh more than the next one.
-fn levels_kept(levels: &[usize], trail: &[u32], weights: &[f64], next: f64) -> u32 {
-    for level in 0..levels.len() {
-        let literal = at(trail, levels[level], TRUE);
-        if at(weights, var(literal), 0.0) < next {
+fn levels_kept(known: &Known, heap: &Heap, next: f64) -> u32 {
+    for level in 0..known.levels.len() {
+        let literal = known.trail.at(known.levels.at(level));
+        if heap.weights.at(var(literal)) < next {
             return short(level);
         }
     }
-    short(levels.len())
+    short(known.levels.len())
 }
 
 /// Goes back to where other variables would be chosen now.
@@ -596,9 +647,8 @@ fn begin_again(solver: &mut Solver) {
         backjump(solver, 0);
         return;
     }
-    let next = next_weight(&mut solver.heap, &solver.known.values);
-    let (levels, trail) = (&solver.known.levels[..], &solver.known.trail[..]);
-    let level = levels_kept(levels, trail, &solver.heap.weights, next);
+    let next = next_weight(&mut solver.heap, &solver.known);
+    let level = levels_kept(&solver.known, &solver.heap, next);
     backjump(solver, level);
 }
 
@@ -614,19 +664,21 @@ pub(crate) fn search(solver: &mut Solver, limits: Limits) -> Result<Found, OutOf
         }
         if is_spent(solver, limits) {
             let count = solver.known.count;
-            note_best(solver, count)?;
+            note_best(solver, count);
             begin_again(solver);
+            check_room(solver)?;
             return Ok(Found::Spent);
         }
         if solver.known.levels.is_empty() && !solver.assumed.is_empty() {
-            if !assume(solver)? {
+            if !assume(solver) {
                 solver.conflicts = solver.conflicts.wrapping_add(1);
                 backjump(solver, 0);
                 return Ok(Found::NotAssumed);
             }
             continue;
         }
-        if !choose(solver)? {
+        if !choose(solver) {
+            check_room(solver)?;
             return Ok(Found::All);
         }
     }

@@ -3,7 +3,6 @@
 use crate::literals::{FALSE, NONE, TRUE, at, neg, push, short};
 use aud_event::OutOfMemory;
 use aud_history::{Status, TxRow};
-use std::alloc::Global;
 
 /// When a transaction ran.
 #[derive(Clone, Copy)]
@@ -87,9 +86,8 @@ fn first_after(spans: &[Span], stamp: u32) -> usize {
     low
 }
 
-/// The rows' spans. The literals that those commit whose fates are open are still none.
-pub(crate) fn spans_of(alloc: Global, rows: &[TxRow]) -> Result<Vec<Span>, OutOfMemory> {
-    let mut spans = Vec::new(alloc);
+/// Reads the rows' spans. The literals that those commit whose fates are open are still none.
+pub(crate) fn read_spans(spans: &mut Vec<Span>, rows: &[TxRow]) -> Result<(), OutOfMemory> {
     for row in rows {
         let (last, commits) = match row.status() {
             Status::Committed => (row.last(), TRUE),
@@ -98,7 +96,7 @@ pub(crate) fn spans_of(alloc: Global, rows: &[TxRow]) -> Result<Vec<Span>, OutOf
             Status::Live => (NONE, FALSE),
         };
         push(
-            &mut spans,
+            spans,
             Span {
                 tx: row.tx(),
                 first: row.first(),
@@ -110,8 +108,8 @@ pub(crate) fn spans_of(alloc: Global, rows: &[TxRow]) -> Result<Vec<Span>, OutOf
             },
         )?;
     }
-    number_pairs(&mut spans);
-    Ok(spans)
+    number_pairs(spans);
+    Ok(())
 }
 
 /// Finds which pairs are open, and numbers them from 1.

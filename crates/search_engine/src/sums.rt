@@ -1,10 +1,9 @@
 //! Sums: of those that stand before one, each changes a count, and what that sees is the sum.
 
 use crate::encoding::{Origin, Variables, ask};
-use crate::literals::{FALSE, NONE, TRUE, at, extend_by, fill, push, set, short, var};
+use crate::literals::{FALSE, NONE, TRUE, Table, at, set, short};
 use crate::problem::Problem;
 use crate::spans::{Span, before, span_of};
-use aud_event::OutOfMemory;
 use std::alloc::Global;
 
 /// What is added if both literals hold.
@@ -65,116 +64,131 @@ pub(crate) const NO_SUM: Sum = Sum {
 /// The sums with their terms.
 #[derive(Drop)]
 pub(crate) struct Sums {
-    pub sums: Vec<Sum>,
-    pub slacks: Vec<Slack>,
-    pub terms: Vec<Term>,
+    pub sums: Table<Sum>,
+    pub slacks: Table<Slack>,
+    pub terms: Table<Term>,
     /// The terms of each variable, as twice their number, and one more where it is the opposite; and where those of each begin.
-    pub occurrences: Vec<u32>,
-    pub starts: Vec<u32>,
+    pub occurrences: Table<u32>,
+    pub starts: Table<u32>,
     /// The sums that wait.
-    pub waiting: Vec<u32>,
+    pub waiting: Table<u32>,
 }
 
 impl Sums {
     /// No sums. It does not allocate.
     pub(crate) fn empty(alloc: Global) -> Sums {
         Sums {
-            sums: Vec::new(alloc),
-            slacks: Vec::new(alloc),
-            terms: Vec::new(alloc),
-            occurrences: Vec::new(alloc),
-            starts: Vec::new(alloc),
-            waiting: Vec::new(alloc),
+            sums: Table::new(alloc, NO_SUM),
+            slacks: Table::new(alloc, NO_SLACK),
+            terms: Table::new(alloc, NO_TERM),
+            occurrences: Table::new(alloc, 0),
+            starts: Table::new(alloc, 0),
+            waiting: Table::new(alloc, 0),
         }
+    }
+
+    /// Whether some growth was refused.
+    pub(crate) fn is_short(&self) -> bool {
+        let are_sums_short = self.sums.is_short() || self.slacks.is_short();
+        let are_terms_short = self.terms.is_short() || self.occurrences.is_short();
+        are_sums_short || are_terms_short || self.starts.is_short() || self.waiting.is_short()
     }
 }
 
 /// For the rows that touch one object, in their order: which of them ran beside each one, and after which each one had ended.
 #[derive(Drop)]
 pub(crate) struct Concurrent {
-    pub starts: Vec<usize>,
-    pub others: Vec<usize>,
+    pub starts: Table<usize>,
+    pub others: Table<usize>,
     /// The first of the rows that began after it ended.
-    pub ended: Vec<usize>,
-    active: Vec<usize>,
+    pub ended: Table<usize>,
+    active: Table<usize>,
 }
 
 impl Concurrent {
     /// Of no rows. It does not allocate.
     pub(crate) fn empty(alloc: Global) -> Concurrent {
         Concurrent {
-            starts: Vec::new(alloc),
-            others: Vec::new(alloc),
-            ended: Vec::new(alloc),
-            active: Vec::new(alloc),
+            starts: Table::new(alloc, 0),
+            others: Table::new(alloc, 0),
+            ended: Table::new(alloc, 0),
+            active: Table::new(alloc, 0),
         }
+    }
+
+    /// Whether some growth was refused.
+    pub(crate) fn is_short(&self) -> bool {
+        let are_others_short = self.starts.is_short() || self.others.is_short();
+        are_others_short || self.ended.is_short() || self.active.is_short()
+    }
+
+    /// Those that ran beside the row of that place.
+    pub(crate) fn others_of(&self, place: usize) -> &[usize] {
+        let from = self.starts.at(place);
+        self.others
+            .range(from, self.starts.at(place.wrapping_add(1)))
     }
 }
 
 /// Leaves those active that had not ended before the row began, and notes of the others that they had.
-fn drop_ended(
-    active: &mut [usize],
-    ended: &mut [usize],
-    rows: &[usize],
-    spans: &[Span],
-    place: usize,
-) -> usize {
+fn drop_ended(concurrent: &mut Concurrent, rows: &[usize], spans: &[Span], place: usize) {
     let began = span_of(spans, at(rows, place, 0)).first;
     let mut kept: usize = 0;
-    for index in 0..active.len() {
-        let other = active[index];
+    for index in 0..concurrent.active.len() {
+        let other = concurrent.active.at(index);
         if span_of(spans, at(rows, other, 0)).last < began {
-            set(ended, other, place);
+            concurrent.ended.set(other, place);
         } else {
-            set(active, kept, other);
+            concurrent.active.set(kept, other);
             kept = kept.wrapping_add(1);
         }
     }
-    kept
+    concurrent.active.truncate(kept);
+}
+
+/// Finds which of the rows ran beside the one at the place.
+fn find_others(concurrent: &mut Concurrent, spans: &[Span], rows: &[usize], place: usize) {
+    drop_ended(concurrent, rows, spans, place);
+    concurrent.starts.add(concurrent.others.len());
+    concurrent.others.add_all(concurrent.active.items());
+    let end = span_of(spans, at(rows, place, 0)).end;
+    for later in place.wrapping_add(1)..rows.len() {
+        if rows[later] >= end {
+            break;
+        }
+        concurrent.others.add(later);
+    }
+    concurrent.active.add(place);
 }
 
 /// Finds which of the rows ran beside which.
-pub(crate) fn find_concurrent(
-    concurrent: &mut Concurrent,
-    spans: &[Span],
-    rows: &[usize],
-) -> Result<(), OutOfMemory> {
+pub(crate) fn find_concurrent(concurrent: &mut Concurrent, spans: &[Span], rows: &[usize]) {
     concurrent.starts.clear();
     concurrent.others.clear();
     concurrent.ended.clear();
     concurrent.active.clear();
-    fill(&mut concurrent.ended, rows.len(), rows.len())?;
-    for place in 0..rows.len() {
-        let kept = drop_ended(
-            &mut concurrent.active,
-            &mut concurrent.ended,
-            rows,
-            spans,
-            place,
-        );
-        concurrent.active.truncate(kept);
-        push(&mut concurrent.starts, concurrent.others.len())?;
-        extend_by(&mut concurrent.others, &concurrent.active)?;
-        let end = span_of(spans, rows[place]).end;
-        for later in place.wrapping_add(1)..rows.len() {
-            if rows[later] >= end {
-                break;
-            }
-            push(&mut concurrent.others, later)?;
-        }
-        push(&mut concurrent.active, place)?;
+    for _ in 0..rows.len() {
+        concurrent.ended.add(rows.len());
     }
-    push(&mut concurrent.starts, concurrent.others.len())?;
-    Ok(())
+    for place in 0..rows.len() {
+        find_others(concurrent, spans, rows, place);
+    }
+    concurrent.starts.add(concurrent.others.len());
 }
 
 /// Adds what each of the rows gains that commits to the place after which it had ended.
-fn add_gains(sums: &mut [i64], ended: &[usize], spans: &[Span], rows: &[usize], gains: &[i64]) {
+fn add_gains(
+    sums: &mut Table<i64>,
+    ended: &Table<usize>,
+    spans: &[Span],
+    rows: &[usize],
+    gains: &Table<i64>,
+) {
     for place in 0..rows.len() {
         if span_of(spans, rows[place]).commits == TRUE {
-            let first = at(ended, place, 0);
-            let known = at(sums, first, 0);
-            set(sums, first, known.wrapping_add(at(gains, place, 0)));
+            let first = ended.at(place);
+            let known = sums.at(first);
+            sums.set(first, known.wrapping_add(gains.at(place)));
         }
     }
 }
@@ -190,68 +204,60 @@ fn sum_up(sums: &mut [i64]) {
 
 /// For each of the rows what those add up to that had ended before it began and commit.
 pub(crate) fn sum_ended(
-    sums: &mut Vec<i64>,
-    ended: &[usize],
+    sums: &mut Table<i64>,
+    concurrent: &Concurrent,
     spans: &[Span],
     rows: &[usize],
-    gains: &[i64],
-) -> Result<(), OutOfMemory> {
+    gains: &Table<i64>,
+) {
     sums.clear();
-    fill(sums, rows.len().wrapping_add(1), 0)?;
-    add_gains(sums, ended, spans, rows, gains);
-    sum_up(sums);
-    Ok(())
+    sums.fill(rows.len().wrapping_add(1));
+    add_gains(sums, &concurrent.ended, spans, rows, gains);
+    sum_up(sums.items_mut());
 }
 
 /// Adds a term to the sum that is being made: the row stands before the other one, and commits.
-pub(crate) fn add_term(
-    terms: &mut Vec<Term>,
-    choices: &mut [bool],
+fn add_term(
+    sums: &mut Sums,
+    variables: &mut Variables,
     spans: &[Span],
-    sum: u32,
     gain: i64,
     row: usize,
     other: usize,
-) -> Result<(), OutOfMemory> {
+) {
     let commits = span_of(spans, row).commits;
     let stands = before(spans, row, other);
     if gain == 0 || commits == FALSE || stands == FALSE {
-        return Ok(());
+        return;
     }
-    ask(choices, stands);
-    push(
-        terms,
-        Term {
-            gain,
-            literals: [stands, commits],
-            sum,
-            holding: u8::from(stands == TRUE).wrapping_add(u8::from(commits == TRUE)),
-            failing: 0,
-        },
-    )?;
-    Ok(())
+    ask(variables, stands);
+    let term = Term {
+        gain,
+        literals: [stands, commits],
+        sum: short(sums.sums.len()),
+        holding: u8::from(stands == TRUE).wrapping_add(u8::from(commits == TRUE)),
+        failing: 0,
+    };
+    sums.terms.add(term);
 }
 
 /// Adds the terms of those that ran beside the row of that place, but for the one that is skipped.
 pub(crate) fn add_terms(
-    sums: &mut Sums,
-    choices: &mut [bool],
-    spans: &[Span],
+    problem: &mut Problem,
     concurrent: &Concurrent,
     rows: &[usize],
-    gains: &[i64],
+    gains: &Table<i64>,
     place: usize,
     skipped: usize,
-) -> Result<(), OutOfMemory> {
-    let number = short(sums.sums.len());
+) {
+    let (sums, variables) = (&mut problem.sums, &mut problem.variables);
     let row = at(rows, place, 0);
-    for other in others_of(&concurrent.starts, &concurrent.others, place) {
+    for other in concurrent.others_of(place) {
         if *other != skipped {
-            let (gain, from) = (at(gains, *other, 0), at(rows, *other, 0));
-            add_term(&mut sums.terms, choices, spans, number, gain, from, row)?;
+            let (gain, from) = (gains.at(*other), at(rows, *other, 0));
+            add_term(sums, variables, &problem.spans, gain, from, row);
         }
     }
-    Ok(())
 }
 
 /// Adds the terms of all that ran beside the row of that place.
@@ -259,27 +265,10 @@ pub(crate) fn add_all_terms(
     problem: &mut Problem,
     concurrent: &Concurrent,
     rows: &[usize],
-    gains: &[i64],
+    gains: &Table<i64>,
     place: usize,
-) -> Result<(), OutOfMemory> {
-    let (sums, choices) = (&mut problem.sums, &mut problem.variables.choices);
-    let spans = &problem.spans[..];
-    add_terms(
-        sums,
-        choices,
-        spans,
-        concurrent,
-        rows,
-        gains,
-        place,
-        usize::MAX,
-    )
-}
-
-/// Those that ran beside the row of that place.
-pub(crate) fn others_of<'a>(starts: &[usize], others: &'a [usize], place: usize) -> &'a [usize] {
-    let from = at(starts, place, 0);
-    crate::literals::range(others, from, at(starts, place.wrapping_add(1), 0))
+) {
+    add_terms(problem, concurrent, rows, gains, place, usize::MAX);
 }
 
 /// The greatest sum of amounts that is counted here. The trial of an order still asks for the others.
@@ -325,34 +314,10 @@ fn remainder_or_sum(terms: &[Term], origin: Origin, wanted: i64, high: i64) -> (
     }
 }
 
-/// Room for what is known of the sum, where its least and greatest are these and no term changes more.
-fn add_slack(
-    slacks: &mut Vec<Slack>,
-    (low, high, most): (i64, i64, i64),
-    wanted: i64,
-) -> Result<(), OutOfMemory> {
-    push(
-        slacks,
-        Slack {
-            below: wanted.saturating_sub(low),
-            above: high.saturating_sub(wanted),
-            most,
-            waits: true,
-        },
-    )?;
-    Ok(())
-}
-
-/// Ends the sum of the terms from the place on. Where it cannot be reached, the slack says so.
-pub(crate) fn end_sum(
-    sums: &mut Sums,
-    from: usize,
-    guard: u32,
-    wanted: i64,
-    origin: Origin,
-) -> Result<(), OutOfMemory> {
+/// What the terms can add up to at least, at most, and by one of them.
+fn reach_of(terms: &[Term]) -> (i64, i64, i64) {
     let (mut low, mut high, mut most): (i64, i64, i64) = (0, 0, 1);
-    for term in crate::literals::range(&sums.terms, from, sums.terms.len()) {
+    for term in terms {
         most = most.max(term.gain.saturating_abs());
         if term.gain > 0 {
             high = high.saturating_add(term.gain);
@@ -360,25 +325,31 @@ pub(crate) fn end_sum(
             low = low.saturating_add(term.gain);
         }
     }
+    (low, high, most)
+}
+
+/// Ends the sum of the terms from the place on. Where it cannot be reached, the slack says so.
+pub(crate) fn end_sum(sums: &mut Sums, from: usize, guard: u32, wanted: i64, origin: Origin) {
+    let to = sums.terms.len();
+    let (low, high, most) = reach_of(sums.terms.range(from, to));
     if high > GREATEST || low < -GREATEST || wanted == i64::MAX {
         sums.terms.truncate(from);
-        return Ok(());
+        return;
     }
-    let terms = crate::literals::range(&sums.terms, from, sums.terms.len());
-    let (origin, wanted) = remainder_or_sum(terms, origin, wanted, high);
+    let (origin, wanted) = remainder_or_sum(sums.terms.range(from, to), origin, wanted, high);
     let wanted = wanted.max(-4 * GREATEST).min(4 * GREATEST);
-    push(&mut sums.waiting, short(sums.sums.len()))?;
-    add_slack(&mut sums.slacks, (low, high, most), wanted)?;
-    let to = sums.terms.len();
-    push(
-        &mut sums.sums,
-        Sum {
-            origin,
-            guard,
-            from,
-            to,
-            wanted,
-        },
-    )?;
-    Ok(())
+    sums.waiting.add(short(sums.sums.len()));
+    sums.slacks.add(Slack {
+        below: wanted.saturating_sub(low),
+        above: high.saturating_sub(wanted),
+        most,
+        waits: true,
+    });
+    sums.sums.add(Sum {
+        origin,
+        guard,
+        from,
+        to,
+        wanted,
+    });
 }

@@ -11,5 +11,7 @@
 //! ```
 
 mod lists;
+mod table;
 
 pub use lists::{NONE, at, extend_by, fill, push, range, set, short};
+pub use table::Table;
