@@ -75,42 +75,30 @@ fn forget(term: &mut Term, slack: &mut Slack, holds: bool) {
     }
 }
 
-/// One of the term's literals holds or fails from now on.
-fn count_one(sums: &mut Sums, number: usize, holds: bool) {
-    let mut term = sums.terms.at(number);
-    let mut slack = sums.slacks.at(term.sum as usize);
-    let forces = if holds {
-        note_holding(&mut term, &mut slack)
-    } else {
-        note_failing(&mut term, &mut slack)
-    };
-    if forces {
-        wake(&mut slack, &mut sums.waiting, term.sum);
-    }
-    sums.terms.set(number, term);
-    sums.slacks.set(term.sum as usize, slack);
-}
-
-/// One of the term's literals, which held or failed, is open again.
-fn uncount_one(sums: &mut Sums, number: usize, holds: bool) {
-    let mut term = sums.terms.at(number);
-    let mut slack = sums.slacks.at(term.sum as usize);
-    forget(&mut term, &mut slack, holds);
-    sums.terms.set(number, term);
-    sums.slacks.set(term.sum as usize, slack);
-}
-
 /// The literal holds from now on, or no longer: the terms that it is in change.
 pub(crate) fn count_terms(sums: &mut Sums, literal: u32, is_new: bool) -> usize {
     let from = sums.starts.at(var(literal)) as usize;
     let to = sums.starts.at(var(literal).wrapping_add(1)) as usize;
-    for place in from..to {
-        let used = sums.occurrences.at(place);
-        let (number, holds) = ((used >> 1) as usize, (used & 1) == (literal & 1));
-        if is_new {
-            count_one(sums, number, holds);
+    let (terms, slacks) = (sums.terms.items_mut(), sums.slacks.items_mut());
+    for used in sums.occurrences.range(from, to) {
+        let holds = (*used & 1) == (literal & 1);
+        let Some(term) = terms.get_mut((*used >> 1) as usize) else {
+            continue;
+        };
+        let Some(slack) = slacks.get_mut(term.sum as usize) else {
+            continue;
+        };
+        if !is_new {
+            forget(term, slack, holds);
+            continue;
+        }
+        let forces = if holds {
+            note_holding(term, slack)
         } else {
-            uncount_one(sums, number, holds);
+            note_failing(term, slack)
+        };
+        if forces {
+            wake(slack, &mut sums.waiting, term.sum);
         }
     }
     to.saturating_sub(from)

@@ -1,6 +1,6 @@
 //! Literals as numbers.
 
-pub(crate) use search_lists::{NONE, Table, at, extend_by, fill, push, range, set, short};
+pub(crate) use search_lists::{NONE, Table, at, push, range, set, short};
 
 /// The literal that always holds, and the one that never does.
 pub(crate) const TRUE: u32 = 0;

@@ -173,7 +173,7 @@ pub(crate) fn block(
     let clauses = &mut solver.problem.clauses;
     let number = short(clauses.arena.len());
     add_clause(clauses, Origin::Tried, clause.items());
-    watch_both(clauses, number);
+    watch_both(clauses.arena.items_mut(), clauses.heads.items_mut(), number);
     let first = clauses.arena.at((number as usize).wrapping_add(LITERALS));
     if open == 1 {
         assign(&mut solver.known, first, Antecedent::Clause(number));

@@ -524,6 +524,7 @@ fn add_history(
     read_executions(&mut executions, shape.table().rows());
     has_room(executions.is_short())?;
     let refused = add_all(alloc, problem, shape.plan().objects(), executions.items())?;
+    has_room(problem.is_short())?;
     sort_all(alloc, problem);
     has_room(problem.is_short())?;
     Ok(refused)

@@ -364,7 +364,7 @@ fn add_learned(solver: &mut Solver, learned: Learned) {
     let (levels, step) = (learned.levels, learned.step);
     let clause = append(&mut clauses.arena, literals, levels, NONE, step);
     clauses.learned.add(clause);
-    watch_both(clauses, clause);
+    watch_both(clauses.arena.items_mut(), clauses.heads.items_mut(), clause);
     let first = solver.analysis.clause.at(0);
     if solver.known.value(first) == 0 {
         assign(&mut solver.known, first, Antecedent::Clause(clause));

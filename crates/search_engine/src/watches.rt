@@ -2,25 +2,25 @@
 
 use crate::encoding::{Clauses, LENGTH, LINK, LITERALS};
 use crate::known::{Antecedent, Conflict, Known, assign};
-use crate::literals::{NONE, Table, neg, short};
+use crate::literals::{NONE, at, neg, set, short};
 
 /// Puts the clause at the front of those that watch the literal, which is its first or second.
-fn watch(clauses: &mut Clauses, clause: u32, side: usize, literal: u32) {
+fn watch(arena: &mut [u32], heads: &mut [u32], clause: u32, side: usize, literal: u32) {
     let place = (clause as usize).wrapping_add(LINK).wrapping_add(side);
-    clauses.arena.set(place, clauses.heads.at(literal as usize));
-    clauses.heads.set(literal as usize, clause);
+    set(arena, place, at(heads, literal as usize, NONE));
+    set(heads, literal as usize, clause);
 }
 
 /// The first two literals of the clause are watched, if it has two.
-pub(crate) fn watch_both(clauses: &mut Clauses, clause: u32) {
+pub(crate) fn watch_both(arena: &mut [u32], heads: &mut [u32], clause: u32) {
     let place = clause as usize;
-    if clauses.arena.at(place) < 2 {
+    if at(arena, place, 0) < 2 {
         return;
     }
-    let first = clauses.arena.at(place.wrapping_add(LITERALS));
-    let second = clauses.arena.at(place.wrapping_add(LITERALS + 1));
-    watch(clauses, clause, 0, first);
-    watch(clauses, clause, 1, second);
+    let first = at(arena, place.wrapping_add(LITERALS), 0);
+    let second = at(arena, place.wrapping_add(LITERALS + 1), 0);
+    watch(arena, heads, clause, 0, first);
+    watch(arena, heads, clause, 1, second);
 }
 
 /// Watches all clauses anew, by their first two literals.
@@ -33,73 +33,90 @@ pub(crate) fn watch_all(clauses: &mut Clauses, count: usize) {
             break;
         }
         let length = clauses.arena.at(place.wrapping_add(LENGTH)) as usize;
-        watch_both(clauses, short(place));
+        watch_both(
+            clauses.arena.items_mut(),
+            clauses.heads.items_mut(),
+            short(place),
+        );
         place = place.wrapping_add(LITERALS).wrapping_add(length);
     }
 }
 
 /// The place of a literal of the clause after the first two that does not fail, or 0.
-fn find_other(known: &Known, arena: &Table<u32>, place: usize) -> usize {
-    let length = arena.at(place) as usize;
+fn find_other(known: &Known, arena: &[u32], place: usize) -> usize {
+    let length = at(arena, place, 0) as usize;
     let from = place.wrapping_add(LITERALS);
     for found in from.wrapping_add(2)..from.wrapping_add(length) {
-        if known.value(arena.at(found)) != -1 {
+        if known.value(at(arena, found, 0)) != -1 {
             return found;
         }
     }
     0
 }
 
-/// Which of the clause's first two literals the failing one is.
-fn side_of(arena: &Table<u32>, clause: u32, failing: u32) -> usize {
-    usize::from(arena.at((clause as usize).wrapping_add(LITERALS)) != failing)
-}
-
 /// What becomes of a clause that watches a literal which fails: another one is watched, or the only other one is given, which has to
 /// hold. It stays in the list if no other is watched.
-fn visit(known: &Known, clauses: &mut Clauses, clause: u32, failing: u32) -> Option<u32> {
+fn visit(
+    known: &Known,
+    arena: &mut [u32],
+    heads: &mut [u32],
+    clause: u32,
+    failing: u32,
+) -> Option<u32> {
     let place = clause as usize;
     let first = place.wrapping_add(LITERALS);
-    let side = side_of(&clauses.arena, clause, failing);
-    let other = clauses.arena.at(first.wrapping_add(1).wrapping_sub(side));
+    let side = usize::from(at(arena, first, 0) != failing);
+    let other = at(arena, first.wrapping_add(1).wrapping_sub(side), 0);
     if known.value(other) != 1 {
-        let found = find_other(known, &clauses.arena, place);
+        let found = find_other(known, arena, place);
         if found != 0 {
-            let literal = clauses.arena.at(found);
-            clauses.arena.set(first.wrapping_add(side), literal);
-            clauses.arena.set(found, failing);
-            watch(clauses, clause, side, literal);
+            let literal = at(arena, found, 0);
+            set(arena, first.wrapping_add(side), literal);
+            set(arena, found, failing);
+            watch(arena, heads, clause, side, literal);
             return None;
         }
     }
-    watch(clauses, clause, side, failing);
+    watch(arena, heads, clause, side, failing);
     Some(other)
 }
 
 /// The next clause that watches the literal.
-fn next_of(arena: &Table<u32>, clause: u32, failing: u32) -> u32 {
-    let side = side_of(arena, clause, failing);
-    arena.at((clause as usize).wrapping_add(LINK).wrapping_add(side))
+fn next_of(arena: &[u32], clause: u32, failing: u32) -> u32 {
+    let first = (clause as usize).wrapping_add(LITERALS);
+    let side = usize::from(at(arena, first, 0) != failing);
+    at(
+        arena,
+        (clause as usize).wrapping_add(LINK).wrapping_add(side),
+        NONE,
+    )
+}
+
+/// The clause goes on watching the literal.
+fn keep(arena: &mut [u32], heads: &mut [u32], clause: u32, failing: u32) {
+    let first = at(arena, (clause as usize).wrapping_add(LITERALS), 0);
+    let side = usize::from(first != failing);
+    watch(arena, heads, clause, side, failing);
 }
 
 /// Looks at the clauses in which a literal fails, as its opposite holds. Where a clause fails the rest is not looked at.
 fn visit_all(known: &mut Known, clauses: &mut Clauses, failing: u32) -> Option<Conflict> {
-    let mut next = clauses.heads.at(failing as usize);
-    clauses.heads.set(failing as usize, NONE);
+    let (arena, heads) = (clauses.arena.items_mut(), clauses.heads.items_mut());
+    let mut next = at(heads, failing as usize, NONE);
+    set(heads, failing as usize, NONE);
     let mut conflict = None;
-    for _ in 0..clauses.arena.len() {
+    for _ in 0..arena.len() {
         if next == NONE {
             break;
         }
         let clause = next;
-        next = next_of(&clauses.arena, clause, failing);
+        next = next_of(arena, clause, failing);
         known.work = known.work.wrapping_add(1);
         if conflict.is_some() {
-            let side = side_of(&clauses.arena, clause, failing);
-            watch(clauses, clause, side, failing);
+            keep(arena, heads, clause, failing);
             continue;
         }
-        let Some(other) = visit(known, clauses, clause, failing) else {
+        let Some(other) = visit(known, arena, heads, clause, failing) else {
             continue;
         };
         match known.value(other) {
