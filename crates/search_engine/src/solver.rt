@@ -79,7 +79,7 @@ pub(crate) enum Found {
     NotAssumed,
 }
 
-/// A search of the problem, for which no room is made yet.
+/// A search of nothing yet, which may take so much; it writes its steps down if that is asked for. It does not allocate.
 pub(crate) fn solver_of(alloc: Global, allowance: Allowance, logs: bool) -> Solver {
     Solver {
         alloc,

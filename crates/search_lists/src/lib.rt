@@ -3,11 +3,13 @@
 //!
 //! Such a search keeps its tables in flat lists, and where a place is none there is nothing to do: `at` and `range` then give what the caller says, or
 //! nothing, and `set` does nothing. So no caller has to prove that a place is one. `push`, `extend_by` and `fill` meet want of memory once for all.
+//! A `Table` has its items and what it reads as beyond them, and notes a growth that was refused: its search asks for that in the end.
 //!
 //! ```
-//! let mut counts = Vec::new(alloc);
-//! fill(&mut counts, 8, 0)?;
-//! set(&mut counts, 3, at(&counts, 2, 0) + 1);
+//! let mut counts = Table::new(alloc, 0);
+//! counts.fill(8);
+//! counts.set(3, counts.at(2) + 1);
+//! has_room(counts.is_short())?;
 //! ```
 
 mod lists;
