@@ -23,6 +23,17 @@ pub(crate) struct Contribution {
     term: usize,
 }
 
+impl Contribution {
+    /// Of the term of that number, which came to change the sum by so much at that place.
+    fn of(place: u32, change: i64, term: usize) -> Contribution {
+        Contribution {
+            place,
+            gain: change.wrapping_abs(),
+            term,
+        }
+    }
+}
+
 pub(crate) const NO_CONTRIBUTION: Contribution = Contribution {
     place: 0,
     gain: 0,
@@ -148,12 +159,7 @@ fn find_contributions(
         }
         let came = contributes_at(view.known, &term, rises);
         if came < limit {
-            let gain = gain.wrapping_abs();
-            contributions.add(Contribution {
-                place: came,
-                gain,
-                term: place,
-            });
+            contributions.add(Contribution::of(came, gain, place));
         }
     }
     lacks
