@@ -1,7 +1,7 @@
 //! Runs that only count: what their rows do with cells, and an order of them by a beam.
 
 use crate::literals::{FALSE, NONE, TRUE, Table, at, push};
-use crate::problem::{Problem, has_room};
+use crate::problem::{Problem, unless_short};
 use crate::spans::{Span, instant, span_of};
 use aud_event::OutOfMemory;
 use aud_witness::{Decision, Fate};
@@ -88,7 +88,7 @@ fn rows_of(alloc: Global, spans: &[Span]) -> Result<Table<Row>, OutOfMemory> {
             may_abort: span.commits != TRUE,
         });
     }
-    has_room(middles.is_short() || rows.is_short())?;
+    unless_short(middles.is_short() || rows.is_short())?;
     Ok(rows)
 }
 

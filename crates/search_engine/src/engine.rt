@@ -4,7 +4,7 @@ use crate::counting::find_order;
 use crate::encoding::Role;
 use crate::literals::{FALSE, NONE, Table, at, neg, push, short};
 use crate::orders::{block, first_bad, order_of, put_decisions};
-use crate::problem::{Allowance, has_room};
+use crate::problem::{Allowance, unless_short};
 use crate::reading::{Encoded, read};
 use crate::refuted::refutation_of;
 use crate::solver::{
@@ -99,7 +99,7 @@ fn ranks_of(alloc: Global, spans: &[Span], twentieths: u64) -> Result<Table<usiz
     for (rank, found) in ranked.items().iter().enumerate() {
         ranks.set(found.row, rank);
     }
-    has_room(ranked.is_short() || ranks.is_short())?;
+    unless_short(ranked.is_short() || ranks.is_short())?;
     Ok(ranks)
 }
 

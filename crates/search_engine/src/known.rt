@@ -27,7 +27,7 @@ pub(crate) struct Assigned {
     pub antecedent: Antecedent,
 }
 
-pub(crate) const UNKNOWN: Assigned = Assigned {
+const UNKNOWN: Assigned = Assigned {
     level: 0,
     place: 0,
     antecedent: Antecedent::Choice,

@@ -22,7 +22,7 @@ pub(crate) struct Logged {
     pub why: Why,
 }
 
-pub(crate) const NOT_LOGGED: Logged = Logged {
+const NOT_LOGGED: Logged = Logged {
     from: 0,
     to: 0,
     why: Why::Origin(Origin::Tried),

@@ -4,7 +4,7 @@ use crate::closure::{Closure, is_before};
 use crate::encoding::{LITERALS, Origin, add_clause};
 use crate::known::{Antecedent, Known, assign};
 use crate::literals::{FALSE, NONE, Table, at, neg, push, set, short};
-use crate::problem::has_room;
+use crate::problem::unless_short;
 use crate::solver::{Solver, backjump};
 use crate::spans::{Span, before, instant, span_of};
 use crate::watches::watch_both;
@@ -63,7 +63,7 @@ pub(crate) fn order_of(alloc: Global, solver: &Solver) -> Result<Table<usize>, O
         release(&mut counts, &solver.closure, row);
         order.add(row);
     }
-    has_room(counts.is_short() || order.is_short())?;
+    unless_short(counts.is_short() || order.is_short())?;
     Ok(order)
 }
 
@@ -167,7 +167,7 @@ pub(crate) fn block(
     let mut clause = Table::new(alloc, FALSE);
     deny_before(&mut clause, solver, order, place);
     deny_after(&mut clause, solver, order, place);
-    has_room(clause.is_short())?;
+    unless_short(clause.is_short())?;
     backjump(solver, 0);
     let open = sort_open(clause.items_mut(), &solver.known);
     let clauses = &mut solver.problem.clauses;
@@ -178,6 +178,6 @@ pub(crate) fn block(
     if open == 1 {
         assign(&mut solver.known, first, Antecedent::Clause(number));
     }
-    has_room(solver.problem.is_short())?;
+    unless_short(solver.problem.is_short())?;
     Ok(open > 0)
 }

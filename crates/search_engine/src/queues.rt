@@ -2,7 +2,7 @@
 
 use crate::encoding::{Origin, Role, add_clause, add_variable, ask};
 use crate::literals::{FALSE, NONE, TRUE, Table, at, neg, range, short};
-use crate::problem::{Problem, has_room, is_large, spend};
+use crate::problem::{Problem, is_large, spend, unless_short};
 use crate::spans::{Span, before, instant, span_of};
 use crate::sums::{Concurrent, add_all_terms, add_terms, end_sum, find_concurrent, sum_ended};
 use aud_event::OutOfMemory;
@@ -51,20 +51,20 @@ pub(crate) struct GoneOf {
     pub value: i64,
 }
 
-pub(crate) const NO_TAKE: TakeOf = TakeOf {
+const NO_TAKE: TakeOf = TakeOf {
     row: 0,
     object: 0,
     number: 0,
 };
 
-pub(crate) const NO_GONE: GoneOf = GoneOf {
+const NO_GONE: GoneOf = GoneOf {
     take: NO_TAKE,
     item: NONE,
     row: 0,
     value: 0,
 };
 
-pub(crate) const NO_ITEM: ItemOf = ItemOf {
+const NO_ITEM: ItemOf = ItemOf {
     take: 0,
     row: 0,
     addition: 0,
@@ -746,5 +746,7 @@ pub(crate) fn add_queue(
         object,
         &mut choices,
     );
-    has_room(queue.is_short() || ended.is_short() || choices.is_short() || concurrent.is_short())
+    unless_short(
+        queue.is_short() || ended.is_short() || choices.is_short() || concurrent.is_short(),
+    )
 }

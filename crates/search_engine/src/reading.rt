@@ -4,7 +4,7 @@ use crate::cell_index::{mark_cells, sort_feeds};
 use crate::cells::{Touch, add_cell, sort_uses};
 use crate::encoding::{Origin, add_pairs};
 use crate::literals::{TRUE, Table, at, push, range, short};
-use crate::problem::{Allowance, Problem, has_room, is_large, sort_occurrences, spend};
+use crate::problem::{Allowance, Problem, is_large, sort_occurrences, spend, unless_short};
 use crate::queues::{PlacedOp, QueueOp, add_queue};
 use crate::spans::{NOBODY, Span, count_pairs, read_spans};
 use crate::sums::{Concurrent, add_all_terms, end_sum, find_concurrent, sum_ended};
@@ -323,7 +323,7 @@ fn add_counts(
     note_counts(problem, counts, opening);
     read_tables(&mut tables, concurrent, &problem.spans, counts);
     add_all_sums(problem, concurrent, counts, named, opening, &tables);
-    has_room(tables.is_short() || concurrent.is_short())
+    unless_short(tables.is_short() || concurrent.is_short())
 }
 
 /// What the execution does to its queue.
@@ -391,7 +391,7 @@ fn add_members(
     for touch in touches {
         counts.add(member_of(touch));
     }
-    has_room(counts.is_short())?;
+    unless_short(counts.is_short())?;
     let (counts, named) = (counts.items(), (named.0, Some(named.1)));
     add_counts(alloc, problem, concurrent, counts, named, 0)
 }
@@ -424,7 +424,7 @@ fn add_cell_executions(
 ) -> Result<Option<usize>, OutOfMemory> {
     let mut touches = Table::new(alloc, NO_TOUCH);
     let refused = read_touches(&mut touches, executions, declared.0);
-    has_room(touches.is_short())?;
+    unless_short(touches.is_short())?;
     if refused.is_some() {
         return Ok(refused);
     }
@@ -449,7 +449,7 @@ fn add_uses(
         ObjKind::Counter => {
             let mut counts = Table::new(alloc, NO_COUNT);
             let refused = read_counts(&mut counts, executions);
-            has_room(counts.is_short())?;
+            unless_short(counts.is_short())?;
             if refused.is_none() {
                 let (counts, named) = (counts.items(), (named.0, None));
                 add_counts(alloc, problem, concurrent, counts, named, declared.1)?;
@@ -522,11 +522,11 @@ fn add_history(
     add_pairs(&mut problem.variables, &mut problem.spans);
     let mut executions = Table::new(alloc, NO_EXECUTION);
     read_executions(&mut executions, shape.table().rows());
-    has_room(executions.is_short())?;
+    unless_short(executions.is_short())?;
     let refused = add_all(alloc, problem, shape.plan().objects(), executions.items())?;
-    has_room(problem.is_short())?;
+    unless_short(problem.is_short())?;
     sort_all(alloc, problem);
-    has_room(problem.is_short())?;
+    unless_short(problem.is_short())?;
     Ok(refused)
 }
 

@@ -3,7 +3,7 @@
 use crate::encoding::{Clauses, LEVELS, LINK, LITERALS, ORIGIN};
 use crate::known::{Antecedent, Known};
 use crate::literals::{NONE, Table, short, var};
-use crate::problem::has_room;
+use crate::problem::unless_short;
 use crate::watches::watch_all;
 use aud_event::OutOfMemory;
 use std::alloc::Global;
@@ -142,5 +142,5 @@ pub(crate) fn reduce(
     list_learned(clauses);
     let count = clauses.heads.len();
     watch_all(clauses, count);
-    has_room(ranks.is_short())
+    unless_short(ranks.is_short())
 }

@@ -10,7 +10,7 @@ use crate::heap::{Heap, heaviest, insert, make_heap, take_heaviest};
 use crate::known::{Antecedent, Conflict, Known, assign, make_room};
 use crate::literals::{NONE, TRUE, Table, neg, short, var};
 use crate::log::{Log, bytes_logged, log_conflict, log_end, log_learned, make_log};
-use crate::problem::{Allowance, Problem, bytes_of, has_room};
+use crate::problem::{Allowance, Problem, bytes_of, unless_short};
 use crate::reduce::reduce;
 use crate::spans::{Span, instant, span_of};
 use crate::sums::Sums;
@@ -119,7 +119,7 @@ fn is_short(solver: &Solver) -> bool {
 
 /// Want of memory, where some growth was refused.
 pub(crate) fn check_room(solver: &Solver) -> Result<(), OutOfMemory> {
-    has_room(is_short(solver) || solver.problem.is_short())
+    unless_short(is_short(solver) || solver.problem.is_short())
 }
 
 /// Makes room.

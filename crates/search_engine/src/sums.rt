@@ -38,14 +38,14 @@ pub(crate) struct Slack {
     pub waits: bool,
 }
 
-pub(crate) const NO_SLACK: Slack = Slack {
+const NO_SLACK: Slack = Slack {
     below: 0,
     above: 0,
     most: 0,
     waits: false,
 };
 
-pub(crate) const NO_TERM: Term = Term {
+const NO_TERM: Term = Term {
     gain: 0,
     literals: [FALSE, FALSE],
     sum: NONE,
@@ -53,7 +53,7 @@ pub(crate) const NO_TERM: Term = Term {
     failing: 0,
 };
 
-pub(crate) const NO_SUM: Sum = Sum {
+const NO_SUM: Sum = Sum {
     origin: Origin::Tried,
     guard: FALSE,
     from: 0,

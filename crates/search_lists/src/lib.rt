@@ -9,7 +9,9 @@
 //! let mut counts = Table::new(alloc, 0);
 //! counts.fill(8);
 //! counts.set(3, counts.at(2) + 1);
-//! has_room(counts.is_short())?;
+//! if counts.is_short() {
+//!     return Err(OutOfMemory);
+//! }
 //! ```
 
 mod lists;
