@@ -1,7 +1,6 @@
 //! What rows do with cells, as it is looked up.
 
-use base_values::OutOfMemory;
-use search_lists::{NONE, at, fill, push, set, short};
+use search_lists::{NONE, Table, short};
 use std::alloc::Global;
 
 /// A transaction; the rows are in the order in which they began.
@@ -74,30 +73,50 @@ pub(crate) const NO_SCALE: Scale = Scale {
 /// What rows do with cells.
 #[derive(Drop)]
 pub(crate) struct Board {
-    pub lines: Vec<Line>,
-    pub parts: Vec<Part>,
+    pub lines: Table<Line>,
+    pub parts: Table<Part>,
     /// The rows in the order in which they ended.
-    pub by_end: Vec<usize>,
-    pub scales: Vec<Scale>,
+    pub by_end: Table<Ending>,
+    pub scales: Table<Scale>,
     /// How many numbers there are.
     pub numbers: usize,
     /// How many words the marks of all rows have.
     pub words: usize,
 }
 
+impl Board {
+    /// Whether some growth was refused.
+    pub(crate) fn is_short(&self) -> bool {
+        self.lines.is_short()
+            | self.parts.is_short()
+            | self.by_end.is_short()
+            | self.scales.is_short()
+    }
+}
+
 /// A row by when it ended.
 #[derive(Clone, Copy, PartialEq, Eq, PartialOrd, Ord)]
-struct Ending {
+pub(crate) struct Ending {
     end: usize,
-    row: usize,
+    pub row: usize,
 }
+
+const NO_ENDING: Ending = Ending { end: 0, row: 0 };
+
+const NO_PART: Part = Part {
+    cell: 0,
+    need: None,
+    gain: 0,
+    seen: NONE,
+    left: NONE,
+};
 
 /// The most numbers that are told apart.
 const NUMBERS_MAX: usize = 1 << 20;
 
 /// The cell has the number.
-fn widen(scales: &mut [Scale], cell: usize, number: i64) {
-    let mut scale = at(scales, cell, NO_SCALE);
+fn widen(scales: &mut Table<Scale>, cell: usize, number: i64) {
+    let mut scale = scales.at(cell);
     let last = scale.least.saturating_add(scale.count);
     if number < scale.least {
         scale.least = number;
@@ -105,49 +124,36 @@ fn widen(scales: &mut [Scale], cell: usize, number: i64) {
     } else if number >= last {
         scale.count = number.saturating_sub(scale.least).saturating_add(1);
     }
-    set(scales, cell, scale);
+    scales.set(cell, scale);
 }
 
-/// Numbers the numbers of all cells, and gives how many there are; or none, where there are too many.
-fn number_all(scales: &mut [Scale]) -> Option<usize> {
+/// Reads the numbers of the cells, and numbers them. It gives how many there are; or none, where there are too many.
+fn read_scales(scales: &mut Table<Scale>, touches: &[Touch], openings: &[i64]) -> Option<usize> {
+    for opening in openings {
+        scales.add(Scale {
+            least: *opening,
+            count: 1,
+            from: 0,
+        });
+    }
+    for touch in touches {
+        if let Some(need) = touch.need {
+            widen(scales, touch.cell, need);
+            widen(scales, touch.cell, need.saturating_add(touch.gain));
+        }
+    }
     let mut from: usize = 0;
-    for cell in 0..scales.len() {
-        scales[cell].from = short(from);
-        let count = scales[cell].count;
-        if count < 0 || count > 1_048_576 {
+    for scale in scales.items_mut() {
+        scale.from = short(from);
+        if scale.count < 0 || scale.count > 1_048_576 {
             return None;
         }
-        from = from.saturating_add(count as usize);
+        from = from.saturating_add(scale.count as usize);
         if from > NUMBERS_MAX {
             return None;
         }
     }
     Some(from)
-}
-
-/// The numbers of the cells, and how many there are, if they are not too many.
-fn scales_of(
-    alloc: Global,
-    touches: &[Touch],
-    openings: &[i64],
-) -> Result<(Vec<Scale>, Option<usize>), OutOfMemory> {
-    let mut scales = Vec::new(alloc);
-    for opening in openings {
-        let scale = Scale {
-            least: *opening,
-            count: 1,
-            from: 0,
-        };
-        push(&mut scales, scale)?;
-    }
-    for touch in touches {
-        if let Some(need) = touch.need {
-            widen(&mut scales, touch.cell, need);
-            widen(&mut scales, touch.cell, need.saturating_add(touch.gain));
-        }
-    }
-    let count = number_all(&mut scales);
-    Ok((scales, count))
 }
 
 /// The number of a cell's number among all.
@@ -160,8 +166,7 @@ pub(crate) fn slot_of(scale: Scale, number: i64) -> u32 {
 }
 
 /// The touch as a part.
-fn part_of(scales: &[Scale], touch: Touch, may_commit: bool) -> Part {
-    let scale = at(scales, touch.cell, NO_SCALE);
+fn part_of(scale: Scale, touch: Touch, may_commit: bool) -> Part {
     let gain = if may_commit { touch.gain } else { 0 };
     let (seen, left) = match touch.need {
         Some(need) if gain != 0 => (
@@ -180,13 +185,7 @@ fn part_of(scales: &[Scale], touch: Touch, may_commit: bool) -> Part {
 }
 
 /// Adds the row with its touches, which are those from the place on. The place after them is given.
-fn add_line(
-    board: &mut Board,
-    row: Row,
-    number: usize,
-    touches: &[Touch],
-    place: usize,
-) -> Result<usize, OutOfMemory> {
+fn add_line(board: &mut Board, row: Row, number: usize, touches: &[Touch], place: usize) -> usize {
     let from = short(board.parts.len());
     let mut is_mover = false;
     let mut next = place;
@@ -197,39 +196,20 @@ fn add_line(
         if touch.row != number {
             break;
         }
-        let part = part_of(&board.scales, *touch, row.may_commit);
+        let scale = board.scales.at(touch.cell);
+        let part = part_of(scale, *touch, row.may_commit);
         is_mover = is_mover || part.gain != 0;
-        push(&mut board.parts, part)?;
+        board.parts.add(part);
         next = next.wrapping_add(1);
     }
     let to = short(board.parts.len());
-    let line = Line {
+    board.lines.add(Line {
         row,
         from,
         to,
         is_mover,
-    };
-    push(&mut board.lines, line)?;
-    Ok(next)
-}
-
-/// Sorts the rows by when they ended.
-fn sort_ends(alloc: Global, by_end: &mut Vec<usize>, rows: &[Row]) -> Result<(), OutOfMemory> {
-    let mut endings = Vec::new(alloc);
-    for (row, found) in rows.iter().enumerate() {
-        let end = if found.has_ended {
-            found.end
-        } else {
-            rows.len()
-        };
-        push(&mut endings, Ending { end, row })?;
-    }
-    endings.sort_unstable();
-    fill(by_end, rows.len(), 0)?;
-    for place in 0..endings.len() {
-        set(by_end, place, endings[place].row);
-    }
-    Ok(())
+    });
+    next
 }
 
 /// The board of the rows and their touches, which are sorted; or none, where there are too many numbers.
@@ -238,23 +218,26 @@ pub(crate) fn board_of(
     rows: &[Row],
     touches: &[Touch],
     openings: &[i64],
-) -> Result<Option<Board>, OutOfMemory> {
-    let (scales, count) = scales_of(alloc, touches, openings)?;
-    let Some(numbers) = count else {
-        return Ok(None);
-    };
+) -> Option<Board> {
     let mut board = Board {
-        lines: Vec::new(alloc),
-        parts: Vec::new(alloc),
-        by_end: Vec::new(alloc),
-        scales,
-        numbers,
+        lines: Table::new(alloc, NO_LINE),
+        parts: Table::new(alloc, NO_PART),
+        by_end: Table::new(alloc, NO_ENDING),
+        scales: Table::new(alloc, NO_SCALE),
+        numbers: 0,
         words: rows.len().div_ceil(64),
     };
+    board.numbers = read_scales(&mut board.scales, touches, openings)?;
     let mut place: usize = 0;
-    for (number, row) in rows.iter().enumerate() {
-        place = add_line(&mut board, *row, number, touches, place)?;
+    for (row, found) in rows.iter().enumerate() {
+        place = add_line(&mut board, *found, row, touches, place);
+        let end = if found.has_ended {
+            found.end
+        } else {
+            rows.len()
+        };
+        board.by_end.add(Ending { end, row });
     }
-    sort_ends(alloc, &mut board.by_end, rows)?;
-    Ok(Some(board))
+    board.by_end.items_mut().sort_unstable();
+    Some(board)
 }

@@ -1,7 +1,7 @@
 //! Beginnings of orders: which rows are placed, and what the cells hold after them.
 
-use crate::board::{Board, Line, NO_LINE, Part};
-use search_lists::{at, range, set};
+use crate::board::{Board, Line, Part};
+use search_lists::{at, set};
 
 /// Of a beginning: how many of the rows in the order of their ends are placed before the first that is not, how many rows are placed, and a key of
 /// which ones, with their fates.
@@ -69,15 +69,16 @@ pub(crate) fn row_in(word: usize, open: u64) -> usize {
 
 /// Before which row all stand that may be placed next: those that began before the first end of a row that is not placed.
 pub(crate) fn limit_of(board: &Board, low: usize) -> usize {
-    match board.by_end.get(low) {
-        Some(row) => at(&board.lines, *row, NO_LINE).row.end,
-        None => board.lines.len(),
+    if low < board.by_end.len() {
+        board.lines.at(board.by_end.at(low).row).row.end
+    } else {
+        board.lines.len()
     }
 }
 
 /// The parts of the row.
 pub(crate) fn parts_of(board: &Board, line: Line) -> &[Part] {
-    range(&board.parts, line.from as usize, line.to as usize)
+    board.parts.range(line.from as usize, line.to as usize)
 }
 
 /// Whether the cells hold what the row sees.
@@ -111,7 +112,7 @@ pub(crate) fn place(
 ) {
     mark_row(bits, mark, row, commits);
     if commits {
-        for part in parts_of(board, at(&board.lines, row, NO_LINE)) {
+        for part in parts_of(board, board.lines.at(row)) {
             let cell = part.cell as usize;
             let now = at(values, cell, 0);
             set(values, cell, now.wrapping_add(part.gain));
@@ -135,7 +136,7 @@ fn place_silent(
         }
         let row = row_in(word, open);
         open &= open.wrapping_sub(1);
-        let line = at(&board.lines, row, NO_LINE);
+        let line = board.lines.at(row);
         if !line.is_mover && fits(board, line, values) {
             mark_row(bits, mark, row, line.row.may_commit);
             is_any = true;
@@ -147,7 +148,7 @@ fn place_silent(
 /// Goes over the rows that are placed, in the order of their ends.
 fn go_on(board: &Board, bits: &[u64], mark: &mut Mark) {
     for place in mark.low..board.by_end.len() {
-        if !is_placed(bits, at(&board.by_end, place, 0)) {
+        if !is_placed(bits, board.by_end.at(place).row) {
             break;
         }
         mark.low = place.wrapping_add(1);

@@ -1,9 +1,8 @@
 //! How much a beginning promises.
 
-use crate::board::{Board, NO_LINE, NO_SCALE, Row, slot_of};
+use crate::board::{Board, Row, slot_of};
 use crate::position::{Mark, first_word, limit_of, open_in, parts_of, row_in};
-use base_values::OutOfMemory;
-use search_lists::{at, fill, push, short};
+use search_lists::{Table, at, short};
 use std::alloc::Global;
 
 /// What counts how much; the least sum promises most.
@@ -96,20 +95,30 @@ pub(crate) struct Balance {
     count: i32,
 }
 
-pub(crate) const EVEN: Balance = Balance { stamp: 0, count: 0 };
+const EVEN: Balance = Balance { stamp: 0, count: 0 };
 
 /// What scores are read from: the weights, by how many rows are left until a row is due what each step of distance costs and what the row itself
 /// does, and until how many rows are placed each row is due.
 #[derive(Drop)]
 pub(crate) struct Scores {
     weights: Weights,
-    steps: Vec<i64>,
-    lates: Vec<i64>,
-    dues: Vec<usize>,
-    balances: Vec<Balance>,
+    steps: Table<i64>,
+    lates: Table<i64>,
+    dues: Table<usize>,
+    balances: Table<Balance>,
     stamp: u32,
     /// How many rows were looked at.
     pub work: u64,
+}
+
+impl Scores {
+    /// Whether some growth was refused.
+    pub(crate) fn is_short(&self) -> bool {
+        self.steps.is_short()
+            | self.lates.is_short()
+            | self.dues.is_short()
+            | self.balances.is_short()
+    }
 }
 
 /// Until how many rows are placed the row is due.
@@ -122,42 +131,45 @@ fn due_of(row: Row, share: i64) -> usize {
     row.due.saturating_mul(share).saturating_add(last) / 16
 }
 
+/// What each step of distance costs, and what the row itself does, where so many rows are left until it is due. The power is of the number of them.
+fn costs_of(weights: Weights, power: i64, left: u32) -> (i64, i64) {
+    let next = i64::from(left).saturating_add(1);
+    let square = 4096 / next.saturating_mul(next).max(1);
+    let step = weights.near.wrapping_mul(power);
+    let late = weights.late.wrapping_mul(power);
+    (
+        step.wrapping_add(weights.far.wrapping_mul(square)),
+        late.wrapping_add(weights.later.wrapping_mul(square)),
+    )
+}
+
+/// The power of one row more.
+fn weaker(power: i64) -> i64 {
+    power.wrapping_mul(867) / 1024
+}
+
 /// The scores of a board.
-pub(crate) fn scores_of(
-    alloc: Global,
-    board: &Board,
-    weights: Weights,
-) -> Result<Scores, OutOfMemory> {
+pub(crate) fn scores_of(alloc: Global, board: &Board, weights: Weights) -> Scores {
     let mut scores = Scores {
         weights,
-        steps: Vec::new(alloc),
-        lates: Vec::new(alloc),
-        dues: Vec::new(alloc),
-        balances: Vec::new(alloc),
+        steps: Table::new(alloc, 0),
+        lates: Table::new(alloc, 0),
+        dues: Table::new(alloc, 0),
+        balances: Table::new(alloc, EVEN),
         stamp: 0,
         work: 0,
     };
     let mut power: i64 = 256;
     for left in 0..board.lines.len() {
-        let next = (left as i64).saturating_add(1);
-        let square = 4096 / next.saturating_mul(next).max(1);
-        let step = weights.near.wrapping_mul(power);
-        push(
-            &mut scores.steps,
-            step.wrapping_add(weights.far.wrapping_mul(square)),
-        )?;
-        let late = weights.late.wrapping_mul(power);
-        push(
-            &mut scores.lates,
-            late.wrapping_add(weights.later.wrapping_mul(square)),
-        )?;
-        power = power.wrapping_mul(867) / 1024;
+        let (step, late) = costs_of(weights, power, short(left));
+        scores.steps.add(step);
+        scores.lates.add(late);
+        let row = board.lines.at(left).row;
+        scores.dues.add(due_of(row, weights.share));
+        power = weaker(power);
     }
-    for line in board.lines.iter() {
-        push(&mut scores.dues, due_of(line.row, weights.share))?;
-    }
-    fill(&mut scores.balances, board.numbers, EVEN)?;
-    Ok(scores)
+    scores.balances.fill(board.numbers);
+    scores
 }
 
 /// One more sees the number, or one more leaves it. What that changes of all that is lacking.
@@ -196,7 +208,7 @@ fn add_row(
     row: usize,
     sum: &mut Sum,
 ) -> bool {
-    let line = at(&board.lines, row, NO_LINE);
+    let line = board.lines.at(row);
     if line.row.has_ended && line.row.end <= mark.placed {
         return false;
     }
@@ -207,8 +219,9 @@ fn add_row(
             distance = distance.saturating_add(far.saturating_abs());
         }
         if part.gain != 0 && part.need.is_some() {
-            let sees = turn(&mut scores.balances, scores.stamp, part.seen, true);
-            let leaves = turn(&mut scores.balances, scores.stamp, part.left, false);
+            let balances = scores.balances.items_mut();
+            let sees = turn(balances, scores.stamp, part.seen, true);
+            let leaves = turn(balances, scores.stamp, part.left, false);
             sum.lack = sum.lack.wrapping_add(sees).wrapping_add(leaves);
         } else if part.gain != 0 {
             sum.total = sum
@@ -218,9 +231,9 @@ fn add_row(
     }
     sum.count = sum.count.wrapping_add(1);
     if line.row.has_ended {
-        let left = at(&scores.dues, row, 0).saturating_sub(mark.placed);
-        let step = at(&scores.steps, left, 0).wrapping_mul(distance);
-        let late = at(&scores.lates, left, 0);
+        let left = scores.dues.at(row).saturating_sub(mark.placed);
+        let step = scores.steps.at(left).wrapping_mul(distance);
+        let late = scores.lates.at(left);
         sum.total = sum.total.wrapping_add(step).wrapping_add(late);
     }
     true
@@ -251,8 +264,8 @@ fn add_word(
 /// The cells leave their numbers.
 fn add_values(scores: &mut Scores, board: &Board, values: &[i64], sum: &mut Sum) {
     for cell in 0..values.len() {
-        let number = slot_of(at(&board.scales, cell, NO_SCALE), values[cell]);
-        let leaves = turn(&mut scores.balances, scores.stamp, number, false);
+        let number = slot_of(board.scales.at(cell), values[cell]);
+        let leaves = turn(scores.balances.items_mut(), scores.stamp, number, false);
         sum.lack = sum.lack.wrapping_add(leaves);
     }
 }

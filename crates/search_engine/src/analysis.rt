@@ -43,14 +43,14 @@ impl Analysis {
 
     /// Whether some growth was refused.
     pub(crate) fn is_short(&self) -> bool {
-        let is_clause_short = self.todo.is_short() || self.clause.is_short();
-        let is_cause_short = self.used.is_short() || self.sure.is_short();
-        let is_sum_short = self.contributions.is_short() || self.stamps.is_short();
-        is_clause_short
-            || is_cause_short
-            || is_sum_short
-            || self.met.is_short()
-            || self.is_met.is_short()
+        self.todo.is_short()
+            | self.clause.is_short()
+            | self.used.is_short()
+            | self.sure.is_short()
+            | self.met.is_short()
+            | self.is_met.is_short()
+            | self.contributions.is_short()
+            | self.stamps.is_short()
     }
 }
 
@@ -60,62 +60,24 @@ pub(crate) fn make_marks(analysis: &mut Analysis, count: usize) {
     analysis.stamps.fill(count.wrapping_add(2));
 }
 
-/// The level since which the literal is assigned.
-pub(crate) fn level_of(known: &Known, literal: u32) -> u32 {
-    known.state(literal).level
-}
-
-/// The highest level of the literals.
-pub(crate) fn highest(known: &Known, literals: &[u32]) -> u32 {
-    let mut level = 0;
-    for literal in literals {
-        level = level_of(known, *literal).max(level);
-    }
-    level
-}
-
-/// Whether the variable was met, or is none.
-fn was_met(analysis: &Analysis, variable: usize) -> bool {
-    analysis.is_met.at(variable) || variable >= analysis.is_met.len()
-}
-
-/// Notes that the variable was met.
-fn meet(analysis: &mut Analysis, heap: &mut Heap, variable: usize) {
-    analysis.is_met.set(variable, true);
-    analysis.met.add(variable);
-    bump(heap, variable);
-}
-
-/// Takes in one literal that holds: true if it is one of the level that was not met before.
-fn take_in_one(
-    analysis: &mut Analysis,
-    heap: &mut Heap,
-    literal: u32,
-    since: u32,
-    level: u32,
-) -> bool {
-    if since == 0 {
-        analysis.sure.add(literal);
-        return false;
-    }
-    if was_met(analysis, var(literal)) {
-        return false;
-    }
-    meet(analysis, heap, var(literal));
-    if since < level {
-        analysis.clause.add(neg(literal));
-    }
-    since >= level
-}
-
-/// Takes in the literals that hold: those of the level are counted, and of the lower ones one may fail.
+/// Takes in the literals that hold and were not met before: those of the level are counted, and of the lower ones one may fail.
 fn take_in(analysis: &mut Analysis, heap: &mut Heap, known: &Known, level: u32) -> usize {
     let mut count: usize = 0;
     for place in 0..analysis.todo.len() {
         let literal = analysis.todo.at(place);
-        let since = level_of(known, literal);
-        if take_in_one(analysis, heap, literal, since, level) {
-            count = count.wrapping_add(1);
+        let variable = var(literal);
+        let since = known.state(literal).level;
+        if since == 0 {
+            analysis.sure.add(literal);
+        } else if !analysis.is_met.at(variable) && variable < analysis.is_met.len() {
+            analysis.is_met.set(variable, true);
+            analysis.met.add(variable);
+            bump(heap, variable);
+            if since < level {
+                analysis.clause.add(neg(literal));
+            } else {
+                count = count.wrapping_add(1);
+            }
         }
     }
     count
@@ -133,28 +95,6 @@ fn last_met(known: &Known, is_met: &Table<bool>, before: usize) -> usize {
     place
 }
 
-/// Whether all of the literals were met, or hold in any case.
-fn are_met(todo: &[u32], is_met: &Table<bool>, known: &Known) -> bool {
-    for literal in todo {
-        if level_of(known, *literal) != 0 && !is_met.at(var(*literal)) {
-            return false;
-        }
-    }
-    true
-}
-
-/// Takes the antecedent of the literal in its place.
-fn go_on(analysis: &mut Analysis, view: &View<'_>, literal: u32) {
-    analysis.todo.clear();
-    explain(
-        view,
-        literal,
-        &mut analysis.contributions,
-        &mut analysis.todo,
-    );
-    analysis.used.add(literal);
-}
-
 /// Goes back along the trail to the first literal of the level from which alone the conflict follows.
 fn find_first(analysis: &mut Analysis, heap: &mut Heap, view: &View<'_>, level: u32) {
     let mut count: usize = 0;
@@ -169,16 +109,14 @@ fn find_first(analysis: &mut Analysis, heap: &mut Heap, view: &View<'_>, level: 
             analysis.clause.set(0, neg(literal));
             break;
         }
-        go_on(analysis, view, literal);
-    }
-}
-
-/// Adds those of the literals that hold in any case.
-fn add_sure(sure: &mut Table<u32>, literals: &[u32], known: &Known) {
-    for literal in literals {
-        if level_of(known, *literal) == 0 {
-            sure.add(*literal);
-        }
+        analysis.todo.clear();
+        explain(
+            view,
+            literal,
+            &mut analysis.contributions,
+            &mut analysis.todo,
+        );
+        analysis.used.add(literal);
     }
 }
 
@@ -194,11 +132,17 @@ fn follows(analysis: &mut Analysis, view: &View<'_>, literal: u32) -> bool {
         &mut analysis.contributions,
         &mut analysis.todo,
     );
-    if !are_met(analysis.todo.items(), &analysis.is_met, view.known) {
-        return false;
+    for found in analysis.todo.items() {
+        if view.known.state(*found).level != 0 && !analysis.is_met.at(var(*found)) {
+            return false;
+        }
+    }
+    for found in analysis.todo.items() {
+        if view.known.state(*found).level == 0 {
+            analysis.sure.add(*found);
+        }
     }
     analysis.used.add(neg(literal));
-    add_sure(&mut analysis.sure, analysis.todo.items(), view.known);
     true
 }
 
@@ -220,7 +164,7 @@ fn order_clause(clause: &mut [u32], known: &Known) -> u32 {
     let mut best: usize = 1;
     let mut level = 0;
     for place in 1..clause.len() {
-        let own = level_of(known, clause[place]);
+        let own = known.state(clause[place]).level;
         if own >= level {
             level = own;
             best = place;
@@ -233,27 +177,17 @@ fn order_clause(clause: &mut [u32], known: &Known) -> u32 {
     level
 }
 
-/// Forgets the last clause.
-fn clear(analysis: &mut Analysis) {
-    analysis.clause.clear();
-    analysis.used.clear();
-    analysis.sure.clear();
-}
-
-/// No variable was met.
-fn forget_met(is_met: &mut Table<bool>, met: &[usize]) {
-    for variable in met {
-        is_met.set(*variable, false);
-    }
-}
-
 /// Learns a clause from a conflict at the level, of whose literals `todo` are those that hold. It gives the level from which on the clause
 /// forces its first literal.
 pub(crate) fn learn(analysis: &mut Analysis, heap: &mut Heap, view: &View<'_>, level: u32) -> u32 {
-    clear(analysis);
+    analysis.clause.clear();
+    analysis.used.clear();
+    analysis.sure.clear();
     find_first(analysis, heap, view, level);
     shorten(analysis, view);
-    forget_met(&mut analysis.is_met, analysis.met.items());
+    for variable in analysis.met.items() {
+        analysis.is_met.set(*variable, false);
+    }
     analysis.met.clear();
     order_clause(analysis.clause.items_mut(), view.known)
 }
@@ -267,7 +201,11 @@ pub(crate) fn read_conflict(analysis: &mut Analysis, view: &View<'_>, conflict: 
         &mut analysis.contributions,
         &mut analysis.todo,
     );
-    highest(view.known, analysis.todo.items())
+    let mut level = 0;
+    for literal in analysis.todo.items() {
+        level = view.known.state(*literal).level.max(level);
+    }
+    level
 }
 
 /// Of how many levels the literals of the clause are.
@@ -275,7 +213,7 @@ pub(crate) fn count_levels(analysis: &mut Analysis, known: &Known) -> u32 {
     analysis.stamp = analysis.stamp.wrapping_add(1);
     let mut count: u32 = 0;
     for place in 0..analysis.clause.len() {
-        let level = level_of(known, analysis.clause.at(place)) as usize;
+        let level = known.state(analysis.clause.at(place)).level as usize;
         if analysis.stamps.at(level) != analysis.stamp {
             analysis.stamps.set(level, analysis.stamp);
             count = count.wrapping_add(1);

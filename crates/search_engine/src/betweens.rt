@@ -29,71 +29,24 @@ pub(crate) fn clause_of(cells: &Cells, spans: &[Span], source: u32, writer: u32)
     [neg(found.literal), neg(other.commits), neg(stands), last]
 }
 
-/// What the clause forces: its only open literal, or the one that never holds, where all fail, or else the one that always does.
-fn forced_by(known: &Known, clause: &[u32]) -> u32 {
+/// Follows the clause of the source and the other writer: where all of its literals fail but one that is open, that one holds.
+fn follow(known: &mut Known, source: u32, writer: u32, clause: &[u32; 4]) -> Option<Conflict> {
+    known.work = known.work.wrapping_add(1);
     let mut open = FALSE;
     for literal in clause {
         let found = known.value(*literal);
         if found == 1 || (found == 0 && open != FALSE) {
-            return TRUE;
+            return None;
         }
         if found == 0 {
             open = *literal;
         }
     }
-    open
-}
-
-/// Follows the clause of the source and the other writer.
-fn follow(known: &mut Known, source: u32, writer: u32, clause: &[u32; 4]) -> Option<Conflict> {
-    known.work = known.work.wrapping_add(1);
-    let forced = forced_by(known, clause);
-    if forced == FALSE {
+    if open == FALSE {
         return Some(Conflict::Between(source, writer));
     }
-    if forced != TRUE {
-        assign(known, forced, Antecedent::Between(source, writer));
-    }
+    assign(known, open, Antecedent::Between(source, writer));
     None
-}
-
-/// Looks at the clause of the source and the other writer.
-fn look_at(
-    known: &mut Known,
-    cells: &Cells,
-    spans: &[Span],
-    source: u32,
-    writer: u32,
-) -> Option<Conflict> {
-    let clause = clause_of(cells, spans, source, writer);
-    follow(known, source, writer, &clause)
-}
-
-/// The writers that are looked at for a source: those between two numbers, back to where all ended before a stamp.
-#[derive(Clone, Copy)]
-struct Window {
-    from: usize,
-    to: usize,
-    began: u32,
-    need: Need,
-}
-
-/// The writers of the source's cell that began before the reader ended, and when the source began.
-fn window_of(cells: &Cells, spans: &[Span], source: u32) -> Window {
-    let found = cells.sources.at(source as usize);
-    let reader = cells.readers.at(found.reader as usize);
-    let cell = cells.cells.at(reader.cell as usize);
-    let began = if found.writer == NONE {
-        0
-    } else {
-        span_of(spans, found.row as usize).first
-    };
-    Window {
-        from: cell.writers,
-        to: writers_before(cells, cell, span_of(spans, reader.row).end),
-        began,
-        need: reader.need,
-    }
 }
 
 /// The source holds: no other writer stands between. Those are looked at from the last one on that began before the reader ended, as
@@ -104,15 +57,24 @@ pub(crate) fn propagate_source(
     spans: &[Span],
     source: u32,
 ) -> Option<Conflict> {
-    let window = window_of(cells, spans, source);
-    for step in 0..window.to.saturating_sub(window.from) {
-        let number = window.to.wrapping_sub(1).wrapping_sub(step);
+    let found = cells.sources.at(source as usize);
+    let reader = cells.readers.at(found.reader as usize);
+    let cell = cells.cells.at(reader.cell as usize);
+    let began = if found.writer == NONE {
+        0
+    } else {
+        span_of(spans, found.row as usize).first
+    };
+    let to = writers_before(cells, cell, span_of(spans, reader.row).end);
+    for step in 0..to.saturating_sub(cell.writers) {
+        let number = to.wrapping_sub(1).wrapping_sub(step);
         let writer = cells.writers.at(number);
-        if writer.latest < window.began {
+        if writer.latest < began {
             break;
         }
-        if !meets(window.need, writer.value) {
-            let conflict = look_at(known, cells, spans, source, short(number));
+        if !meets(reader.need, writer.value) {
+            let clause = clause_of(cells, spans, source, short(number));
+            let conflict = follow(known, source, short(number), &clause);
             if conflict.is_some() {
                 return conflict;
             }
@@ -231,11 +193,6 @@ fn propagate_uses(
     None
 }
 
-/// Whether the one row may write a cell that the other touches.
-fn may_meet(cells: &Cells, row: usize, other: usize) -> bool {
-    cells.marks.at(row).writes & cells.marks.at(other).touches != 0
-}
-
 /// The one row stands before the other: looks at the cells that both touch.
 pub(crate) fn propagate_pair(
     known: &mut Known,
@@ -244,7 +201,7 @@ pub(crate) fn propagate_pair(
     row: usize,
     other: usize,
 ) -> Option<Conflict> {
-    if !may_meet(cells, row, other) {
+    if cells.marks.at(row).writes & cells.marks.at(other).touches == 0 {
         return None;
     }
     let mut one = cells.starts.at(row);
@@ -273,23 +230,6 @@ pub(crate) fn propagate_pair(
     None
 }
 
-/// The writer commits: looks at all readers of its cell.
-fn check_writer(
-    known: &mut Known,
-    cells: &Cells,
-    spans: &[Span],
-    cell_use: CellUse,
-) -> Option<Conflict> {
-    let cell = cells.cells.at(cell_use.cell as usize);
-    for reader in cell.readers..cell.readers_end {
-        let conflict = propagate_reader(known, cells, spans, short(reader), cell_use.writer);
-        if conflict.is_some() {
-            return conflict;
-        }
-    }
-    None
-}
-
 /// The row commits: looks at all readers of the cells that it writes.
 pub(crate) fn check_commits(
     known: &mut Known,
@@ -300,8 +240,12 @@ pub(crate) fn check_commits(
     let from = cells.starts.at(row);
     let to = cells.starts.at(row.wrapping_add(1));
     for cell_use in cells.uses.range(from, to) {
-        if cell_use.writer != NONE {
-            let conflict = check_writer(known, cells, spans, *cell_use);
+        if cell_use.writer == NONE {
+            continue;
+        }
+        let cell = cells.cells.at(cell_use.cell as usize);
+        for reader in cell.readers..cell.readers_end {
+            let conflict = propagate_reader(known, cells, spans, short(reader), cell_use.writer);
             if conflict.is_some() {
                 return conflict;
             }

@@ -1,7 +1,7 @@
 //! What the bounds of sums force.
 
 use crate::known::{Antecedent, Conflict, Known, assign};
-use crate::literals::{FALSE, Table, neg, var};
+use crate::literals::{Table, neg, var};
 use crate::sums::{Slack, Sums, Term};
 
 /// The sum is to be looked at, if it does not wait yet.
@@ -111,18 +111,6 @@ pub(crate) fn wake_guarded(sums: &mut Sums, number: u32) {
     sums.slacks.set(number as usize, slack);
 }
 
-/// The only open literal of the two, if none fails.
-fn only_open(known: &Known, literals: [u32; 2]) -> u32 {
-    let (first, second) = (known.value(literals[0]), known.value(literals[1]));
-    if first == 0 && second == 1 {
-        literals[0]
-    } else if first == 1 && second == 0 {
-        literals[1]
-    } else {
-        FALSE
-    }
-}
-
 /// Forces what the term has to be: out, where it would take the sum past a bound, or in, where it is needed.
 fn force(known: &mut Known, term: &Term, slack: Slack, number: u32) {
     let gain = term.gain;
@@ -136,9 +124,12 @@ fn force(known: &mut Known, term: &Term, slack: Slack, number: u32) {
     let low = Antecedent::Low(number);
     let high = Antecedent::High(number);
     if is_out {
-        let open = only_open(known, term.literals);
-        if open != FALSE {
-            assign(known, neg(open), if gain > 0 { low } else { high });
+        let [first, second] = term.literals;
+        let why = if gain > 0 { low } else { high };
+        match (known.value(first), known.value(second)) {
+            (0, 1) => assign(known, neg(first), why),
+            (1, 0) => assign(known, neg(second), why),
+            _ => {}
         }
     } else if is_in {
         for literal in &term.literals {
@@ -149,8 +140,17 @@ fn force(known: &mut Known, term: &Term, slack: Slack, number: u32) {
     }
 }
 
-/// Looks at the sum: whether it can be what is wanted, and what that forces.
-fn propagate_sum(known: &mut Known, sums: &Sums, number: u32) -> Option<Conflict> {
+/// The sum waits no longer.
+fn settle(sums: &mut Sums, number: u32) {
+    let mut slack = sums.slacks.at(number as usize);
+    slack.waits = false;
+    sums.slacks.set(number as usize, slack);
+}
+
+/// Looks at the last sum that waits, if one does: whether it can be what is wanted, and what that forces.
+pub(crate) fn propagate_waiting(known: &mut Known, sums: &mut Sums) -> Option<Conflict> {
+    let number = sums.waiting.pop()?;
+    settle(sums, number);
     let sum = sums.sums.at(number as usize);
     let guard = known.value(sum.guard);
     if guard == -1 {
@@ -182,20 +182,6 @@ fn propagate_sum(known: &mut Known, sums: &Sums, number: u32) -> Option<Conflict
         .work
         .wrapping_add(sum.to.saturating_sub(sum.from) as u64);
     None
-}
-
-/// The sum waits no longer.
-fn settle(sums: &mut Sums, number: u32) {
-    let mut slack = sums.slacks.at(number as usize);
-    slack.waits = false;
-    sums.slacks.set(number as usize, slack);
-}
-
-/// Looks at the last sum that waits, if one does.
-pub(crate) fn propagate_waiting(known: &mut Known, sums: &mut Sums) -> Option<Conflict> {
-    let number = sums.waiting.pop()?;
-    settle(sums, number);
-    propagate_sum(known, sums, number)
 }
 
 /// No sum waits any longer.

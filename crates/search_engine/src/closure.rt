@@ -26,16 +26,7 @@ impl Closure {
 
     /// Whether some growth was refused.
     pub(crate) fn is_short(&self) -> bool {
-        self.after.is_short() || self.before.is_short()
-    }
-}
-
-/// The bit of the row in that word of its bits.
-pub(crate) fn bit_in(row: usize, word: usize) -> u64 {
-    if row / 64 == word {
-        1u64 << (row % 64)
-    } else {
-        0
+        self.after.is_short() | self.before.is_short()
     }
 }
 
@@ -58,43 +49,25 @@ pub(crate) fn is_before(closure: &Closure, row: usize, other: usize) -> bool {
     (closure.after.at(place) >> (other % 64)) & 1 == 1
 }
 
-/// Sets the bits of those rows that began after each one ended.
-fn close_after(closure: &mut Closure, spans: &[Span]) {
-    let last = closure.words.wrapping_sub(1);
-    for span in spans {
-        for word in 0..closure.words {
-            let bits = bits_from(span.end, word);
-            let none = if word == last {
-                bits_from(spans.len(), word)
-            } else {
-                0
-            };
-            closure.after.add(bits & !none);
+/// Sets the bits of the rows before and after each one by real time: of those that had ended before it began, and of those that began after
+/// it ended.
+pub(crate) fn close_spans(closure: &mut Closure, spans: &[Span]) {
+    let (rows, words) = (spans.len(), spans.len().div_ceil(64));
+    closure.words = words;
+    closure.before.fill(rows.saturating_mul(words));
+    for (row, span) in spans.iter().enumerate() {
+        for word in 0..words {
+            let beyond = bits_from(rows, word);
+            closure.after.add(bits_from(span.end, word) & !beyond);
         }
-    }
-}
-
-/// Sets the bits of those rows that had ended before each one began.
-fn close_before(closure: &mut Closure, spans: &[Span]) {
-    let words = closure.words;
-    closure.before.fill(spans.len().saturating_mul(words));
-    for row in 0..spans.len() {
-        let end = spans[row].end;
-        if end < spans.len() {
-            set_bit(&mut closure.before, end.wrapping_mul(words), row, true);
+        if span.end < rows {
+            set_bit(&mut closure.before, span.end.wrapping_mul(words), row, true);
         }
     }
     for place in words..closure.before.len() {
         let earlier = closure.before.at(place.wrapping_sub(words));
         add_bits(&mut closure.before, place, earlier);
     }
-}
-
-/// Sets the bits of the rows before and after each one by real time.
-pub(crate) fn close_spans(closure: &mut Closure, spans: &[Span]) {
-    closure.words = spans.len().div_ceil(64);
-    close_after(closure, spans);
-    close_before(closure, spans);
 }
 
 /// The bits of that word that stand for the rows from that one on.
@@ -114,7 +87,12 @@ fn fresh_in(bits: &Table<u64>, words: usize, rows: (usize, usize), word: usize) 
     let (one, other) = rows;
     let wanted = bits.at(one.wrapping_mul(words).wrapping_add(word));
     let known = bits.at(other.wrapping_mul(words).wrapping_add(word));
-    (wanted | bit_in(one, word)) & !known
+    let own = if one / 64 == word {
+        1u64 << (one % 64)
+    } else {
+        0
+    };
+    (wanted | own) & !known
 }
 
 /// The row stands before the rows of the bits in that word. `through` are the two rows of the pair that this follows from.

@@ -1,19 +1,22 @@
 //! Runs that only count: what their rows do with cells, and an order of them by a beam.
 
-use crate::literals::{FALSE, NONE, TRUE, Table, at, push};
-use crate::problem::{Problem, unless_short};
+use crate::literals::{FALSE, NONE, TRUE, Table, at};
+use crate::problem::Problem;
 use crate::spans::{Span, instant, span_of};
 use aud_event::OutOfMemory;
 use aud_witness::{Decision, Fate};
-use search_counts::{Breadth, Placed, Row, Touch, WEIGHTS, find};
+use search_counts::{Breadth, Row, Touch, WEIGHTS, find};
 use std::alloc::Global;
 
-/// What the rows do with counters and elements of sets, each a cell, as far as it is read; and whether they touch nothing else.
+/// What the rows do with counters and elements of sets, each a cell, as far as it is read; and whether they touch nothing else. Where they do
+/// not, the rows, as a beam asks for them, and when each takes effect, if that is in the middle of its time, in order.
 #[derive(Drop)]
 pub(crate) struct Counting {
     pub touches: Table<Touch>,
     pub openings: Table<i64>,
     pub is_all: bool,
+    rows: Table<Row>,
+    middles: Table<u64>,
 }
 
 impl Counting {
@@ -23,12 +26,17 @@ impl Counting {
             touches: Table::new(alloc, NO_TOUCH),
             openings: Table::new(alloc, 0),
             is_all: true,
+            rows: Table::new(alloc, NO_ROW),
+            middles: Table::new(alloc, 0),
         }
     }
 
     /// Whether some growth was refused.
     pub(crate) fn is_short(&self) -> bool {
-        self.touches.is_short() || self.openings.is_short()
+        self.touches.is_short()
+            | self.openings.is_short()
+            | self.rows.is_short()
+            | self.middles.is_short()
     }
 }
 
@@ -46,14 +54,6 @@ const NO_ROW: Row = Row {
     may_commit: false,
     may_abort: false,
 };
-
-/// When the rows take effect, if that is in the middle of each one's time, in order.
-fn read_middles(middles: &mut Table<u64>, spans: &[Span]) {
-    for span in spans {
-        middles.add(instant(*span, 10));
-    }
-    middles.items_mut().sort_unstable();
-}
 
 /// How many of the sorted numbers are less.
 fn count_less(numbers: &[u64], number: u64) -> usize {
@@ -73,77 +73,64 @@ fn count_less(numbers: &[u64], number: u64) -> usize {
     low
 }
 
-/// The rows, as a beam asks for them.
-fn rows_of(alloc: Global, spans: &[Span]) -> Result<Table<Row>, OutOfMemory> {
-    let mut middles = Table::new(alloc, 0);
-    let mut rows = Table::new(alloc, NO_ROW);
-    read_middles(&mut middles, spans);
+/// Puts what the rows do in order, and lists them for a beam, if they touch nothing but counters and elements of sets.
+pub(crate) fn list_rows(counting: &mut Counting, spans: &[Span]) {
+    if !counting.is_all {
+        return;
+    }
+    counting.touches.items_mut().sort_unstable();
     for span in spans {
-        let due = count_less(middles.items(), u64::from(span.last).wrapping_mul(20));
-        rows.add(Row {
+        counting.middles.add(instant(*span, 10));
+    }
+    counting.middles.items_mut().sort_unstable();
+    for span in spans {
+        let end = u64::from(span.last).wrapping_mul(20);
+        counting.rows.add(Row {
             end: span.end,
-            due,
+            due: count_less(counting.middles.items(), end),
             has_ended: span.last != NONE,
             may_commit: span.commits != FALSE,
             may_abort: span.commits != TRUE,
         });
     }
-    unless_short(middles.is_short() || rows.is_short())?;
-    Ok(rows)
-}
-
-/// Puts the rows as decisions.
-fn put_decisions(
-    decisions: &mut Vec<Decision>,
-    spans: &[Span],
-    order: &[Placed],
-) -> Result<(), OutOfMemory> {
-    decisions.clear();
-    for placed in order {
-        let tx = span_of(spans, placed.row).tx;
-        let fate = if placed.commits { Fate::C } else { Fate::A };
-        push(decisions, Decision { tx, fate })?;
-    }
-    Ok(())
-}
-
-/// How wide the beam of that number is, once all weights were tried twice as wide as before; or none, where its steps would take more bytes. A row of
-/// each beginning takes some.
-fn width_of(number: usize, rows: usize, bytes: usize) -> Option<usize> {
-    let doubled = (number / WEIGHTS.len()).min(32) as u32;
-    let width = 256usize.wrapping_shl(doubled);
-    if width.saturating_mul(rows).saturating_mul(64) > bytes {
-        return None;
-    }
-    Some(width)
 }
 
 /// Puts an order by the beam of that number, if it finds one within so much work and so many bytes. It gives whether it does, and how much it did: a
-/// look at a row is some units.
+/// look at a row is some units. The beam is twice as wide once all weights were tried; a row of each beginning takes some bytes.
 pub(crate) fn find_order(
     alloc: Global,
     problem: &Problem,
-    order: &mut Vec<Decision>,
+    order: &mut Table<Decision>,
     number: usize,
     most: u64,
     bytes: usize,
 ) -> Result<(bool, u64), OutOfMemory> {
-    let Some(width) = width_of(number, problem.spans.len(), bytes) else {
+    let counting = &problem.counting;
+    let doubled = (number / WEIGHTS.len()).min(32) as u32;
+    let width = 256usize.wrapping_shl(doubled);
+    if width.saturating_mul(counting.rows.len()).saturating_mul(64) > bytes {
         return Ok((false, 0));
-    };
-    let rows = rows_of(alloc, &problem.spans)?;
+    }
     let weights = at(&WEIGHTS, number % WEIGHTS.len(), WEIGHTS[0]);
-    let breadth = Breadth {
-        width,
-        most: most / 4,
-    };
-    let touches = problem.counting.touches.items();
-    let openings = problem.counting.openings.items();
-    let found = find(alloc, rows.items(), touches, openings, weights, breadth)?;
+    let most = most / 4;
+    let breadth = Breadth { width, most };
+    let found = find(
+        alloc,
+        counting.rows.items(),
+        counting.touches.items(),
+        counting.openings.items(),
+        weights,
+        breadth,
+    )?;
     let work = found.work.saturating_mul(4);
-    match &found.order {
-        Some(placed) => put_decisions(order, &problem.spans, placed)?,
-        None => return Ok((false, work)),
+    let Some(placed) = &found.order else {
+        return Ok((false, work));
+    };
+    order.clear();
+    for step in placed.iter() {
+        let tx = span_of(&problem.spans, step.row).tx;
+        let fate = if step.commits { Fate::C } else { Fate::A };
+        order.add(Decision { tx, fate });
     }
     Ok((true, work))
 }

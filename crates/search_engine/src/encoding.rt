@@ -61,7 +61,7 @@ impl Variables {
 
     /// Whether some growth was refused.
     pub(crate) fn is_short(&self) -> bool {
-        self.roles.is_short() || self.phases.is_short() || self.choices.is_short()
+        self.roles.is_short() | self.phases.is_short() | self.choices.is_short()
     }
 }
 
@@ -117,6 +117,20 @@ pub(crate) const STEP: usize = 5;
 
 pub(crate) const LITERALS: usize = 6;
 
+/// A learned clause by its use: the fewer levels and literals the better.
+#[derive(Clone, Copy, PartialEq, Eq, PartialOrd, Ord)]
+pub(crate) struct ClauseRank {
+    pub levels: u32,
+    pub length: u32,
+    pub clause: u32,
+}
+
+const NO_RANK: ClauseRank = ClauseRank {
+    levels: 0,
+    length: 0,
+    clause: 0,
+};
+
 /// The clauses, one after the other in the words of an arena. A clause goes by the place of its first word.
 #[derive(Drop)]
 pub(crate) struct Clauses {
@@ -125,8 +139,9 @@ pub(crate) struct Clauses {
     pub origins: Table<Origin>,
     /// For each literal the first clause that watches it.
     pub heads: Table<u32>,
-    /// The learned ones that are still there.
+    /// The learned ones that are still there, and their ranks when the worse ones were dropped.
     pub learned: Table<u32>,
+    pub ranks: Table<ClauseRank>,
 }
 
 impl Clauses {
@@ -137,13 +152,17 @@ impl Clauses {
             origins: Table::new(alloc, Origin::Tried),
             heads: Table::new(alloc, NONE),
             learned: Table::new(alloc, 0),
+            ranks: Table::new(alloc, NO_RANK),
         }
     }
 
     /// Whether some growth was refused.
     pub(crate) fn is_short(&self) -> bool {
-        let are_words_short = self.arena.is_short() || self.heads.is_short();
-        are_words_short || self.origins.is_short() || self.learned.is_short()
+        self.arena.is_short()
+            | self.heads.is_short()
+            | self.origins.is_short()
+            | self.learned.is_short()
+            | self.ranks.is_short()
     }
 }
 
@@ -162,17 +181,6 @@ pub(crate) fn append(
     place
 }
 
-/// Puts the literals after the clause at the place that is the last one, those aside that fail in any case.
-fn extend(arena: &mut Table<u32>, place: usize, literals: &[u32]) {
-    for literal in literals {
-        if *literal != FALSE {
-            arena.add(*literal);
-        }
-    }
-    let length = arena.len().wrapping_sub(place).wrapping_sub(LITERALS);
-    arena.set(place, short(length));
-}
-
 /// Adds the clause of different literals, if none of them holds in any case. Those that fail in any case are left out.
 pub(crate) fn add_clause(clauses: &mut Clauses, origin: Origin, literals: &[u32]) {
     if literals.contains(&TRUE) {
@@ -182,5 +190,13 @@ pub(crate) fn add_clause(clauses: &mut Clauses, origin: Origin, literals: &[u32]
     let place = clauses.arena.len();
     clauses.origins.add(origin);
     append(&mut clauses.arena, &[], 0, number, NONE);
-    extend(&mut clauses.arena, place, literals);
+    for literal in literals {
+        if *literal != FALSE {
+            clauses.arena.add(*literal);
+        }
+    }
+    let length = clauses.arena.len().wrapping_sub(place);
+    clauses
+        .arena
+        .set(place, short(length.wrapping_sub(LITERALS)));
 }

@@ -2,15 +2,16 @@
 
 use crate::counting::find_order;
 use crate::encoding::Role;
-use crate::literals::{FALSE, NONE, Table, at, neg, push, short};
-use crate::orders::{block, first_bad, order_of, put_decisions};
-use crate::problem::{Allowance, unless_short};
+use crate::literals::{NONE, Table, at, neg, push, short};
+use crate::orders::{block, first_bad, order_rows};
+use crate::problem::Allowance;
 use crate::reading::{Encoded, read};
 use crate::refuted::refutation_of;
 use crate::solver::{
-    Found, Limits, Solver, backjump, begin, bytes_held, check_room, prepare, search, solver_of,
+    Found, NO_DECISION, Solver, backjump, begin, bytes_held, check_room, is_over, prepare, search,
+    solver_of,
 };
-use crate::spans::{Span, instant, span_of};
+use crate::spans::{instant, span_of};
 use aud_event::{ObjKind, OutOfMemory};
 use aud_order::Shape;
 use aud_witness::Decision;
@@ -62,82 +63,46 @@ struct Luby {
     share: u64,
 }
 
-/// The share of the restart after.
-fn next_share(now: Luby) -> Luby {
-    if now.index & now.index.wrapping_neg() == now.share {
-        Luby {
-            index: now.index.wrapping_add(1),
-            share: 1,
-        }
-    } else {
-        Luby {
-            index: now.index,
-            share: now.share.wrapping_mul(2),
-        }
-    }
-}
-
 /// A row by when it takes effect.
 #[derive(Clone, Copy, PartialEq, Eq, PartialOrd, Ord)]
-struct Ranked {
+pub(crate) struct Ranked {
     key: u64,
     row: usize,
 }
 
-const NOT_RANKED: Ranked = Ranked { key: 0, row: 0 };
+pub(crate) const NOT_RANKED: Ranked = Ranked { key: 0, row: 0 };
 
-/// The rank of each row in the order of their instants.
-fn ranks_of(alloc: Global, spans: &[Span], twentieths: u64) -> Result<Table<usize>, OutOfMemory> {
-    let mut ranked = Table::new(alloc, NOT_RANKED);
-    for (row, found) in spans.iter().enumerate() {
+/// Ranks the rows in the order of their instants.
+fn rank_rows(solver: &mut Solver, twentieths: u64) {
+    solver.ranked.clear();
+    for (row, found) in solver.problem.spans.iter().enumerate() {
         let key = instant(*found, twentieths);
-        ranked.add(Ranked { key, row });
+        solver.ranked.add(Ranked { key, row });
     }
-    ranked.items_mut().sort_unstable();
-    let mut ranks = Table::new(alloc, 0);
-    ranks.fill(spans.len());
-    for (rank, found) in ranked.items().iter().enumerate() {
-        ranks.set(found.row, rank);
+    solver.ranked.items_mut().sort_unstable();
+    solver.ranks.fill(solver.ranked.len());
+    for (rank, found) in solver.ranked.items().iter().enumerate() {
+        solver.ranks.set(found.row, rank);
     }
-    unless_short(ranked.is_short() || ranks.is_short())?;
-    Ok(ranks)
 }
 
-/// The literal of the pair that stands so far apart, as the ranks say, if both ended; or the one that never holds.
-fn far_literal(
-    role: Role,
-    spans: &[Span],
-    ranks: &Table<usize>,
-    variable: usize,
-    reach: usize,
-) -> u32 {
-    let Role::Precedence(row, other) = role else {
-        return FALSE;
-    };
-    let (row, other) = (row as usize, other as usize);
-    if span_of(spans, row).last == NONE || span_of(spans, other).last == NONE {
-        return FALSE;
-    }
-    let one = ranks.at(row);
-    let two = ranks.at(other);
-    if one.abs_diff(two) <= reach {
-        return FALSE;
-    }
-    let literal = short(variable).wrapping_mul(2);
-    if one < two { literal } else { neg(literal) }
-}
-
-/// Assumes that pairs of those that ended stand as in the order of the instants, if they stand so far apart in it.
-fn assume_near(solver: &mut Solver, ranks: &Table<usize>, reach: usize) {
+/// Assumes that pairs of those that ended stand as in the order of the ranks, if they stand so far apart in it.
+fn assume_near(solver: &mut Solver, reach: usize) {
     let spans = &solver.problem.spans[..];
     let variables = &solver.problem.variables;
     for variable in 1..variables.roles.len() {
-        if variables.choices.at(variable) {
-            let role = variables.roles.at(variable);
-            let literal = far_literal(role, spans, ranks, variable, reach);
-            if literal != FALSE {
-                solver.assumed.add(literal);
-            }
+        let Role::Precedence(row, other) = variables.roles.at(variable) else {
+            continue;
+        };
+        let (row, other) = (row as usize, other as usize);
+        let have_ended = span_of(spans, row).last != NONE && span_of(spans, other).last != NONE;
+        let (one, two) = (solver.ranks.at(row), solver.ranks.at(other));
+        let is_asked = have_ended && variables.choices.at(variable);
+        if is_asked && one.abs_diff(two) > reach {
+            let literal = short(variable).wrapping_mul(2);
+            solver
+                .assumed
+                .add(if one < two { literal } else { neg(literal) });
         }
     }
 }
@@ -171,28 +136,20 @@ enum Tried {
     NoOrder,
 }
 
-/// Tries the order. If the trial refutes it, the search goes on without it, if it can.
-fn try_order(
-    alloc: Global,
-    shape: &Shape,
-    solver: &mut Solver,
-    order: &[usize],
-) -> Result<Tried, OutOfMemory> {
-    put_decisions(solver, order)?;
-    let Some(place) = first_bad(alloc, shape, &solver.order)? else {
+/// Tries the order that the search found. If the trial refutes it, the search goes on without it, if it can.
+fn try_found(alloc: Global, shape: &Shape, solver: &mut Solver) -> Result<Tried, OutOfMemory> {
+    order_rows(solver);
+    check_room(solver)?;
+    let Some(place) = first_bad(alloc, shape, solver.order.items())? else {
         return Ok(Tried::Good);
     };
-    if block(alloc, solver, order, place)? {
-        Ok(Tried::Blocked)
+    let is_open = block(solver, place);
+    check_room(solver)?;
+    Ok(if is_open {
+        Tried::Blocked
     } else {
-        Ok(Tried::NoOrder)
-    }
-}
-
-/// Tries the order that the search found.
-fn try_found(alloc: Global, shape: &Shape, solver: &mut Solver) -> Result<Tried, OutOfMemory> {
-    let order = order_of(alloc, solver)?;
-    try_order(alloc, shape, solver, order.items())
+        Tried::NoOrder
+    })
 }
 
 /// The restarts of a search: plain ones, whose lengths are in units of so many conflicts, and ones near the orders of instants by turns.
@@ -227,30 +184,32 @@ fn schedule_for(rows: usize) -> Schedule {
 }
 
 /// Assumes what the next restart does, and gives how many conflicts it may take, and the instant that it is near, if it is near one.
-fn begin_restart(
-    alloc: Global,
-    schedule: &mut Schedule,
-    solver: &mut Solver,
-) -> Result<(u64, Option<usize>), OutOfMemory> {
+fn begin_restart(schedule: &mut Schedule, solver: &mut Solver) -> (u64, Option<usize>) {
     let restart = schedule.restart;
+    let Luby { index, share } = schedule.luby;
     schedule.restart = restart.wrapping_add(1);
+    schedule.luby = if index & index.wrapping_neg() == share {
+        let index = index.wrapping_add(1);
+        Luby { index, share: 1 }
+    } else {
+        let share = share.wrapping_mul(2);
+        Luby { index, share }
+    };
     solver.tries_best = restart % 2 == 0;
     solver.assumed.clear();
-    let share = schedule.luby.share;
-    schedule.luby = next_share(schedule.luby);
+    let plain = (share.saturating_mul(schedule.unit), None);
     if restart < 6 || restart % 2 == 1 {
-        return Ok((share.saturating_mul(schedule.unit), None));
+        return plain;
     }
     let Some(place) = next_near(&schedule.nears, schedule.turn) else {
-        return Ok((share.saturating_mul(schedule.unit), None));
+        return plain;
     };
     schedule.turn = place;
     let found = schedule.nears[place % 4];
-    let ranks = ranks_of(alloc, &solver.problem.spans, found.twentieths)?;
+    rank_rows(solver, found.twentieths);
     backjump(solver, 0);
-    assume_near(solver, &ranks, found.reach);
-    check_room(solver)?;
-    Ok((restart.saturating_mul(100).saturating_add(300), Some(place)))
+    assume_near(solver, found.reach);
+    (restart.saturating_mul(100).saturating_add(300), Some(place))
 }
 
 /// Whether it is time for the next beam: the rows only count, and the other search did as much as all beams before.
@@ -279,28 +238,8 @@ fn try_beam(
     if !is_found {
         return Ok(false);
     }
-    Ok(first_bad(alloc, shape, &solver.order)?.is_none())
-}
-
-/// Searches within the effort, by at most so many conflicts more.
-fn search_on(solver: &mut Solver, effort: Effort, budget: u64) -> Result<Found, OutOfMemory> {
-    let conflicts = solver
-        .conflicts
-        .saturating_add(budget)
-        .min(effort.conflicts);
-    let limits = Limits {
-        conflicts,
-        work: effort.work,
-        bytes: effort.bytes,
-    };
-    search(solver, limits)
-}
-
-/// Whether the effort is spent.
-fn is_over(solver: &Solver, effort: Effort) -> bool {
-    solver.conflicts >= effort.conflicts
-        || solver.known.work >= effort.work
-        || bytes_held(solver) > effort.bytes
+    check_room(solver)?;
+    Ok(first_bad(alloc, shape, solver.order.items())?.is_none())
 }
 
 /// How a search ended.
@@ -355,8 +294,13 @@ fn restart(
     if is_beam_due(solver, schedule) && try_beam(alloc, shape, solver, schedule, effort)? {
         return Ok(Some(Ended::Order));
     }
-    let (budget, near) = begin_restart(alloc, schedule, solver)?;
-    let found = search_on(solver, effort, budget)?;
+    let (budget, near) = begin_restart(schedule, solver);
+    let most = solver.conflicts.saturating_add(budget);
+    let limits = Effort {
+        conflicts: most.min(effort.conflicts),
+        ..effort
+    };
+    let found = search(solver, limits)?;
     end_restart(alloc, shape, solver, schedule, near, effort, found)
 }
 
@@ -405,21 +349,6 @@ fn refuted_by(alloc: Global, law: ObjectLaw) -> Result<Solved, OutOfMemory> {
     Ok(Solved::Refuted(Refutation { atoms, steps }))
 }
 
-/// Searches for an order of the problem.
-fn search_problem(
-    alloc: Global,
-    shape: &Shape,
-    solver: &mut Solver,
-    effort: Effort,
-) -> Result<Ended, OutOfMemory> {
-    prepare(solver)?;
-    if begin(solver)? {
-        search_by_restarts(alloc, shape, solver, effort)
-    } else {
-        Ok(Ended::NoOrder)
-    }
-}
-
 /// Reads what the history asks, and searches for an order of it. None where there is no order, and nothing was written down of that.
 fn read_and_search(
     alloc: Global,
@@ -435,12 +364,19 @@ fn read_and_search(
             return Ok(Some(refuted_by(alloc, law)?));
         }
     }
-    match search_problem(alloc, shape, solver, effort)? {
+    prepare(solver)?;
+    let ended = if begin(solver)? {
+        search_by_restarts(alloc, shape, solver, effort)?
+    } else {
+        Ended::NoOrder
+    };
+    match ended {
         Ended::Spent => Ok(Some(Solved::Unknown)),
         Ended::NoOrder => refuted(alloc, solver),
         Ended::Order => {
-            let order = std::mem::replace(&mut solver.order, Vec::new(alloc));
-            Ok(Some(Solved::Order(order)))
+            let empty = Table::new(alloc, NO_DECISION);
+            let order = std::mem::replace(&mut solver.order, empty);
+            Ok(Some(Solved::Order(order.into_items())))
         }
     }
 }

@@ -23,17 +23,6 @@ pub(crate) struct Contribution {
     term: usize,
 }
 
-impl Contribution {
-    /// Of the term of that number, which came to change the sum by so much at that place.
-    fn of(place: u32, change: i64, term: usize) -> Contribution {
-        Contribution {
-            place,
-            gain: change.wrapping_abs(),
-            term,
-        }
-    }
-}
-
 pub(crate) const NO_CONTRIBUTION: Contribution = Contribution {
     place: 0,
     gain: 0,
@@ -101,31 +90,6 @@ fn contributes_at(known: &Known, term: &Term, rises: bool) -> u32 {
     }
 }
 
-/// Adds the literals by which the term contributes.
-fn add_contribution(known: &Known, term: &Term, rises: bool, out: &mut Table<u32>) {
-    let [first, second] = term.literals;
-    if rises {
-        for literal in &term.literals {
-            if *literal != TRUE {
-                out.add(*literal);
-            }
-        }
-        return;
-    }
-    let one = place_if(known, first, -1);
-    let other = place_if(known, second, -1);
-    out.add(neg(if one <= other { first } else { second }));
-}
-
-/// Adds the literal of the term beside that one, unless it holds in any case.
-fn add_partner(literals: [u32; 2], one: u32, out: &mut Table<u32>) {
-    let [first, second] = literals;
-    let other = if first == one { second } else { first };
-    if other != TRUE {
-        out.add(other);
-    }
-}
-
 /// Finds the terms that contribute to the bound before the limit, the forced literal's own term aside, whose other literal is added. It gives
 /// what the contributions have to add up to so that the bound is crossed.
 fn find_contributions(
@@ -152,14 +116,20 @@ fn find_contributions(
         if is_own && !is_known(view.known, &term, limit) {
             is_found = true;
             lacks = lacks.wrapping_sub(gain.wrapping_abs());
-            if rises {
-                add_partner(term.literals, wanted, out);
+            let [first, second] = term.literals;
+            let other = if first == wanted { second } else { first };
+            if rises && other != TRUE {
+                out.add(other);
             }
             continue;
         }
         let came = contributes_at(view.known, &term, rises);
         if came < limit {
-            contributions.add(Contribution::of(came, gain, place));
+            contributions.add(Contribution {
+                place: came,
+                gain: gain.wrapping_abs(),
+                term: place,
+            });
         }
     }
     lacks
@@ -186,7 +156,18 @@ pub(crate) fn add_bound(
         }
         lacks = lacks.wrapping_sub(contribution.gain);
         let term = view.problem.sums.terms.at(contribution.term);
-        add_contribution(view.known, &term, (term.gain > 0) == is_low, out);
+        if (term.gain > 0) == is_low {
+            for literal in &term.literals {
+                if *literal != TRUE {
+                    out.add(*literal);
+                }
+            }
+        } else {
+            let [first, second] = term.literals;
+            let one = place_if(view.known, first, -1);
+            let other = place_if(view.known, second, -1);
+            out.add(neg(if one <= other { first } else { second }));
+        }
     }
     if sum.guard != TRUE && forced != neg(sum.guard) {
         out.add(sum.guard);
@@ -230,20 +211,6 @@ pub(crate) fn explain(
     }
 }
 
-/// Adds the literals of the circle.
-fn add_whole_circle(
-    spans: &[Span],
-    (row, other): (usize, usize),
-    pair: (usize, usize),
-    out: &mut Table<u32>,
-) {
-    let literal = before(spans, other, row);
-    if row != other && literal != TRUE {
-        out.add(literal);
-    }
-    add_circle(spans, (row, other), pair, out)
-}
-
 /// Adds the literals that hold, and cannot all do.
 pub(crate) fn explain_conflict(
     view: &View<'_>,
@@ -258,7 +225,12 @@ pub(crate) fn explain_conflict(
             out,
         ),
         Conflict::Circle(row, from, to, other) => {
-            add_whole_circle(&view.problem.spans, (row, other), (from, to), out)
+            let spans = &view.problem.spans[..];
+            let literal = before(spans, other, row);
+            if row != other && literal != TRUE {
+                out.add(literal);
+            }
+            add_circle(spans, (row, other), (from, to), out)
         }
         Conflict::Between(source, writer) => add_between(view, source, writer, FALSE, out),
         Conflict::Sum(sum, is_low) => add_bound(view, sum, is_low, FALSE, NONE, contributions, out),

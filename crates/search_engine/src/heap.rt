@@ -30,7 +30,7 @@ impl Heap {
 
     /// Whether some growth was refused.
     pub(crate) fn is_short(&self) -> bool {
-        self.weights.is_short() || self.heap.is_short() || self.places.is_short()
+        self.weights.is_short() | self.heap.is_short() | self.places.is_short()
     }
 }
 
@@ -67,27 +67,21 @@ fn rise(heap: &mut Heap, from: usize) {
     put(heap, place, variable);
 }
 
-/// The place of the heavier of the two below the place; beyond the end where there is none.
-fn heavier_below(heap: &Heap, place: usize) -> usize {
-    let first = place.wrapping_mul(2).wrapping_add(1);
-    let second = first.wrapping_add(1);
-    let one = heap.weights.at(heap.heap.at(first) as usize);
-    let other = heap.weights.at(heap.heap.at(second) as usize);
-    if second < heap.count && other > one {
-        second
-    } else {
-        first
-    }
-}
-
 /// Takes the variable at the top down to where no heavier one stands below it.
 fn sink(heap: &mut Heap) {
     let variable = heap.heap.at(0);
     let own = heap.weights.at(variable as usize);
     let mut place: usize = 0;
     for _ in 0..64 {
-        let below = heavier_below(heap, place);
-        let other = heap.heap.at(below);
+        let mut below = place.wrapping_mul(2).wrapping_add(1);
+        let mut other = heap.heap.at(below);
+        let second = heap.heap.at(below.wrapping_add(1));
+        if below.wrapping_add(1) < heap.count
+            && heap.weights.at(second as usize) > heap.weights.at(other as usize)
+        {
+            below = below.wrapping_add(1);
+            other = second;
+        }
         if below >= heap.count || heap.weights.at(other as usize) <= own {
             break;
         }
@@ -131,20 +125,15 @@ pub(crate) fn take_heaviest(heap: &mut Heap) -> Option<u32> {
     Some(variable)
 }
 
-/// All weights, and the step, become so much less.
-fn scale(heap: &mut Heap) {
-    for weight in heap.weights.items_mut() {
-        *weight *= 1e-100;
-    }
-    heap.step *= 1e-100;
-}
-
 /// A conflict was about the variable.
 pub(crate) fn bump(heap: &mut Heap, variable: usize) {
     let now = heap.weights.at(variable) + heap.step;
     heap.weights.set(variable, now);
     if now > 1e100 {
-        scale(heap);
+        for weight in heap.weights.items_mut() {
+            *weight *= 1e-100;
+        }
+        heap.step *= 1e-100;
     }
     let place = heap.places.at(variable);
     if place != NONE {

@@ -77,9 +77,9 @@ impl Known {
     /// Whether some growth was refused.
     pub(crate) fn is_short(&self) -> bool {
         self.values.is_short()
-            || self.states.is_short()
-            || self.trail.is_short()
-            || self.levels.is_short()
+            | self.states.is_short()
+            | self.trail.is_short()
+            | self.levels.is_short()
     }
 
     /// Whether the literal holds, 1, fails, -1, or is open.

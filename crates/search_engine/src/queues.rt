@@ -2,10 +2,9 @@
 
 use crate::encoding::{Origin, Role, add_clause, add_variable, ask};
 use crate::literals::{FALSE, NONE, TRUE, Table, at, neg, range, short};
-use crate::problem::{Problem, is_large, spend, unless_short};
+use crate::problem::{Problem, is_large, spend};
 use crate::spans::{Span, before, instant, span_of};
 use crate::sums::{Concurrent, add_all_terms, add_terms, end_sum, find_concurrent, sum_ended};
-use aud_event::OutOfMemory;
 use std::alloc::Global;
 
 /// What a transaction does on a queue.
@@ -51,6 +50,12 @@ pub(crate) struct GoneOf {
     pub value: i64,
 }
 
+pub(crate) const NO_OP: PlacedOp = PlacedOp {
+    place: 0,
+    number: 0,
+    op: QueueOp::SeesEmpty,
+};
+
 const NO_TAKE: TakeOf = TakeOf {
     row: 0,
     object: 0,
@@ -91,7 +96,7 @@ impl QueueItems {
 
     /// Whether some growth was refused.
     pub(crate) fn is_short(&self) -> bool {
-        self.takes.is_short() || self.items.is_short() || self.gone.is_short()
+        self.takes.is_short() | self.items.is_short() | self.gone.is_short()
     }
 }
 
@@ -116,46 +121,79 @@ struct Added {
 
 /// What is known of one queue while its clauses are made.
 #[derive(Drop)]
-struct QueueUse {
-    /// The rows that touch it, and how many each one takes, and less how many it adds, if it may commit; and both together.
-    rows: Vec<usize>,
+pub(crate) struct QueueUse {
+    object: u16,
+    /// The rows that touch it, and which of them ran beside which.
+    pub rows: Table<usize>,
+    concurrent: Concurrent,
+    /// How many each row takes, and less how many it adds, if it may commit; and both together.
     takes: Table<i64>,
     adds: Table<i64>,
     both: Table<i64>,
+    /// The same of those together that had ended before each row.
+    ended_takes: Table<i64>,
+    ended_adds: Table<i64>,
+    ended_both: Table<i64>,
     /// Who adds and who takes each value.
     adders: Table<Holding>,
     takers: Table<Holding>,
     added: Table<Added>,
-    /// Those additions that one take may be of, and a clause that is being made.
+    /// Those additions that one take may be of, the literals that say which, and a clause that is being made.
     found: Table<Holding>,
+    choices: Table<u32>,
     clause: Table<u32>,
 }
 
 impl QueueUse {
-    /// Whether some growth was refused.
-    fn is_short(&self) -> bool {
-        let are_counts_short = self.takes.is_short()
-            || self.adds.is_short()
-            || self.both.is_short();
-        let are_users_short = self.adders.is_short()
-            || self.takers.is_short()
-            || self.added.is_short();
-        are_counts_short || are_users_short || self.found.is_short() || self.clause.is_short()
+    /// Of no queue. It does not allocate.
+    pub(crate) fn empty(alloc: Global) -> QueueUse {
+        QueueUse {
+            object: 0,
+            rows: Table::new(alloc, 0),
+            concurrent: Concurrent::empty(alloc),
+            takes: Table::new(alloc, 0),
+            adds: Table::new(alloc, 0),
+            both: Table::new(alloc, 0),
+            ended_takes: Table::new(alloc, 0),
+            ended_adds: Table::new(alloc, 0),
+            ended_both: Table::new(alloc, 0),
+            adders: Table::new(alloc, NOT_HELD),
+            takers: Table::new(alloc, NOT_HELD),
+            added: Table::new(alloc, NOT_ADDED),
+            found: Table::new(alloc, NOT_HELD),
+            choices: Table::new(alloc, FALSE),
+            clause: Table::new(alloc, FALSE),
+        }
     }
-}
 
-/// For each row how many those take that had ended before it, less how many they add, and both together.
-#[derive(Drop)]
-struct EndedTotals {
-    takes: Table<i64>,
-    adds: Table<i64>,
-    both: Table<i64>,
-}
+    /// Of that queue, before its rows and operations are read.
+    pub(crate) fn begin(&mut self, object: u16) {
+        self.object = object;
+        self.rows.clear();
+        self.takes.clear();
+        self.adds.clear();
+        self.both.clear();
+        self.adders.clear();
+        self.takers.clear();
+        self.added.clear();
+    }
 
-impl EndedTotals {
     /// Whether some growth was refused.
-    fn is_short(&self) -> bool {
-        self.takes.is_short() || self.adds.is_short() || self.both.is_short()
+    pub(crate) fn is_short(&self) -> bool {
+        self.rows.is_short()
+            | self.concurrent.is_short()
+            | self.takes.is_short()
+            | self.adds.is_short()
+            | self.both.is_short()
+            | self.ended_takes.is_short()
+            | self.ended_adds.is_short()
+            | self.ended_both.is_short()
+            | self.adders.is_short()
+            | self.takers.is_short()
+            | self.added.is_short()
+            | self.found.is_short()
+            | self.choices.is_short()
+            | self.clause.is_short()
     }
 }
 
@@ -198,8 +236,15 @@ fn count(counts: &mut Table<i64>, place: usize, amount: i64) {
     counts.set(place, counts.at(place).wrapping_add(amount));
 }
 
-/// Reads who adds what, as which of its own additions.
-fn read_adders(adders: &mut Table<Holding>, ops: &[PlacedOp]) {
+/// Whether the row at the place may commit.
+fn may_commit(rows: &Table<usize>, spans: &[Span], place: usize) -> bool {
+    span_of(spans, rows.at(place)).commits != FALSE
+}
+
+/// Reads who adds what, as which of its own additions, and, of those that may commit, who takes what and how many each takes and adds.
+fn read_ops(queue: &mut QueueUse, spans: &[Span], ops: &[PlacedOp]) {
+    queue.takes.fill(queue.rows.len());
+    queue.adds.fill(queue.rows.len());
     let mut index: u32 = 0;
     let mut last = usize::MAX;
     for found in ops {
@@ -208,74 +253,45 @@ fn read_adders(adders: &mut Table<Holding>, ops: &[PlacedOp]) {
             index = 0;
             last = place;
         }
-        if let QueueOp::Adds(value) = found.op {
-            adders.add(Holding {
-                value,
-                place,
-                index,
-            });
-            index = index.wrapping_add(1);
-        }
-    }
-    adders.items_mut().sort_unstable();
-}
-
-/// Whether the row at the place may commit.
-fn may_commit(rows: &[usize], spans: &[Span], place: usize) -> bool {
-    span_of(spans, at(rows, place, 0)).commits != FALSE
-}
-
-/// Reads who takes what, of those that may commit.
-fn read_takers(takers: &mut Table<Holding>, rows: &[usize], spans: &[Span], ops: &[PlacedOp]) {
-    for found in ops {
-        let place = found.place;
-        if let QueueOp::Takes(value) = found.op {
-            if may_commit(rows, spans, place) {
-                let index = 0;
-                takers.add(Holding {
+        let commits = may_commit(&queue.rows, spans, place);
+        match found.op {
+            QueueOp::Adds(value) => {
+                queue.adders.add(Holding {
                     value,
                     place,
                     index,
                 });
+                index = index.wrapping_add(1);
+                count(&mut queue.adds, place, -i64::from(commits));
             }
+            QueueOp::Takes(value) if commits => {
+                queue.takers.add(Holding {
+                    value,
+                    place,
+                    index: 0,
+                });
+                count(&mut queue.takes, place, 1);
+            }
+            _ => {}
         }
     }
-    takers.items_mut().sort_unstable();
-}
-
-/// Counts what each row takes, and less what it adds, if it may commit.
-fn count_ops(queue: &mut QueueUse, spans: &[Span], ops: &[PlacedOp]) {
-    for found in ops {
-        if may_commit(&queue.rows, spans, found.place) {
-            match found.op {
-                QueueOp::Adds(_) => count(&mut queue.adds, found.place, -1),
-                QueueOp::Takes(_) => count(&mut queue.takes, found.place, 1),
-                QueueOp::SeesEmpty => {}
-            }
-        }
-    }
-}
-
-/// When the first of the takers ended.
-fn first_end(takers: &[Holding], rows: &[usize], spans: &[Span]) -> u32 {
-    let mut first = NONE;
-    for taker in takers {
-        first = first.min(span_of(spans, at(rows, taker.place, 0)).last);
-    }
-    first
 }
 
 /// The value that the row at the place adds, with who may take it.
 fn added_by(queue: &QueueUse, spans: &[Span], place: usize, value: i64) -> Added {
     let takers = place_of(queue.takers.items(), value, false);
     let takers_end = place_of(queue.takers.items(), value, true);
-    let found = queue.takers.range(takers, takers_end);
+    let mut taken = NONE;
+    for number in takers..takers_end {
+        let row = queue.rows.at(queue.takers.at(number).place);
+        taken = taken.min(span_of(spans, row).last);
+    }
     Added {
         place,
         value,
         takers,
         takers_end,
-        taken: first_end(found, &queue.rows, spans),
+        taken,
         next: queue.added.len().wrapping_add(1),
     }
 }
@@ -316,20 +332,8 @@ struct Guard {
     item: u32,
 }
 
-/// Puts to the clause that one of the takers of the value stands before the asked row, that row's own aside.
-fn add_takers(queue: &mut QueueUse, spans: &[Span], asked: Demand, added: Added) {
-    let mut last = usize::MAX;
-    for number in added.takers..added.takers_end {
-        let place = queue.takers.at(number).place;
-        if place != asked.place && place != last {
-            last = place;
-            let row = at(&queue.rows, place, 0);
-            queue.clause.add(before(spans, row, asked.take.row));
-        }
-    }
-}
-
-/// The law that the value that another row added before is taken before, and its clause.
+/// The law that the value that another row added before is taken before: one of its takers stands before the asked row, that row's own takes
+/// aside.
 fn add_gone(
     queue: &mut QueueUse,
     problem: &mut Problem,
@@ -339,7 +343,7 @@ fn add_gone(
     guard: Guard,
 ) {
     let number = short(problem.items.gone.len());
-    let row = at(&queue.rows, added.place, 0);
+    let row = queue.rows.at(added.place);
     problem.items.gone.add(GoneOf {
         take: asked.take,
         item: guard.item,
@@ -347,11 +351,20 @@ fn add_gone(
         value: added.value,
     });
     let commits = span_of(&problem.spans, row).commits;
+    let denied = [neg(ahead), neg(guard.literal), neg(commits)];
     queue.clause.clear();
-    queue
-        .clause
-        .add_all(&[neg(ahead), neg(guard.literal), neg(commits)]);
-    add_takers(queue, &problem.spans, asked, added);
+    queue.clause.add_all(&denied);
+    let mut last = asked.place;
+    for number in added.takers..added.takers_end {
+        let place = queue.takers.at(number).place;
+        if place != asked.place && place != last {
+            last = place;
+            let taker = queue.rows.at(place);
+            queue
+                .clause
+                .add(before(&problem.spans, taker, asked.take.row));
+        }
+    }
     for literal in queue.clause.items() {
         ask(&mut problem.variables, *literal);
     }
@@ -394,14 +407,14 @@ fn add_all_gone(
     guard: Guard,
 ) {
     let began = span_of(&problem.spans, asked.take.row).first;
-    let row = at(&queue.rows, adder, 0);
+    let row = queue.rows.at(adder);
     let last = span_of(&problem.spans, row).last;
     let mut known = 0;
     for _ in 0..queue.added.len() {
         spend(&mut problem.allowance, 1);
         known = next_added(&mut queue.added, known, began);
         let found = queue.added.at(known);
-        let other = at(&queue.rows, found.place, 0);
+        let other = queue.rows.at(found.place);
         if known >= queue.added.len() || span_of(&problem.spans, other).first > last {
             break;
         }
@@ -413,23 +426,18 @@ fn add_all_gone(
     }
 }
 
-/// Whether the addition may be what the row at the place takes: its row may commit, and stand before that one.
-fn may_be_taken(queue: &QueueUse, spans: &[Span], adder: usize, place: usize) -> bool {
-    let row = at(&queue.rows, adder, 0);
-    let taker = at(&queue.rows, place, 0);
-    span_of(spans, row).commits != FALSE && before(spans, row, taker) != FALSE
-}
-
-/// Finds the row's own additions of the value before.
-fn find_own(queue: &mut QueueUse, own: &[PlacedOp], asked: Demand, value: i64) {
+/// Finds the additions that the row may take the value from: first its own ones before, then those of others that may commit, and stand before
+/// it.
+fn find_items(queue: &mut QueueUse, spans: &[Span], own: &[PlacedOp], asked: Demand, value: i64) {
+    let place = asked.place;
     let mut index: u32 = 0;
+    queue.found.clear();
     for known in own {
         if known.number >= asked.number {
             break;
         }
         if let QueueOp::Adds(added) = known.op {
             if added == value {
-                let place = asked.place;
                 queue.found.add(Holding {
                     value,
                     place,
@@ -439,99 +447,66 @@ fn find_own(queue: &mut QueueUse, own: &[PlacedOp], asked: Demand, value: i64) {
             index = index.wrapping_add(1);
         }
     }
-}
-
-/// Finds the additions that the row may take the value from: first its own ones before, then those of others.
-fn find_items(queue: &mut QueueUse, spans: &[Span], own: &[PlacedOp], asked: Demand, value: i64) {
-    queue.found.clear();
-    find_own(queue, own, asked, value);
     let from = place_of(queue.adders.items(), value, false);
     let to = place_of(queue.adders.items(), value, true);
     for number in from..to {
         let held = queue.adders.at(number);
-        if held.place != asked.place && may_be_taken(queue, spans, held.place, asked.place) {
+        let stands = before(spans, queue.rows.at(held.place), asked.take.row);
+        let may_be_taken = stands != FALSE && may_commit(&queue.rows, spans, held.place);
+        if held.place != place && may_be_taken {
             queue.found.add(held);
         }
     }
 }
 
-/// An addition that is taken stands before the taker, and commits.
-fn add_stands(problem: &mut Problem, row: usize, taker: usize, guard: Guard) {
-    let stands = before(&problem.spans, row, taker);
-    let commits = span_of(&problem.spans, row).commits;
-    ask(&mut problem.variables, stands);
-    let origin = Origin::ItemStands(guard.item);
-    let denied = neg(guard.literal);
-    add_clause(&mut problem.clauses, origin, &[denied, stands]);
-    add_clause(&mut problem.clauses, origin, &[denied, commits]);
-}
-
 /// As many are taken before the row at the place as are added, less what is wanted, where the literal holds.
 fn add_own_place(
     queue: &QueueUse,
-    ended: &EndedTotals,
-    concurrent: &Concurrent,
     problem: &mut Problem,
     place: usize,
     wanted: i64,
     literal: u32,
     origin: Origin,
 ) {
-    let wanted = wanted.wrapping_sub(ended.both.at(place));
+    let wanted = wanted.wrapping_sub(queue.ended_both.at(place));
     let from = problem.sums.terms.len();
-    add_all_terms(problem, concurrent, &queue.rows, &queue.both, place);
+    let rows = queue.rows.items();
+    add_all_terms(problem, &queue.concurrent, rows, &queue.both, place);
     end_sum(&mut problem.sums, from, literal, wanted, origin);
 }
 
-/// An addition of another row that is taken stands before the taker, commits, and as many are taken before as were added before it.
-fn add_other_place(
-    queue: &QueueUse,
-    ended: &EndedTotals,
-    concurrent: &Concurrent,
-    problem: &mut Problem,
-    (taker, adder): (usize, usize),
-    wanted: i64,
-    guard: Guard,
-) {
-    let rows = &queue.rows[..];
-    add_stands(problem, at(rows, adder, 0), at(rows, taker, 0), guard);
-    let wanted = wanted.wrapping_sub(ended.takes.at(taker));
-    let wanted = wanted.wrapping_sub(ended.adds.at(adder));
-    let from = problem.sums.terms.len();
-    add_all_terms(problem, concurrent, rows, &queue.takes, taker);
-    add_terms(problem, concurrent, rows, &queue.adds, adder, taker);
+/// Adds what it asks that the addition is taken: that of another row stands before the taker, commits, and as many are taken before as were
+/// added before it.
+fn add_item(queue: &QueueUse, problem: &mut Problem, asked: Demand, held: Holding, guard: Guard) {
     let origin = Origin::Place(guard.item);
-    end_sum(&mut problem.sums, from, guard.literal, wanted, origin);
-}
-
-/// Adds what it asks that the addition is taken.
-fn add_item(
-    queue: &QueueUse,
-    ended: &EndedTotals,
-    concurrent: &Concurrent,
-    problem: &mut Problem,
-    asked: Demand,
-    held: Holding,
-    guard: Guard,
-) {
     let wanted = i64::from(held.index).wrapping_sub(asked.taken);
     let (place, adder) = (asked.place, held.place);
     if adder == place {
-        let (literal, origin) = (guard.literal, Origin::Place(guard.item));
-        add_own_place(
-            queue, ended, concurrent, problem, place, wanted, literal, origin,
-        );
-    } else {
-        let places = (place, adder);
-        add_other_place(queue, ended, concurrent, problem, places, wanted, guard);
+        add_own_place(queue, problem, place, wanted, guard.literal, origin);
+        return;
     }
+    let rows = queue.rows.items();
+    let row = queue.rows.at(adder);
+    let stands = before(&problem.spans, row, asked.take.row);
+    let commits = span_of(&problem.spans, row).commits;
+    ask(&mut problem.variables, stands);
+    let denied = neg(guard.literal);
+    let law = Origin::ItemStands(guard.item);
+    add_clause(&mut problem.clauses, law, &[denied, stands]);
+    add_clause(&mut problem.clauses, law, &[denied, commits]);
+    let wanted = wanted.wrapping_sub(queue.ended_takes.at(place));
+    let wanted = wanted.wrapping_sub(queue.ended_adds.at(adder));
+    let from = problem.sums.terms.len();
+    add_all_terms(problem, &queue.concurrent, rows, &queue.takes, place);
+    add_terms(problem, &queue.concurrent, rows, &queue.adds, adder, place);
+    end_sum(&mut problem.sums, from, guard.literal, wanted, origin);
 }
 
 /// Which of the additions is tried first: the first that took effect before the taker did.
 fn favoured(queue: &QueueUse, spans: &[Span], row: usize) -> usize {
     let own = instant(span_of(spans, row), 15);
     for index in 0..queue.found.len() {
-        let other = at(&queue.rows, queue.found.at(index).place, 0);
+        let other = queue.rows.at(queue.found.at(index).place);
         if instant(span_of(spans, other), 15) <= own {
             return index;
         }
@@ -539,66 +514,38 @@ fn favoured(queue: &QueueUse, spans: &[Span], row: usize) -> usize {
     usize::MAX
 }
 
-/// That the take is of that addition: its number, and the literal that says so.
-fn make_guard(
-    queue: &QueueUse,
-    problem: &mut Problem,
-    held: Holding,
-    take: u32,
-    is_tried: bool,
-) -> Guard {
-    let item = short(problem.items.items.len());
-    problem.items.items.add(ItemOf {
-        take,
-        row: at(&queue.rows, held.place, 0),
-        addition: held.index,
-        sum: short(problem.sums.sums.len()),
-    });
-    let role = Role::Item(item);
-    let literal = add_variable(&mut problem.variables, role, is_tried, true);
-    Guard { literal, item }
-}
-
-/// Adds what a take of the value asks: it is of one of the additions that were found.
-fn add_take(
-    queue: &mut QueueUse,
-    ended: &EndedTotals,
-    concurrent: &Concurrent,
-    problem: &mut Problem,
-    own: &[PlacedOp],
-    asked: Demand,
-    choices: &mut Table<u32>,
-) {
+/// Adds what a take of the value asks: it is of one of the additions that were found, each of which has a literal.
+fn add_take(queue: &mut QueueUse, problem: &mut Problem, own: &[PlacedOp], asked: Demand) {
     let best = favoured(queue, &problem.spans, asked.take.row);
     let take = short(problem.items.takes.len());
     problem.items.takes.add(asked.take);
-    choices.clear();
+    queue.choices.clear();
     for index in 0..queue.found.len() {
         let held = queue.found.at(index);
-        let guard = make_guard(queue, problem, held, take, index == best);
-        choices.add(guard.literal);
-        add_item(queue, ended, concurrent, problem, asked, held, guard);
+        let item = short(problem.items.items.len());
+        problem.items.items.add(ItemOf {
+            take,
+            row: queue.rows.at(held.place),
+            addition: held.index,
+            sum: short(problem.sums.sums.len()),
+        });
+        let role = Role::Item(item);
+        let literal = add_variable(&mut problem.variables, role, index == best, true);
+        let guard = Guard { literal, item };
+        queue.choices.add(literal);
+        add_item(queue, problem, asked, held, guard);
         add_all_gone(queue, problem, own, asked, held.place, guard);
     }
     let origin = Origin::Items(take);
-    add_clause(&mut problem.clauses, origin, choices.items());
+    add_clause(&mut problem.clauses, origin, queue.choices.items());
 }
 
 /// Adds what it asks that the queue is seen empty.
-fn add_empty(
-    queue: &mut QueueUse,
-    ended: &EndedTotals,
-    concurrent: &Concurrent,
-    problem: &mut Problem,
-    own: &[PlacedOp],
-    asked: Demand,
-) {
+fn add_empty(queue: &mut QueueUse, problem: &mut Problem, own: &[PlacedOp], asked: Demand) {
     let place = asked.place;
     let wanted = asked.added.wrapping_sub(asked.taken);
     let origin = Origin::Empty(short(asked.take.row), asked.take.object, asked.number);
-    add_own_place(
-        queue, ended, concurrent, problem, place, wanted, TRUE, origin,
-    );
+    add_own_place(queue, problem, place, wanted, TRUE, origin);
     let guard = Guard {
         literal: TRUE,
         item: NONE,
@@ -607,7 +554,7 @@ fn add_empty(
 }
 
 /// What the operation asks, before which its row took and added so many. A take goes by the number of takes before it.
-fn demand_of(rows: &[usize], found: PlacedOp, object: u16, (taken, added): (i64, i64)) -> Demand {
+fn demand_of(queue: &QueueUse, found: PlacedOp, taken: i64, added: i64) -> Demand {
     let number = if found.op == QueueOp::SeesEmpty {
         found.number
     } else {
@@ -615,8 +562,8 @@ fn demand_of(rows: &[usize], found: PlacedOp, object: u16, (taken, added): (i64,
     };
     Demand {
         take: TakeOf {
-            row: at(rows, found.place, 0),
-            object,
+            row: queue.rows.at(found.place),
+            object: queue.object,
             number,
         },
         number: found.number,
@@ -627,82 +574,51 @@ fn demand_of(rows: &[usize], found: PlacedOp, object: u16, (taken, added): (i64,
 }
 
 /// Adds what the operations of one row ask.
-fn add_row(
-    queue: &mut QueueUse,
-    ended: &EndedTotals,
-    concurrent: &Concurrent,
-    problem: &mut Problem,
-    own: &[PlacedOp],
-    object: u16,
-    choices: &mut Table<u32>,
-) {
+fn add_row(queue: &mut QueueUse, problem: &mut Problem, own: &[PlacedOp]) {
     let (mut taken, mut added): (i64, i64) = (0, 0);
     for found in own {
         if is_large(problem) {
             break;
         }
-        let asked = demand_of(&queue.rows, *found, object, (taken, added));
+        let asked = demand_of(queue, *found, taken, added);
         match found.op {
             QueueOp::Adds(_) => added = added.wrapping_add(1),
             QueueOp::Takes(value) => {
                 spend(&mut problem.allowance, own.len());
                 find_items(queue, &problem.spans, own, asked, value);
-                add_take(queue, ended, concurrent, problem, own, asked, choices);
+                add_take(queue, problem, own, asked);
                 taken = taken.wrapping_add(1);
             }
-            QueueOp::SeesEmpty => add_empty(queue, ended, concurrent, problem, own, asked),
+            QueueOp::SeesEmpty => add_empty(queue, problem, own, asked),
         }
-    }
-}
-
-/// The queue of these rows, before its operations are read.
-fn queue_of(alloc: Global, rows: Vec<usize>) -> QueueUse {
-    QueueUse {
-        rows,
-        takes: Table::new(alloc, 0),
-        adds: Table::new(alloc, 0),
-        both: Table::new(alloc, 0),
-        adders: Table::new(alloc, NOT_HELD),
-        takers: Table::new(alloc, NOT_HELD),
-        added: Table::new(alloc, NOT_ADDED),
-        found: Table::new(alloc, NOT_HELD),
-        clause: Table::new(alloc, FALSE),
     }
 }
 
 /// Reads the operations.
 fn read_queue(queue: &mut QueueUse, spans: &[Span], ops: &[PlacedOp]) {
-    let count = queue.rows.len();
-    queue.takes.fill(count);
-    queue.adds.fill(count);
-    read_adders(&mut queue.adders, ops);
-    read_takers(&mut queue.takers, &queue.rows, spans, ops);
-    count_ops(queue, spans, ops);
-    for place in 0..count {
+    read_ops(queue, spans, ops);
+    queue.adders.items_mut().sort_unstable();
+    queue.takers.items_mut().sort_unstable();
+    for place in 0..queue.rows.len() {
         let both = queue.takes.at(place).wrapping_add(queue.adds.at(place));
         queue.both.add(both);
     }
     list_added(queue, spans, ops);
-}
-
-/// Adds up what ended before each row.
-fn read_ended(ended: &mut EndedTotals, queue: &QueueUse, concurrent: &Concurrent, spans: &[Span]) {
-    let rows = &queue.rows[..];
-    sum_ended(&mut ended.takes, concurrent, spans, rows, &queue.takes);
-    sum_ended(&mut ended.adds, concurrent, spans, rows, &queue.adds);
-    sum_ended(&mut ended.both, concurrent, spans, rows, &queue.both);
+    let (rows, concurrent) = (queue.rows.items(), &mut queue.concurrent);
+    find_concurrent(concurrent, spans, rows);
+    sum_ended(
+        &mut queue.ended_takes,
+        concurrent,
+        spans,
+        rows,
+        &queue.takes,
+    );
+    sum_ended(&mut queue.ended_adds, concurrent, spans, rows, &queue.adds);
+    sum_ended(&mut queue.ended_both, concurrent, spans, rows, &queue.both);
 }
 
 /// Adds what all operations ask, which are in the order of the rows and of their blocks.
-fn add_rows(
-    queue: &mut QueueUse,
-    ended: &EndedTotals,
-    concurrent: &Concurrent,
-    problem: &mut Problem,
-    ops: &[PlacedOp],
-    object: u16,
-    choices: &mut Table<u32>,
-) {
+fn add_rows(queue: &mut QueueUse, problem: &mut Problem, ops: &[PlacedOp]) {
     let mut from = 0;
     for place in 0..ops.len() {
         let next = place.wrapping_add(1);
@@ -711,42 +627,14 @@ fn add_rows(
             None => true,
         };
         if is_last {
-            let own = range(ops, from, next);
-            add_row(queue, ended, concurrent, problem, own, object, choices);
+            add_row(queue, problem, range(ops, from, next));
             from = next;
         }
     }
 }
 
-/// Adds a queue: the rows that touch it, and their operations in the order of the rows and of their blocks.
-pub(crate) fn add_queue(
-    alloc: Global,
-    problem: &mut Problem,
-    concurrent: &mut Concurrent,
-    object: u16,
-    rows: Vec<usize>,
-    ops: &[PlacedOp],
-) -> Result<(), OutOfMemory> {
-    let mut queue = queue_of(alloc, rows);
-    let mut ended = EndedTotals {
-        takes: Table::new(alloc, 0),
-        adds: Table::new(alloc, 0),
-        both: Table::new(alloc, 0),
-    };
-    let mut choices = Table::new(alloc, FALSE);
-    read_queue(&mut queue, &problem.spans, ops);
-    find_concurrent(concurrent, &problem.spans, &queue.rows);
-    read_ended(&mut ended, &queue, concurrent, &problem.spans);
-    add_rows(
-        &mut queue,
-        &ended,
-        concurrent,
-        problem,
-        ops,
-        object,
-        &mut choices,
-    );
-    unless_short(
-        queue.is_short() || ended.is_short() || choices.is_short() || concurrent.is_short(),
-    )
+/// Adds a queue, whose rows are read: their operations, in the order of the rows and of their blocks.
+pub(crate) fn add_queue(problem: &mut Problem, queue: &mut QueueUse, ops: &[PlacedOp]) {
+    read_queue(queue, &problem.spans, ops);
+    add_rows(queue, problem, ops);
 }

@@ -1,12 +1,13 @@
 //! Reads what the transactions of a history ask of an order.
 
-use crate::cell_index::{mark_cells, sort_feeds};
-use crate::cells::{Touch, add_cell, sort_uses};
+use crate::cell_index::{mark_cells, sort_feeds, sort_uses};
+use crate::cells::{Touch, add_cell};
+use crate::counting::list_rows;
 use crate::encoding::{Origin, add_pairs};
-use crate::literals::{TRUE, Table, at, push, range, short};
-use crate::problem::{Allowance, Problem, is_large, sort_occurrences, spend, unless_short};
-use crate::queues::{PlacedOp, QueueOp, add_queue};
-use crate::spans::{NOBODY, Span, count_pairs, read_spans};
+use crate::literals::{TRUE, Table, at, range, short};
+use crate::problem::{Problem, is_large, sort_occurrences, spend, unless_short};
+use crate::queues::{NO_OP, PlacedOp, QueueOp, QueueUse, add_queue};
+use crate::spans::{NOBODY, count_pairs, read_spans};
 use crate::sums::{Concurrent, add_all_terms, end_sum, find_concurrent, sum_ended};
 use aud_event::{Answer, ObjDecl, ObjKind, Op, OutOfMemory};
 use aud_history::TxRow;
@@ -66,6 +67,49 @@ const NO_COUNT: Count = Count {
     gain: 0,
 };
 
+/// Room for what the rows do with one object, or with one cell of it.
+#[derive(Drop)]
+struct Room {
+    touches: Table<Touch>,
+    counts: Table<Count>,
+    /// Of a counter the rows that touch it, which of them ran beside which, what each one adds, and what those add that had ended before it
+    /// began.
+    rows: Table<usize>,
+    concurrent: Concurrent,
+    gains: Table<i64>,
+    ended: Table<i64>,
+    ops: Table<PlacedOp>,
+    queue: QueueUse,
+}
+
+impl Room {
+    /// For nothing yet. It does not allocate.
+    fn empty(alloc: Global) -> Room {
+        Room {
+            touches: Table::new(alloc, NO_TOUCH),
+            counts: Table::new(alloc, NO_COUNT),
+            rows: Table::new(alloc, 0),
+            concurrent: Concurrent::empty(alloc),
+            gains: Table::new(alloc, 0),
+            ended: Table::new(alloc, 0),
+            ops: Table::new(alloc, NO_OP),
+            queue: QueueUse::empty(alloc),
+        }
+    }
+
+    /// Whether some growth was refused.
+    fn is_short(&self) -> bool {
+        self.touches.is_short()
+            | self.counts.is_short()
+            | self.rows.is_short()
+            | self.concurrent.is_short()
+            | self.gains.is_short()
+            | self.ended.is_short()
+            | self.ops.is_short()
+            | self.queue.is_short()
+    }
+}
+
 /// The element or the key that the operation is about.
 fn key_of(op: Op) -> i64 {
     match cell_of(op) {
@@ -109,42 +153,7 @@ fn content_of(need: Need) -> Option<Option<i64>> {
     }
 }
 
-/// Adds what an execution needs of the cell, if it does. False where the content, as far as the transaction knows it, is another one.
-fn add_need(touch: &mut Touch, content: &mut Option<Option<i64>>, need: Option<Need>) -> bool {
-    match (need, *content) {
-        (Some(need), Some(known)) => return meets(need, known),
-        (Some(need), None) => {
-            touch.need = Some(need);
-            *content = content_of(need);
-        }
-        (None, _) => {}
-    }
-    true
-}
-
-/// Adds what an execution leaves in the cell, if it changes it.
-fn add_left(touch: &mut Touch, content: &mut Option<Option<i64>>, left: Option<Option<i64>>) {
-    if left.is_some() {
-        touch.leaves = left;
-        *content = left;
-    }
-}
-
-/// Adds what the execution needs of the cell, and what it leaves there. False where it contradicts what its transaction did before.
-fn add_touch(
-    touch: &mut Touch,
-    content: &mut Option<Option<i64>>,
-    cell: Cell,
-    found: &Execution,
-) -> bool {
-    if !add_need(touch, content, asks(cell, found.op, found.answer)) {
-        return false;
-    }
-    add_left(touch, content, puts(cell, found.op, found.answer));
-    true
-}
-
-/// What each row does with a cell, by its executions there; or the row that contradicts itself.
+/// What each row does with a cell, by its executions there; or the row that contradicts what it did before there.
 fn read_touches(
     touches: &mut Table<Touch>,
     executions: &[Execution],
@@ -152,49 +161,53 @@ fn read_touches(
 ) -> Option<usize> {
     let mut content = None;
     let mut touch = NO_TOUCH;
-    for (place, found) in executions.iter().enumerate() {
-        if place == 0 || touch.row != found.row {
+    touches.clear();
+    for found in executions {
+        if touches.is_empty() || touch.row != found.row {
+            content = None;
             touch = NO_TOUCH;
             touch.row = found.row;
             touches.add(touch);
-            content = None;
         }
         let cell = cell_with(kind, found.key);
-        if !add_touch(&mut touch, &mut content, cell, found) {
-            return Some(found.row);
+        if let Some(need) = asks(cell, found.op, found.answer) {
+            match content {
+                Some(known) if !meets(need, known) => return Some(found.row),
+                Some(_) => {}
+                None => {
+                    touch.need = Some(need);
+                    content = content_of(need);
+                }
+            }
+        }
+        let left = puts(cell, found.op, found.answer);
+        if left.is_some() {
+            touch.leaves = left;
+            content = left;
         }
         touches.set(touches.len().wrapping_sub(1), touch);
     }
     None
 }
 
-/// Adds what the execution tells of the counter. False where it contradicts what its transaction did before.
-fn add_count(count: &mut Count, op: Op, answer: Answer) -> bool {
-    if let Some(found) = count_seen(op, answer) {
-        let Some(need) = found.checked_sub(count.gain) else {
-            return false;
-        };
-        match count.need {
-            Some(known) => return known == need,
-            None => count.need = Some(need),
-        }
-    }
-    count.gain = count.gain.wrapping_add(count_change(op));
-    true
-}
-
-/// What each row does with a counter; or the row that contradicts itself.
+/// What each row does with a counter; or the row that contradicts what it did before.
 fn read_counts(counts: &mut Table<Count>, executions: &[Execution]) -> Option<usize> {
     let mut count = NO_COUNT;
-    for (place, found) in executions.iter().enumerate() {
-        if place == 0 || count.row != found.row {
+    counts.clear();
+    for found in executions {
+        if counts.is_empty() || count.row != found.row {
             count = NO_COUNT;
             count.row = found.row;
             counts.add(count);
         }
-        if !add_count(&mut count, found.op, found.answer) {
-            return Some(found.row);
+        if let Some(seen) = count_seen(found.op, found.answer) {
+            let need = seen.checked_sub(count.gain);
+            if need.is_none() || (count.need.is_some() && count.need != need) {
+                return Some(found.row);
+            }
+            count.need = need;
         }
+        count.gain = count.gain.wrapping_add(count_change(found.op));
         counts.set(counts.len().wrapping_sub(1), count);
     }
     None
@@ -217,113 +230,59 @@ fn member_of(touch: &Touch) -> Count {
     }
 }
 
-/// Adds a sum for each reader of a counter, or of an element of a set, as far as there is room.
-fn add_all_sums(
-    problem: &mut Problem,
-    concurrent: &Concurrent,
-    counts: &[Count],
-    named: (u16, Option<i64>),
-    opening: i64,
-    tables: &Tables,
-) {
-    for (place, count) in counts.iter().enumerate() {
-        let Some(need) = count.need else {
-            continue;
-        };
-        if is_large(problem) {
-            break;
-        }
-        let row = short(count.row);
-        let origin = match named.1 {
-            Some(element) => Origin::Element(row, named.0, element),
-            None => Origin::Counter(row, named.0),
-        };
-        let wanted = need.saturating_sub(opening);
-        let wanted = wanted.saturating_sub(tables.ended.at(place));
-        add_sum(problem, concurrent, tables, place, wanted, origin);
-    }
-}
-
-/// The rows that touch a counter, what each one adds, and what those add that had ended before it began.
-#[derive(Drop)]
-struct Tables {
-    rows: Table<usize>,
-    gains: Table<i64>,
-    ended: Table<i64>,
-}
-
-impl Tables {
-    /// Whether some growth was refused.
-    fn is_short(&self) -> bool {
-        self.rows.is_short() || self.gains.is_short() || self.ended.is_short()
-    }
-}
-
-/// Adds the sum of what stands before the row at the place.
+/// Adds the sum of what stands before the row at the place, if that row reads the counter, or the element of a set.
 fn add_sum(
     problem: &mut Problem,
-    concurrent: &Concurrent,
-    tables: &Tables,
+    room: &Room,
     place: usize,
-    wanted: i64,
-    origin: Origin,
+    (object, element): (u16, Option<i64>),
+    opening: i64,
 ) {
+    let count = room.counts.at(place);
+    let Some(need) = count.need else {
+        return;
+    };
+    let row = short(count.row);
+    let origin = match element {
+        Some(element) => Origin::Element(row, object, element),
+        None => Origin::Counter(row, object),
+    };
+    let wanted = need
+        .saturating_sub(opening)
+        .saturating_sub(room.ended.at(place));
     let from = problem.sums.terms.len();
-    add_all_terms(
-        problem,
-        concurrent,
-        tables.rows.items(),
-        &tables.gains,
-        place,
-    );
-    let count = problem.sums.terms.len().saturating_sub(from);
-    spend(&mut problem.allowance, count);
+    let rows = room.rows.items();
+    add_all_terms(problem, &room.concurrent, rows, &room.gains, place);
+    let terms = problem.sums.terms.len().saturating_sub(from);
+    spend(&mut problem.allowance, terms);
     end_sum(&mut problem.sums, from, TRUE, wanted, origin);
 }
 
-/// Reads the tables of the counts.
-fn read_tables(tables: &mut Tables, concurrent: &mut Concurrent, spans: &[Span], counts: &[Count]) {
-    for count in counts {
-        tables.rows.add(count.row);
-        tables.gains.add(count.gain);
-    }
-    find_concurrent(concurrent, spans, tables.rows.items());
-    let (rows, gains) = (tables.rows.items(), &tables.gains);
-    sum_ended(&mut tables.ended, concurrent, spans, rows, gains);
-}
-
-/// Notes what the rows do with the cell.
-fn note_counts(problem: &mut Problem, counts: &[Count], opening: i64) {
+/// Adds what is asked of a counter, or of an element of a set, as far as there is room.
+fn add_counts(problem: &mut Problem, room: &mut Room, named: (u16, Option<i64>), opening: i64) {
     let cell = problem.counting.openings.len();
     problem.counting.openings.add(opening);
-    for count in counts {
+    room.rows.clear();
+    room.gains.clear();
+    for count in room.counts.items() {
         problem.counting.touches.add(CountTouch {
             row: count.row,
             cell,
             need: count.need,
             gain: count.gain,
         });
+        room.rows.add(count.row);
+        room.gains.add(count.gain);
     }
-}
-
-/// Adds what is asked of a counter, or of an element of a set.
-fn add_counts(
-    alloc: Global,
-    problem: &mut Problem,
-    concurrent: &mut Concurrent,
-    counts: &[Count],
-    named: (u16, Option<i64>),
-    opening: i64,
-) -> Result<(), OutOfMemory> {
-    let mut tables = Tables {
-        rows: Table::new(alloc, 0),
-        gains: Table::new(alloc, 0),
-        ended: Table::new(alloc, 0),
-    };
-    note_counts(problem, counts, opening);
-    read_tables(&mut tables, concurrent, &problem.spans, counts);
-    add_all_sums(problem, concurrent, counts, named, opening, &tables);
-    unless_short(tables.is_short() || concurrent.is_short())
+    let (rows, spans) = (room.rows.items(), &problem.spans[..]);
+    find_concurrent(&mut room.concurrent, spans, rows);
+    sum_ended(&mut room.ended, &room.concurrent, spans, rows, &room.gains);
+    for place in 0..room.counts.len() {
+        if is_large(problem) {
+            break;
+        }
+        add_sum(problem, room, place, named, opening);
+    }
 }
 
 /// What the execution does to its queue.
@@ -337,131 +296,71 @@ fn queue_op_of(op: Op, answer: Answer) -> QueueOp {
     }
 }
 
-/// The operations of the rows on a queue, and the rows.
-fn read_queue_executions(
-    ops: &mut Vec<PlacedOp>,
-    rows: &mut Vec<usize>,
-    executions: &[Execution],
-) -> Result<(), OutOfMemory> {
-    for found in executions {
-        let is_same = match rows.last() {
-            Some(last) => *last == found.row,
-            None => false,
-        };
-        if !is_same {
-            push(rows, found.row)?;
-        }
-        let op = queue_op_of(found.op, found.answer);
-        push(
-            ops,
-            PlacedOp {
-                place: rows.len().wrapping_sub(1),
-                number: short(found.number),
-                op,
-            },
-        )?;
-    }
-    Ok(())
-}
-
 /// Adds what is asked of a queue.
 fn add_queue_executions(
-    alloc: Global,
     problem: &mut Problem,
-    concurrent: &mut Concurrent,
+    room: &mut Room,
     executions: &[Execution],
     object: u16,
-) -> Result<(), OutOfMemory> {
+) {
     problem.counting.is_all = false;
-    let mut rows = Vec::new(alloc);
-    let mut ops = Vec::new(alloc);
-    read_queue_executions(&mut ops, &mut rows, executions)?;
-    add_queue(alloc, problem, concurrent, object, rows, &ops)
-}
-
-/// Adds what is asked of an element of a set.
-fn add_members(
-    alloc: Global,
-    problem: &mut Problem,
-    concurrent: &mut Concurrent,
-    touches: &[Touch],
-    named: (u16, i64),
-) -> Result<(), OutOfMemory> {
-    let mut counts = Table::new(alloc, NO_COUNT);
-    for touch in touches {
-        counts.add(member_of(touch));
+    room.queue.begin(object);
+    room.ops.clear();
+    let rows = &mut room.queue.rows;
+    for found in executions {
+        if rows.is_empty() || rows.at(rows.len().wrapping_sub(1)) != found.row {
+            rows.add(found.row);
+        }
+        room.ops.add(PlacedOp {
+            place: rows.len().wrapping_sub(1),
+            number: short(found.number),
+            op: queue_op_of(found.op, found.answer),
+        });
     }
-    unless_short(counts.is_short())?;
-    let (counts, named) = (counts.items(), (named.0, Some(named.1)));
-    add_counts(alloc, problem, concurrent, counts, named, 0)
-}
-
-/// Adds what is asked of a cell of a register or a map.
-fn add_values(
-    alloc: Global,
-    problem: &mut Problem,
-    touches: &[Touch],
-    named: (u16, i64),
-    declared: (ObjKind, i64),
-) -> Result<(), OutOfMemory> {
-    problem.counting.is_all = false;
-    let opening = match declared.0 {
-        ObjKind::Register => Some(declared.1),
-        _ => None,
-    };
-    let named = (named.0, cell_with(declared.0, named.1));
-    add_cell(alloc, problem, touches, named, opening)
-}
-
-/// Adds what is asked of a cell; or gives the row that contradicts itself on it.
-fn add_cell_executions(
-    alloc: Global,
-    problem: &mut Problem,
-    concurrent: &mut Concurrent,
-    executions: &[Execution],
-    named: (u16, i64),
-    declared: (ObjKind, i64),
-) -> Result<Option<usize>, OutOfMemory> {
-    let mut touches = Table::new(alloc, NO_TOUCH);
-    let refused = read_touches(&mut touches, executions, declared.0);
-    unless_short(touches.is_short())?;
-    if refused.is_some() {
-        return Ok(refused);
-    }
-    if declared.0 == ObjKind::SetOf {
-        add_members(alloc, problem, concurrent, touches.items(), named)?;
-    } else {
-        add_values(alloc, problem, touches.items(), named, declared)?;
-    }
-    Ok(None)
+    add_queue(problem, &mut room.queue, room.ops.items());
 }
 
 /// Adds what is asked by the executions of one object and key; or gives the row that contradicts itself there.
 fn add_uses(
-    alloc: Global,
     problem: &mut Problem,
-    concurrent: &mut Concurrent,
+    room: &mut Room,
     executions: &[Execution],
-    named: (u16, i64),
-    declared: (ObjKind, i64),
-) -> Result<Option<usize>, OutOfMemory> {
-    match declared.0 {
-        ObjKind::Counter => {
-            let mut counts = Table::new(alloc, NO_COUNT);
-            let refused = read_counts(&mut counts, executions);
-            unless_short(counts.is_short())?;
-            if refused.is_none() {
-                let (counts, named) = (counts.items(), (named.0, None));
-                add_counts(alloc, problem, concurrent, counts, named, declared.1)?;
-            }
-            Ok(refused)
-        }
-        ObjKind::Queue => {
-            add_queue_executions(alloc, problem, concurrent, executions, named.0)?;
-            Ok(None)
-        }
-        _ => add_cell_executions(alloc, problem, concurrent, executions, named, declared),
+    (object, key): (u16, i64),
+    (kind, opening): (ObjKind, i64),
+) -> Option<usize> {
+    if kind == ObjKind::Queue {
+        add_queue_executions(problem, room, executions, object);
+        return None;
     }
+    let refused = if kind == ObjKind::Counter {
+        read_counts(&mut room.counts, executions)
+    } else {
+        read_touches(&mut room.touches, executions, kind)
+    };
+    if refused.is_some() {
+        return refused;
+    }
+    match kind {
+        ObjKind::Counter => add_counts(problem, room, (object, None), opening),
+        ObjKind::SetOf => {
+            room.counts.clear();
+            for touch in room.touches.items() {
+                room.counts.add(member_of(touch));
+            }
+            add_counts(problem, room, (object, Some(key)), 0);
+        }
+        _ => {
+            problem.counting.is_all = false;
+            let opens = if kind == ObjKind::Register {
+                Some(opening)
+            } else {
+                None
+            };
+            let cell = (object, cell_with(kind, key));
+            add_cell(problem, room.touches.items(), cell, opens);
+        }
+    }
+    None
 }
 
 /// The kind of the object, and what it opens with.
@@ -474,12 +373,11 @@ fn declared_as(objects: &[ObjDecl], object: u16) -> (ObjKind, i64) {
 
 /// Adds what is asked of all objects; or gives the row that contradicts itself, on that object and key.
 fn add_all(
-    alloc: Global,
     problem: &mut Problem,
+    room: &mut Room,
     objects: &[ObjDecl],
     executions: &[Execution],
-) -> Result<Option<Execution>, OutOfMemory> {
-    let mut concurrent = Concurrent::empty(alloc);
+) -> Option<Execution> {
     let mut from = 0;
     for (place, found) in executions.iter().enumerate() {
         let next = place.wrapping_add(1);
@@ -491,26 +389,25 @@ fn add_all(
         }
         let own = range(executions, from, next);
         let declared = declared_as(objects, found.object);
-        let refused = add_uses(alloc, problem, &mut concurrent, own, named, declared)?;
-        if let Some(row) = refused {
-            return Ok(Some(Execution { row, ..*found }));
+        if let Some(row) = add_uses(problem, room, own, named, declared) {
+            return Some(Execution { row, ..*found });
         }
         if is_large(problem) {
-            return Ok(None);
+            break;
         }
         from = next;
     }
-    Ok(None)
+    None
 }
 
 /// Sorts what is asked, as the search looks for it.
-fn sort_all(alloc: Global, problem: &mut Problem) {
+fn sort_all(problem: &mut Problem) {
     let rows = problem.spans.len();
-    sort_uses(alloc, &mut problem.cells, rows);
+    sort_uses(&mut problem.cells, rows);
     sort_feeds(&mut problem.cells);
     mark_cells(&mut problem.cells, rows);
     sort_occurrences(&mut problem.sums, problem.variables.roles.len());
-    problem.counting.touches.items_mut().sort_unstable();
+    list_rows(&mut problem.counting, &problem.spans);
 }
 
 /// Adds what is asked of all objects, and sorts it; or gives the row that contradicts itself, on that object and key.
@@ -519,14 +416,14 @@ fn add_history(
     problem: &mut Problem,
     shape: &Shape,
 ) -> Result<Option<Execution>, OutOfMemory> {
-    add_pairs(&mut problem.variables, &mut problem.spans);
     let mut executions = Table::new(alloc, NO_EXECUTION);
+    let mut room = Room::empty(alloc);
+    add_pairs(&mut problem.variables, &mut problem.spans);
     read_executions(&mut executions, shape.table().rows());
-    unless_short(executions.is_short())?;
-    let refused = add_all(alloc, problem, shape.plan().objects(), executions.items())?;
-    unless_short(problem.is_short())?;
-    sort_all(alloc, problem);
-    unless_short(problem.is_short())?;
+    let objects = shape.plan().objects();
+    let refused = add_all(problem, &mut room, objects, executions.items());
+    sort_all(problem);
+    unless_short(executions.is_short() | room.is_short() | problem.is_short())?;
     Ok(refused)
 }
 

@@ -1,26 +1,9 @@
 //! Drops learned clauses that were of little use.
 
-use crate::encoding::{Clauses, LEVELS, LINK, LITERALS, ORIGIN};
+use crate::encoding::{ClauseRank, Clauses, LEVELS, LINK, LITERALS, ORIGIN};
 use crate::known::{Antecedent, Known};
 use crate::literals::{NONE, Table, short, var};
-use crate::problem::unless_short;
 use crate::watches::watch_all;
-use aud_event::OutOfMemory;
-use std::alloc::Global;
-
-/// A learned clause by its use: the fewer levels and literals the better.
-#[derive(Clone, Copy, PartialEq, Eq, PartialOrd, Ord)]
-struct ClauseRank {
-    levels: u32,
-    length: u32,
-    clause: u32,
-}
-
-const NO_RANK: ClauseRank = ClauseRank {
-    levels: 0,
-    length: 0,
-    clause: 0,
-};
 
 /// The word of the clause.
 fn word(arena: &Table<u32>, clause: u32, which: usize) -> u32 {
@@ -33,17 +16,18 @@ fn set_word(arena: &mut Table<u32>, clause: u32, which: usize, to: u32) {
 }
 
 /// Marks the worse half of the learned clauses, but for the best ones, by no levels.
-fn mark(ranks: &mut Table<ClauseRank>, clauses: &mut Clauses) {
+fn mark(clauses: &mut Clauses) {
+    clauses.ranks.clear();
     for clause in clauses.learned.items() {
-        ranks.add(ClauseRank {
+        clauses.ranks.add(ClauseRank {
             levels: word(&clauses.arena, *clause, LEVELS),
             length: word(&clauses.arena, *clause, 0),
             clause: *clause,
         });
     }
-    ranks.items_mut().sort_unstable();
-    for place in ranks.len() / 2..ranks.len() {
-        let found = ranks.at(place);
+    clauses.ranks.items_mut().sort_unstable();
+    for place in clauses.ranks.len() / 2..clauses.ranks.len() {
+        let found = clauses.ranks.at(place);
         if found.levels > 3 {
             set_word(&mut clauses.arena, found.clause, LEVELS, NONE);
         }
@@ -77,25 +61,7 @@ fn note_antecedents(arena: &mut Table<u32>, known: &Known) {
     }
 }
 
-/// The clause moves to another place, also as the antecedent of its variable.
-fn move_clause(arena: &mut Table<u32>, known: &mut Known, clause: u32, to: u32) {
-    let variable = word(arena, clause, LINK) as usize;
-    let mut state = known.states.at(variable);
-    state.antecedent = Antecedent::Clause(to);
-    known.states.set(variable, state);
-    let length = word(arena, clause, 0) as usize;
-    for index in 0..length.wrapping_add(LITERALS) {
-        let found = word(arena, clause, index);
-        set_word(arena, to, index, found);
-    }
-}
-
-/// Whether the clause stays: it is the antecedent of a variable, or it is not marked.
-fn stays(arena: &Table<u32>, clause: u32) -> bool {
-    word(arena, clause, LINK) != NONE || word(arena, clause, LEVELS) != NONE
-}
-
-/// Moves the clauses together that stay, and gives where they end.
+/// Moves the clauses together that stay, as they are the antecedent of a variable, which is told, or not marked; and gives where they end.
 fn pack(arena: &mut Table<u32>, known: &mut Known) -> u32 {
     let mut clause: u32 = 0;
     let mut to: u32 = 0;
@@ -104,21 +70,35 @@ fn pack(arena: &mut Table<u32>, known: &mut Known) -> u32 {
             break;
         }
         let next = next_clause(arena, clause);
-        if stays(arena, clause) {
-            move_clause(arena, known, clause, to);
-            to = next_clause(arena, to);
+        let variable = word(arena, clause, LINK);
+        if variable != NONE {
+            let mut state = known.states.at(variable as usize);
+            state.antecedent = Antecedent::Clause(to);
+            known.states.set(variable as usize, state);
+        }
+        if variable != NONE || word(arena, clause, LEVELS) != NONE {
+            let length = next.wrapping_sub(clause);
+            for index in 0..length as usize {
+                let found = word(arena, clause, index);
+                set_word(arena, to, index, found);
+            }
+            to = to.wrapping_add(length);
         }
         clause = next;
     }
     to
 }
 
-/// Lists the learned ones among the clauses.
-fn list_learned(clauses: &mut Clauses) {
+/// Drops the worse half of the learned clauses. Those that something follows from stay, and so do the best ones.
+pub(crate) fn reduce(clauses: &mut Clauses, known: &mut Known) {
+    mark(clauses);
+    note_antecedents(&mut clauses.arena, known);
+    let end = pack(&mut clauses.arena, known);
+    clauses.arena.truncate(end as usize);
     clauses.learned.clear();
     let mut clause: u32 = 0;
     for _ in 0..clauses.arena.len() {
-        if clause as usize >= clauses.arena.len() {
+        if clause >= end {
             break;
         }
         if word(&clauses.arena, clause, ORIGIN) == NONE {
@@ -126,21 +106,6 @@ fn list_learned(clauses: &mut Clauses) {
         }
         clause = next_clause(&clauses.arena, clause);
     }
-}
-
-/// Drops the worse half of the learned clauses. Those that something follows from stay, and so do the best ones.
-pub(crate) fn reduce(
-    alloc: Global,
-    clauses: &mut Clauses,
-    known: &mut Known,
-) -> Result<(), OutOfMemory> {
-    let mut ranks = Table::new(alloc, NO_RANK);
-    mark(&mut ranks, clauses);
-    note_antecedents(&mut clauses.arena, known);
-    let end = pack(&mut clauses.arena, known);
-    clauses.arena.truncate(end as usize);
-    list_learned(clauses);
     let count = clauses.heads.len();
     watch_all(clauses, count);
-    unless_short(ranks.is_short())
 }

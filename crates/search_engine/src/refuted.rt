@@ -2,8 +2,8 @@
 
 use crate::encoding::{Origin, Role};
 use crate::literals::{NONE, Table, push, short, var};
-use crate::log::{Logged, StepLog, Why};
-use crate::problem::Problem;
+use crate::log::{StepLog, Why};
+use crate::problem::{Problem, unless_short};
 use crate::queues::TakeOf;
 use crate::spans::span_of;
 use aud_event::OutOfMemory;
@@ -98,36 +98,33 @@ fn gone_of(problem: &Problem, number: u32) -> QueueLaw {
     QueueLaw::Gone(take, adder, addition, front)
 }
 
-/// The law of a cell that the origin is, if it is one.
-fn cell_law(problem: &Problem, origin: Origin) -> Option<CellLaw> {
-    match origin {
-        Origin::Sources(reader) => Some(CellLaw::Sources(read_of(problem, reader))),
+/// The law of the origin, if it is one of objects.
+fn law_of(problem: &Problem, origin: Origin) -> Option<ObjectLaw> {
+    let law = match origin {
+        Origin::Sources(reader) => ObjectLaw::Cell(CellLaw::Sources(read_of(problem, reader))),
         Origin::SourceStands(source) => {
             let (read, writer) = source_of(problem, source);
-            Some(CellLaw::SourceStands(read, writer?))
+            ObjectLaw::Cell(CellLaw::SourceStands(read, writer?))
         }
         Origin::Between(source, other) => {
             let (read, writer) = source_of(problem, source);
-            Some(CellLaw::Between(read, writer, writer_of(problem, other)?))
+            let other = writer_of(problem, other)?;
+            ObjectLaw::Cell(CellLaw::Between(read, writer, other))
         }
-        _ => None,
-    }
-}
-
-/// The law of a sum that the origin is, if it is one.
-fn sum_law(problem: &Problem, origin: Origin) -> Option<SumLaw> {
-    match origin {
         Origin::Counter(row, object) => {
-            Some(SumLaw::Counter(tx_of(problem, row as usize), object))
+            ObjectLaw::Sum(SumLaw::Counter(tx_of(problem, row as usize), object))
         }
         Origin::Remainder(row, object, modulus) => {
-            Some(SumLaw::Remainder(tx_of(problem, row as usize), object, modulus))
+            let tx = tx_of(problem, row as usize);
+            ObjectLaw::Sum(SumLaw::Remainder(tx, object, modulus))
         }
         Origin::Element(row, object, element) => {
-            Some(SumLaw::Element(tx_of(problem, row as usize), object, element))
+            let tx = tx_of(problem, row as usize);
+            ObjectLaw::Sum(SumLaw::Element(tx, object, element))
         }
-        _ => None,
-    }
+        _ => ObjectLaw::Queue(queue_law(problem, origin)?),
+    };
+    Some(law)
 }
 
 /// The law of a queue that the origin is, if it is one.
@@ -153,31 +150,42 @@ fn queue_law(problem: &Problem, origin: Origin) -> Option<QueueLaw> {
     }
 }
 
-/// The law of the origin, if it is one of objects.
-fn law_of(problem: &Problem, origin: Origin) -> Option<ObjectLaw> {
-    if let Some(law) = cell_law(problem, origin) {
-        return Some(ObjectLaw::Cell(law));
-    }
-    if let Some(law) = sum_law(problem, origin) {
-        return Some(ObjectLaw::Sum(law));
-    }
-    match queue_law(problem, origin) {
-        Some(law) => Some(ObjectLaw::Queue(law)),
-        None => None,
-    }
-}
-
-/// The steps that the last one needs, with their numbers among these, and the numbers of the atoms.
+/// What is named in a refutation: the steps that the last one needs, by their numbers among these, the variables, by those of their atoms, and
+/// the atoms.
 #[derive(Drop)]
-struct Renumbering {
+struct Names {
     steps: Table<u32>,
-    atoms: Table<u32>,
+    variables: Table<u32>,
+    atoms: Table<Atom>,
+    /// Whether the growth of a clause or of a reason was refused.
+    is_list_short: bool,
 }
 
-/// Marks the steps that the last one needs.
-fn mark_needed(numbers: &mut Table<u32>, steps: &StepLog, last: u32) {
-    numbers.set(last as usize, 0);
+const NO_ATOM: Atom = Atom::Commits(0);
+
+const NO_LITERAL: Literal = Literal {
+    atom: NONE,
+    holds: false,
+};
+
+/// The numbers of the steps that the last one needs, and room for those of atoms.
+fn names_of(alloc: Global, problem: &Problem, steps: &StepLog, last: u32) -> Names {
+    let mut names = Names {
+        steps: Table::new(alloc, NONE),
+        variables: Table::new(alloc, NONE),
+        atoms: Table::new(alloc, NO_ATOM),
+        is_list_short: false,
+    };
+    names.steps.fill(steps.steps.len());
+    names.variables.fill(problem.variables.roles.len());
+    number_needed(&mut names.steps, steps, last);
+    names
+}
+
+/// Numbers the steps that the last one needs.
+fn number_needed(numbers: &mut Table<u32>, steps: &StepLog, last: u32) {
     let count = (last as usize).saturating_add(1);
+    numbers.set(last as usize, 0);
     for gone in 0..count {
         let number = count - 1 - gone;
         if numbers.at(number) != NONE {
@@ -188,155 +196,94 @@ fn mark_needed(numbers: &mut Table<u32>, steps: &StepLog, last: u32) {
             }
         }
     }
-}
-
-/// Numbers the steps that are marked.
-fn number_needed(numbers: &mut [u32]) {
     let mut next: u32 = 0;
-    for place in 0..numbers.len() {
-        if numbers[place] != NONE {
-            numbers[place] = next;
+    for number in numbers.items_mut() {
+        if *number != NONE {
+            *number = next;
             next = next.wrapping_add(1);
         }
     }
 }
 
-/// Adds the atoms of the literals that are new.
-fn add_atoms(
-    atoms: &mut Vec<Atom>,
-    numbers: &mut Table<u32>,
-    problem: &Problem,
-    literals: &[u32],
-) -> Result<(), OutOfMemory> {
-    for literal in literals {
-        let variable = var(*literal);
-        if variable < numbers.len() && numbers.at(variable) == NONE {
-            numbers.set(variable, short(atoms.len()));
-            push(atoms, atom_of(problem, variable))?;
-        }
-    }
-    Ok(())
-}
-
-/// The clause, those of its literals first that deny a source or an item.
+/// The clause, those of its literals first that deny a source or an item. The atoms of the literals that are new are named.
 fn clause_of(
     alloc: Global,
+    names: &mut Names,
     problem: &Problem,
-    numbers: &Table<u32>,
     literals: &[u32],
-) -> Result<Vec<Literal>, OutOfMemory> {
-    let mut clause = Vec::new(alloc);
+) -> Vec<Literal> {
+    for literal in literals {
+        let variable = var(*literal);
+        if variable < names.variables.len() && names.variables.at(variable) == NONE {
+            names.variables.set(variable, short(names.atoms.len()));
+            names.atoms.add(atom_of(problem, variable));
+        }
+    }
+    let mut clause = Table::new(alloc, NO_LITERAL);
     for is_first in &[true, false] {
         for literal in literals {
             let role = problem.variables.roles.at(var(*literal));
             let is_guard = matches!(role, Role::Source(_) | Role::Item(_)) && literal & 1 == 1;
             if is_guard == *is_first {
-                push(
-                    &mut clause,
-                    Literal {
-                        atom: numbers.at(var(*literal)),
-                        holds: literal & 1 == 0,
-                    },
-                )?;
+                let atom = names.variables.at(var(*literal));
+                let holds = literal & 1 == 0;
+                clause.add(Literal { atom, holds });
             }
         }
     }
-    Ok(clause)
-}
-
-/// The transactions of a circle.
-fn circle_of(alloc: Global, problem: &Problem, rows: [u32; 4]) -> Result<Vec<u32>, OutOfMemory> {
-    let mut circle = Vec::new(alloc);
-    for row in &rows {
-        let tx = tx_of(problem, *row as usize);
-        if !circle.contains(&tx) {
-            push(&mut circle, tx)?;
-        }
-    }
-    Ok(circle)
-}
-
-/// The numbers of the hints between those places.
-fn hints_of(alloc: Global, hints: &[u32], numbers: &Table<u32>) -> Result<Vec<u32>, OutOfMemory> {
-    let mut found = Vec::new(alloc);
-    for hint in hints {
-        push(&mut found, numbers.at(*hint as usize))?;
-    }
-    Ok(found)
+    names.is_list_short |= clause.is_short();
+    clause.into_items()
 }
 
 /// What the step follows from, if that can be said.
 fn reason_of(
     alloc: Global,
+    names: &mut Names,
     problem: &Problem,
     steps: &StepLog,
-    numbers: &Table<u32>,
     why: Why,
-) -> Result<Option<Reason<ObjectLaw>>, OutOfMemory> {
+) -> Option<Reason<ObjectLaw>> {
+    let mut list = Table::new(alloc, NONE);
     match why {
         Why::Units(from, to) => {
-            let hints = steps.hints.range(from, to);
-            Ok(Some(Reason::Units(hints_of(alloc, hints, numbers)?)))
+            for hint in steps.hints.range(from, to) {
+                list.add(names.steps.at(*hint as usize));
+            }
+            names.is_list_short |= list.is_short();
+            Some(Reason::Units(list.into_items()))
         }
         Why::Origin(Origin::Circle(first, row, other, last)) => {
-            let rows = [first, row, other, last];
-            Ok(Some(Reason::Circle(circle_of(alloc, problem, rows)?)))
+            for row in &[first, row, other, last] {
+                let tx = tx_of(problem, *row as usize);
+                if !list.items().contains(&tx) {
+                    list.add(tx);
+                }
+            }
+            names.is_list_short |= list.is_short();
+            Some(Reason::Circle(list.into_items()))
         }
-        Why::Origin(origin) => match law_of(problem, origin) {
-            Some(law) => Ok(Some(Reason::Law(law))),
-            None => Ok(None),
-        },
+        Why::Origin(origin) => Some(Reason::Law(law_of(problem, origin)?)),
     }
-}
-
-/// The numbers of the steps that the last one needs, and room for those of atoms.
-fn numbers_of(alloc: Global, problem: &Problem, steps: &StepLog, last: u32) -> Renumbering {
-    let mut numbers = Renumbering {
-        steps: Table::new(alloc, NONE),
-        atoms: Table::new(alloc, NONE),
-    };
-    numbers.steps.fill(steps.steps.len());
-    numbers.atoms.fill(problem.variables.roles.len());
-    mark_needed(&mut numbers.steps, steps, last);
-    number_needed(numbers.steps.items_mut());
-    numbers
-}
-
-/// Adds the step to the refutation. False where its reason cannot be said.
-fn add_step(
-    alloc: Global,
-    refutation: &mut Refutation<ObjectLaw>,
-    numbers: &mut Renumbering,
-    problem: &Problem,
-    steps: &StepLog,
-    logged: Logged,
-) -> Result<bool, OutOfMemory> {
-    let literals = steps.literals.range(logged.from, logged.to);
-    add_atoms(&mut refutation.atoms, &mut numbers.atoms, problem, literals)?;
-    let clause = clause_of(alloc, problem, &numbers.atoms, literals)?;
-    let found = reason_of(alloc, problem, steps, &numbers.steps, logged.why)?;
-    let Some(reason) = found else {
-        return Ok(false);
-    };
-    push(&mut refutation.steps, Step::new(clause, reason))?;
-    Ok(true)
 }
 
 /// Adds the steps to the refutation that are needed. False where a reason cannot be said.
 fn add_steps(
     alloc: Global,
-    refutation: &mut Refutation<ObjectLaw>,
-    numbers: &mut Renumbering,
+    said: &mut Vec<Step<ObjectLaw>>,
+    names: &mut Names,
     problem: &Problem,
     steps: &StepLog,
 ) -> Result<bool, OutOfMemory> {
     for number in 0..steps.steps.len() {
-        if numbers.steps.at(number) != NONE {
-            let logged = steps.steps.at(number);
-            let is_said = add_step(alloc, refutation, numbers, problem, steps, logged)?;
-            if !is_said {
-                return Ok(false);
-            }
+        if names.steps.at(number) == NONE {
+            continue;
+        }
+        let found = steps.steps.at(number);
+        let literals = steps.literals.range(found.from, found.to);
+        let clause = clause_of(alloc, names, problem, literals);
+        match reason_of(alloc, names, problem, steps, found.why) {
+            Some(reason) => push(said, Step::new(clause, reason))?,
+            None => return Ok(false),
         }
     }
     Ok(true)
@@ -349,17 +296,22 @@ pub(crate) fn refutation_of(
     steps: &StepLog,
     last: u32,
 ) -> Result<Option<Refutation<ObjectLaw>>, OutOfMemory> {
-    let mut numbers = numbers_of(alloc, problem, steps, last);
-    if numbers.steps.is_short() || numbers.atoms.is_short() {
-        return Err(OutOfMemory);
+    let mut names = names_of(alloc, problem, steps, last);
+    let mut said = Vec::new(alloc);
+    let is_said = add_steps(alloc, &mut said, &mut names, problem, steps)?;
+    unless_short(
+        names.steps.is_short()
+            | names.variables.is_short()
+            | names.atoms.is_short()
+            | names.is_list_short,
+    )?;
+    if !is_said {
+        return Ok(None);
     }
-    let mut refutation = Refutation {
-        atoms: Vec::new(alloc),
-        steps: Vec::new(alloc),
-    };
-    if add_steps(alloc, &mut refutation, &mut numbers, problem, steps)? {
-        Ok(Some(refutation))
-    } else {
-        Ok(None)
-    }
+    let empty = Table::new(alloc, NO_ATOM);
+    let atoms = std::mem::replace(&mut names.atoms, empty);
+    Ok(Some(Refutation {
+        atoms: atoms.into_items(),
+        steps: said,
+    }))
 }

@@ -5,18 +5,18 @@ use crate::betweens::{check_commits, propagate_pair, propagate_source};
 use crate::bounds::{clear_waiting, count_terms, propagate_waiting, wake_guarded};
 use crate::closure::{Closure, close, close_spans, reopen};
 use crate::encoding::{Clauses, LITERALS, Role, Variables, append};
+use crate::engine::{Effort, NOT_RANKED, Ranked};
 use crate::explanation::{View, pair_of};
 use crate::heap::{Heap, heaviest, insert, make_heap, take_heaviest};
 use crate::known::{Antecedent, Conflict, Known, assign, make_room};
-use crate::literals::{NONE, TRUE, Table, neg, short, var};
-use crate::log::{Log, bytes_logged, log_conflict, log_end, log_learned, make_log};
+use crate::literals::{FALSE, NONE, TRUE, Table, neg, short, var};
+use crate::log::{Log, bytes_logged, log_conflict, log_learned, make_log};
 use crate::problem::{Allowance, Problem, bytes_of, unless_short};
 use crate::reduce::reduce;
 use crate::spans::{Span, instant, span_of};
-use crate::sums::Sums;
 use crate::watches::{follow_clauses, watch_all, watch_both};
 use aud_event::OutOfMemory;
-use aud_witness::Decision;
+use aud_witness::{Decision, Fate};
 use std::alloc::Global;
 
 /// After so many conflicts the worse half of the learned clauses goes.
@@ -37,10 +37,14 @@ const NOT_LATE: Late = Late {
     level: 0,
 };
 
+pub(crate) const NO_DECISION: Decision = Decision {
+    tx: 0,
+    fate: Fate::A,
+};
+
 /// A search, as far as it is.
 #[derive(Drop)]
 pub(crate) struct Solver {
-    pub alloc: Global,
     pub problem: Problem,
     pub known: Known,
     pub closure: Closure,
@@ -48,8 +52,15 @@ pub(crate) struct Solver {
     pub analysis: Analysis,
     pub log: Log,
     pub conflicts: u64,
-    /// The order that was tried last, as decisions.
-    pub order: Vec<Decision>,
+    /// The order that was tried last, as rows and as decisions; of each row how many of those stand before it that are not placed yet; and the
+    /// clause of an order that was tried in vain.
+    pub rows: Table<usize>,
+    pub order: Table<Decision>,
+    pub counts: Table<u32>,
+    pub blocked: Table<u32>,
+    /// The rows in the order of an instant, and the rank of each.
+    pub ranked: Table<Ranked>,
+    pub ranks: Table<usize>,
     /// Literals that are taken to hold for a while.
     pub assumed: Table<u32>,
     /// The phases of the longest trail, its length, how many of its first literals still hold, and whether its phases are tried.
@@ -82,11 +93,15 @@ pub(crate) enum Found {
 /// A search of nothing yet, which may take so much; it writes its steps down if that is asked for. It does not allocate.
 pub(crate) fn solver_of(alloc: Global, allowance: Allowance, logs: bool) -> Solver {
     Solver {
-        alloc,
         problem: Problem::empty(alloc, allowance),
         known: Known::empty(alloc),
         closure: Closure::empty(alloc),
-        order: Vec::new(alloc),
+        rows: Table::new(alloc, 0),
+        order: Table::new(alloc, NO_DECISION),
+        counts: Table::new(alloc, NONE),
+        blocked: Table::new(alloc, FALSE),
+        ranked: Table::new(alloc, NOT_RANKED),
+        ranks: Table::new(alloc, 0),
         heap: Heap::empty(alloc),
         analysis: Analysis::empty(alloc),
         log: Log::empty(alloc, logs),
@@ -104,50 +119,34 @@ pub(crate) fn solver_of(alloc: Global, allowance: Allowance, logs: bool) -> Solv
     }
 }
 
-/// Whether some growth was refused since the search began.
-fn is_short(solver: &Solver) -> bool {
-    let is_list_short = solver.assumed.is_short()
-        || solver.best.is_short()
-        || solver.late.is_short();
-    is_list_short
-        || solver.known.is_short()
-        || solver.closure.is_short()
-        || solver.heap.is_short()
-        || solver.analysis.is_short()
-        || solver.log.is_short()
-}
-
-/// Want of memory, where some growth was refused.
+/// Want of memory, where some growth was refused since the search began.
 pub(crate) fn check_room(solver: &Solver) -> Result<(), OutOfMemory> {
-    unless_short(is_short(solver) || solver.problem.is_short())
-}
-
-/// Makes room.
-fn make_all_room(solver: &mut Solver) -> Result<(), OutOfMemory> {
-    let count = solver.problem.variables.roles.len();
-    let origins = solver.problem.clauses.origins.len();
-    close_spans(&mut solver.closure, &solver.problem.spans);
-    make_room(&mut solver.known, count);
-    make_heap(&mut solver.heap, count);
-    make_marks(&mut solver.analysis, count);
-    make_log(&mut solver.log, count, origins);
-    solver.known.work = solver.problem.allowance.work;
-    watch_all(&mut solver.problem.clauses, count.saturating_mul(2));
-    check_room(solver)
-}
-
-/// The stamp of the last event.
-fn last_stamp(spans: &[Span]) -> u32 {
-    let mut last = 0;
-    for span in spans {
-        last = span.until.max(last);
-    }
-    last
+    unless_short(
+        solver.rows.is_short()
+            | solver.order.is_short()
+            | solver.counts.is_short()
+            | solver.blocked.is_short()
+            | solver.ranked.is_short()
+            | solver.ranks.is_short()
+            | solver.assumed.is_short()
+            | solver.best.is_short()
+            | solver.late.is_short()
+            | solver.known.is_short()
+            | solver.closure.is_short()
+            | solver.heap.is_short()
+            | solver.analysis.is_short()
+            | solver.log.is_short()
+            | solver.problem.is_short(),
+    )
 }
 
 /// Tries pairs first as they took effect, the earlier ones first.
 fn weigh_pairs(variables: &mut Variables, spans: &[Span], heap: &mut Heap) {
-    let whole = f64::from(last_stamp(spans)) * 20.0 + 20.0;
+    let mut last: u32 = 0;
+    for span in spans {
+        last = span.until.max(last);
+    }
+    let whole = f64::from(last) * 20.0 + 20.0;
     for variable in 1..variables.roles.len() {
         if let Role::Precedence(row, other) = variables.roles.at(variable) {
             let one = instant(span_of(spans, row as usize), 15);
@@ -159,50 +158,25 @@ fn weigh_pairs(variables: &mut Variables, spans: &[Span], heap: &mut Heap) {
     }
 }
 
-/// All whose values may be chosen wait for that.
-fn insert_all(heap: &mut Heap, choices: &Table<bool>) {
-    for variable in 1..choices.len() {
-        if choices.at(variable) {
+/// Makes room, and decides first what comes first.
+pub(crate) fn prepare(solver: &mut Solver) -> Result<(), OutOfMemory> {
+    let count = solver.problem.variables.roles.len();
+    let origins = solver.problem.clauses.origins.len();
+    let (problem, heap) = (&mut solver.problem, &mut solver.heap);
+    close_spans(&mut solver.closure, &problem.spans);
+    make_room(&mut solver.known, count);
+    make_heap(heap, count);
+    make_marks(&mut solver.analysis, count);
+    make_log(&mut solver.log, count, origins);
+    solver.known.work = problem.allowance.work;
+    watch_all(&mut problem.clauses, count.saturating_mul(2));
+    weigh_pairs(&mut problem.variables, &problem.spans, heap);
+    for variable in 1..count {
+        if problem.variables.choices.at(variable) {
             insert(heap, variable);
         }
     }
-}
-
-/// Makes room, and decides first what comes first.
-pub(crate) fn prepare(solver: &mut Solver) -> Result<(), OutOfMemory> {
-    make_all_room(solver)?;
-    let (problem, heap) = (&mut solver.problem, &mut solver.heap);
-    weigh_pairs(&mut problem.variables, &problem.spans, heap);
-    insert_all(heap, &problem.variables.choices);
-    Ok(())
-}
-
-/// Follows that the pair stands so, by the closure and the cells.
-fn propagate_order(
-    problem: &Problem,
-    known: &mut Known,
-    closure: &mut Closure,
-    (row, other): (usize, usize),
-) -> Option<Conflict> {
-    let conflict = close(known, closure, &problem.spans, row, other);
-    if conflict.is_some() {
-        return conflict;
-    }
-    propagate_pair(known, &problem.cells, &problem.spans, row, other)
-}
-
-/// Follows that the variable holds, which is of no pair.
-fn propagate_role(problem: &mut Problem, known: &mut Known, role: Role) -> Option<Conflict> {
-    match role {
-        Role::Source(source) => propagate_source(known, &problem.cells, &problem.spans, source),
-        Role::Commits(row) => check_commits(known, &problem.cells, &problem.spans, row as usize),
-        Role::Item(item) => {
-            let sum = problem.items.items.at(item as usize).sum;
-            wake_guarded(&mut problem.sums, sum);
-            None
-        }
-        Role::Nothing | Role::Precedence(..) => None,
-    }
+    check_room(solver)
 }
 
 /// Follows the next literal that holds by all but clauses.
@@ -215,14 +189,27 @@ fn propagate_next(
     known.propagated = known.propagated.wrapping_add(1);
     let count = count_terms(&mut problem.sums, literal, true);
     known.work = known.work.wrapping_add(count as u64);
-    if let Some(pair) = pair_of(&problem.variables.roles, literal) {
-        return propagate_order(problem, known, closure, pair);
+    let (cells, spans) = (&problem.cells, &problem.spans[..]);
+    if let Some((row, other)) = pair_of(&problem.variables.roles, literal) {
+        let conflict = close(known, closure, spans, row, other);
+        if conflict.is_some() {
+            return conflict;
+        }
+        return propagate_pair(known, cells, spans, row, other);
     }
     if literal & 1 == 1 {
         return None;
     }
-    let role = problem.variables.roles.at(var(literal));
-    propagate_role(problem, known, role)
+    match problem.variables.roles.at(var(literal)) {
+        Role::Source(source) => propagate_source(known, cells, spans, source),
+        Role::Commits(row) => check_commits(known, cells, spans, row as usize),
+        Role::Item(item) => {
+            let sum = problem.items.items.at(item as usize).sum;
+            wake_guarded(&mut problem.sums, sum);
+            None
+        }
+        Role::Nothing | Role::Precedence(..) => None,
+    }
 }
 
 /// Follows what holds as far as it forces more.
@@ -250,37 +237,6 @@ fn propagate(problem: &mut Problem, known: &mut Known, closure: &mut Closure) ->
     None
 }
 
-/// The literal is open again.
-fn reopen_literal(known: &mut Known, variables: &mut Variables, literal: u32) {
-    known.values.set(literal as usize, 0);
-    known.values.set(neg(literal) as usize, 0);
-    variables.phases.set(var(literal), literal & 1 == 0);
-}
-
-/// The literal no longer holds.
-fn unassign(
-    problem: &mut Problem,
-    known: &mut Known,
-    closure: &mut Closure,
-    heap: &mut Heap,
-    literal: u32,
-) {
-    if let Some((row, other)) = pair_of(&problem.variables.roles, literal) {
-        reopen(closure, row, other);
-    }
-    reopen_literal(known, &mut problem.variables, literal);
-    if problem.variables.choices.at(var(literal)) {
-        insert(heap, var(literal));
-    }
-}
-
-/// The literals of the trail hold no longer, as the terms count them.
-fn uncount(sums: &mut Sums, literals: &[u32]) {
-    for literal in literals {
-        let _count = count_terms(sums, *literal, false);
-    }
-}
-
 /// The literals of the trail from the place on hold no longer.
 fn unassign_from(
     problem: &mut Problem,
@@ -291,7 +247,16 @@ fn unassign_from(
 ) {
     for place in from..known.count {
         let literal = known.trail.at(place);
-        unassign(problem, known, closure, heap, literal);
+        let variable = var(literal);
+        if let Some((row, other)) = pair_of(&problem.variables.roles, literal) {
+            reopen(closure, row, other);
+        }
+        known.values.set(literal as usize, 0);
+        known.values.set(neg(literal) as usize, 0);
+        problem.variables.phases.set(variable, literal & 1 == 0);
+        if problem.variables.choices.at(variable) {
+            insert(heap, variable);
+        }
     }
     known.count = from;
     known.seen = from;
@@ -305,7 +270,9 @@ pub(crate) fn backjump(solver: &mut Solver, level: u32) {
     }
     let to = solver.known.levels.at(level as usize);
     let (problem, known) = (&mut solver.problem, &mut solver.known);
-    uncount(&mut problem.sums, known.trail.range(to, known.propagated));
+    for literal in known.trail.range(to, known.propagated) {
+        let _count = count_terms(&mut problem.sums, *literal, false);
+    }
     unassign_from(problem, known, &mut solver.closure, &mut solver.heap, to);
     known.levels.truncate(level as usize);
     solver.best_kept = solver.best_kept.min(to);
@@ -375,47 +342,6 @@ fn add_learned(solver: &mut Solver, learned: Learned) {
     }
 }
 
-/// Notes what the conflict needs. Its literals are those that hold and cannot all do.
-fn note_conflict(
-    log: &mut Log,
-    analysis: &mut Analysis,
-    view: &View<'_>,
-    conflict: Conflict,
-    is_end: bool,
-) {
-    log_conflict(log, view, conflict, analysis.todo.items());
-    if is_end {
-        log_end(
-            log,
-            view,
-            &mut analysis.contributions,
-            analysis.todo.items(),
-        );
-    }
-}
-
-/// Makes a clause of the conflict, whose highest level is given, and writes down what it follows from, if that is asked for.
-fn make_clause(
-    analysis: &mut Analysis,
-    heap: &mut Heap,
-    log: &mut Log,
-    view: &View<'_>,
-    top: u32,
-) -> Learned {
-    let level = learn(analysis, heap, view, top);
-    let levels = count_levels(analysis, view.known);
-    let step = if log.is_on {
-        log_learned(log, view, analysis)
-    } else {
-        NONE
-    };
-    Learned {
-        level,
-        levels,
-        step,
-    }
-}
-
 /// The level to which the search goes back, where the clause forces a literal from that one on. Where that is far, it is one below the
 /// highest, and further with each conflict since the last choice: what was chosen between stays.
 fn backjump_level(solver: &mut Solver, level: u32, top: u32) -> u32 {
@@ -432,29 +358,33 @@ fn backjump_level(solver: &mut Solver, level: u32, top: u32) -> u32 {
     }
 }
 
-/// Learns a clause from the conflict, whose highest level is given, and goes back to where the clause forces a literal.
+/// Learns a clause from the conflict, whose highest level is given, writes down what it follows from, if that is asked for, and goes back to where the
+/// clause forces a literal.
 fn learn_clause(solver: &mut Solver, top: u32) -> Result<(), OutOfMemory> {
     let view = View {
         problem: &solver.problem,
         known: &solver.known,
     };
     let (analysis, heap, log) = (&mut solver.analysis, &mut solver.heap, &mut solver.log);
-    let learned = make_clause(analysis, heap, log, &view, top);
+    let level = learn(analysis, heap, &view, top);
+    let levels = count_levels(analysis, view.known);
+    let step = if log.is_on {
+        log_learned(log, &view, analysis)
+    } else {
+        NONE
+    };
     check_room(solver)?;
-    let to = backjump_level(solver, learned.level, top);
+    let to = backjump_level(solver, level, top);
     backjump(solver, to);
-    add_learned(solver, learned);
+    add_learned(
+        solver,
+        Learned {
+            level,
+            levels,
+            step,
+        },
+    );
     check_room(solver)
-}
-
-/// Drops learned clauses, if it is time.
-fn reduce_if_due(solver: &mut Solver) -> Result<(), OutOfMemory> {
-    if solver.conflicts >= solver.reduce_at {
-        reduce(solver.alloc, &mut solver.problem.clauses, &mut solver.known)?;
-        solver.late.clear();
-        solver.reduce_at = solver.conflicts.saturating_add(REDUCE_EVERY);
-    }
-    Ok(())
 }
 
 /// Reads what the conflict needs, and notes it, if that is asked for or is the end. The highest level of it is given.
@@ -467,7 +397,7 @@ fn read_top(solver: &mut Solver, conflict: Conflict) -> Result<u32, OutOfMemory>
     let (analysis, log) = (&mut solver.analysis, &mut solver.log);
     let top = read_conflict(analysis, &view, conflict);
     if log.is_on || (top == 0 && !has_learned) {
-        note_conflict(log, analysis, &view, conflict, top == 0);
+        log_conflict(log, &view, conflict, analysis.todo.items(), top == 0);
     }
     check_room(solver)?;
     Ok(top)
@@ -490,45 +420,27 @@ fn handle_conflict(solver: &mut Solver, conflict: Conflict) -> Result<Option<Fou
     backjump(solver, top);
     learn_clause(solver, top)?;
     solver.heap.step /= 0.95;
-    reduce_if_due(solver)?;
-    Ok(None)
-}
-
-/// Takes the literals to hold that are open. False where they cannot all.
-fn assume_all(
-    problem: &mut Problem,
-    known: &mut Known,
-    closure: &mut Closure,
-    literals: &[u32],
-) -> bool {
-    for literal in literals {
-        if known.value(*literal) == 0 {
-            assign(known, *literal, Antecedent::Choice);
-            if propagate(problem, known, closure).is_some() {
-                return false;
-            }
-        }
+    if solver.conflicts >= solver.reduce_at {
+        reduce(&mut solver.problem.clauses, &mut solver.known);
+        solver.late.clear();
+        solver.reduce_at = solver.conflicts.saturating_add(REDUCE_EVERY);
     }
-    true
+    Ok(None)
 }
 
 /// Takes the assumed literals to hold, at a level of their own. False where they cannot all.
 fn assume(solver: &mut Solver) -> bool {
     solver.known.levels.add(solver.known.count);
     let (problem, known) = (&mut solver.problem, &mut solver.known);
-    assume_all(problem, known, &mut solver.closure, solver.assumed.items())
-}
-
-/// Which of the variable's literals is tried first.
-fn first_literal(solver: &Solver, variable: u32) -> u32 {
-    let place = variable as usize;
-    let is_first = if solver.tries_best && solver.best_count > 0 {
-        solver.best.at(place)
-    } else {
-        solver.problem.variables.phases.at(place)
-    };
-    let literal = variable.wrapping_mul(2);
-    if is_first { literal } else { neg(literal) }
+    for literal in solver.assumed.items() {
+        if known.value(*literal) == 0 {
+            assign(known, *literal, Antecedent::Choice);
+            if propagate(problem, known, &mut solver.closure).is_some() {
+                return false;
+            }
+        }
+    }
+    true
 }
 
 /// Decides the next variable. False where none is left.
@@ -537,8 +449,15 @@ fn choose(solver: &mut Solver) -> bool {
         let Some(variable) = take_heaviest(&mut solver.heap) else {
             return false;
         };
-        if solver.known.value(variable.wrapping_mul(2)) == 0 {
-            let literal = first_literal(solver, variable);
+        let literal = variable.wrapping_mul(2);
+        if solver.known.value(literal) == 0 {
+            let place = variable as usize;
+            let is_first = if solver.tries_best && solver.best_count > 0 {
+                solver.best.at(place)
+            } else {
+                solver.problem.variables.phases.at(place)
+            };
+            let literal = if is_first { literal } else { neg(literal) };
             solver.choice_count = solver.choice_count.wrapping_add(1);
             solver.known.levels.add(solver.known.count);
             assign(&mut solver.known, literal, Antecedent::Choice);
@@ -548,8 +467,9 @@ fn choose(solver: &mut Solver) -> bool {
     false
 }
 
-/// The clauses of one literal hold. The first that cannot is given.
-fn begin_clauses(known: &mut Known, arena: &Table<u32>) -> Option<Conflict> {
+/// Follows what holds in any case: the clauses of one literal, and what they force. What cannot be is given, if something cannot.
+fn begin_all(problem: &mut Problem, known: &mut Known, closure: &mut Closure) -> Option<Conflict> {
+    let arena = &problem.clauses.arena;
     let mut place: usize = 0;
     for _ in 0..arena.len() {
         if place >= arena.len() {
@@ -567,15 +487,6 @@ fn begin_clauses(known: &mut Known, arena: &Table<u32>) -> Option<Conflict> {
         }
         place = place.wrapping_add(LITERALS).wrapping_add(length as usize);
     }
-    None
-}
-
-/// What cannot be of what holds in any case, if something cannot.
-fn begin_all(problem: &mut Problem, known: &mut Known, closure: &mut Closure) -> Option<Conflict> {
-    let conflict = begin_clauses(known, &problem.clauses.arena);
-    if conflict.is_some() {
-        return conflict;
-    }
     propagate(problem, known, closure)
 }
 
@@ -591,17 +502,9 @@ pub(crate) fn begin(solver: &mut Solver) -> Result<bool, OutOfMemory> {
     };
     let (analysis, log) = (&mut solver.analysis, &mut solver.log);
     read_conflict(analysis, &view, conflict);
-    note_conflict(log, analysis, &view, conflict, true);
+    log_conflict(log, &view, conflict, analysis.todo.items(), true);
     check_room(solver)?;
     Ok(false)
-}
-
-/// How far a search may go.
-#[derive(Clone, Copy)]
-pub(crate) struct Limits {
-    pub conflicts: u64,
-    pub work: u64,
-    pub bytes: usize,
 }
 
 /// How many bytes the search takes, about.
@@ -609,51 +512,44 @@ pub(crate) fn bytes_held(solver: &Solver) -> usize {
     bytes_of(&solver.problem).saturating_add(bytes_logged(&solver.log.steps))
 }
 
-/// Whether the search is past its limits.
-fn is_spent(solver: &Solver, limits: Limits) -> bool {
-    solver.conflicts >= limits.conflicts
-        || solver.known.work >= limits.work
-        || bytes_held(solver) > limits.bytes
+/// Whether the effort is spent.
+pub(crate) fn is_over(solver: &Solver, effort: Effort) -> bool {
+    solver.conflicts >= effort.conflicts
+        || solver.known.work >= effort.work
+        || bytes_held(solver) > effort.bytes
 }
 
-/// The weight of the variable whose value would be chosen next.
-fn next_weight(heap: &mut Heap, known: &Known) -> f64 {
-    for _ in 0..known.values.len() {
-        let Some(variable) = heaviest(heap) else {
-            break;
-        };
-        if known.value(variable.wrapping_mul(2)) == 0 {
-            return heap.weights.at(variable as usize);
-        }
-        let _taken = take_heaviest(heap);
-    }
-    0.0
-}
-
-/// How many of the first levels would come again, as their variables weigh more than the next one.
-fn levels_kept(known: &Known, heap: &Heap, next: f64) -> u32 {
-    for level in 0..known.levels.len() {
-        let literal = known.trail.at(known.levels.at(level));
-        if heap.weights.at(var(literal)) < next {
-            return short(level);
-        }
-    }
-    short(known.levels.len())
-}
-
-/// Goes back to where other variables would be chosen now.
+/// Goes back to where other variables would be chosen now: the first levels stay whose variables weigh more than the next one.
 fn begin_again(solver: &mut Solver) {
     if !solver.assumed.is_empty() {
         backjump(solver, 0);
         return;
     }
-    let next = next_weight(&mut solver.heap, &solver.known);
-    let level = levels_kept(&solver.known, &solver.heap, next);
-    backjump(solver, level);
+    let (known, heap) = (&solver.known, &mut solver.heap);
+    let mut next = 0.0;
+    for _ in 0..known.values.len() {
+        let Some(variable) = heaviest(heap) else {
+            break;
+        };
+        if known.value(variable.wrapping_mul(2)) == 0 {
+            next = heap.weights.at(variable as usize);
+            break;
+        }
+        let _taken = take_heaviest(heap);
+    }
+    let mut kept: usize = 0;
+    for level in 0..known.levels.len() {
+        let literal = known.trail.at(known.levels.at(level));
+        if heap.weights.at(var(literal)) < next {
+            break;
+        }
+        kept = level.wrapping_add(1);
+    }
+    backjump(solver, short(kept));
 }
 
 /// Searches within the limits.
-pub(crate) fn search(solver: &mut Solver, limits: Limits) -> Result<Found, OutOfMemory> {
+pub(crate) fn search(solver: &mut Solver, limits: Effort) -> Result<Found, OutOfMemory> {
     for _ in 0..u64::MAX {
         let conflict = propagate(&mut solver.problem, &mut solver.known, &mut solver.closure);
         if let Some(conflict) = conflict {
@@ -662,7 +558,7 @@ pub(crate) fn search(solver: &mut Solver, limits: Limits) -> Result<Found, OutOf
             }
             continue;
         }
-        if is_spent(solver, limits) {
+        if is_over(solver, limits) {
             let count = solver.known.count;
             note_best(solver, count);
             begin_again(solver);

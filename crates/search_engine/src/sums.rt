@@ -1,7 +1,7 @@
 //! Sums: of those that stand before one, each changes a count, and what that sees is the sum.
 
-use crate::encoding::{Origin, Variables, ask};
-use crate::literals::{FALSE, NONE, TRUE, Table, at, set, short};
+use crate::encoding::{Origin, ask};
+use crate::literals::{FALSE, NONE, TRUE, Table, at, short};
 use crate::problem::Problem;
 use crate::spans::{Span, before, span_of};
 use std::alloc::Global;
@@ -89,9 +89,12 @@ impl Sums {
 
     /// Whether some growth was refused.
     pub(crate) fn is_short(&self) -> bool {
-        let are_sums_short = self.sums.is_short() || self.slacks.is_short();
-        let are_terms_short = self.terms.is_short() || self.occurrences.is_short();
-        are_sums_short || are_terms_short || self.starts.is_short() || self.waiting.is_short()
+        self.sums.is_short()
+            | self.slacks.is_short()
+            | self.terms.is_short()
+            | self.occurrences.is_short()
+            | self.starts.is_short()
+            | self.waiting.is_short()
     }
 }
 
@@ -118,8 +121,10 @@ impl Concurrent {
 
     /// Whether some growth was refused.
     pub(crate) fn is_short(&self) -> bool {
-        let are_others_short = self.starts.is_short() || self.others.is_short();
-        are_others_short || self.ended.is_short() || self.active.is_short()
+        self.starts.is_short()
+            | self.others.is_short()
+            | self.ended.is_short()
+            | self.active.is_short()
     }
 
     /// Those that ran beside the row of that place.
@@ -130,13 +135,14 @@ impl Concurrent {
     }
 }
 
-/// Leaves those active that had not ended before the row began, and notes of the others that they had.
-fn drop_ended(concurrent: &mut Concurrent, rows: &[usize], spans: &[Span], place: usize) {
-    let began = span_of(spans, at(rows, place, 0)).first;
+/// Finds which of the rows ran beside the one at the place. Those stay active that had not ended before it began; of the others it is noted
+/// that they had.
+fn find_others(concurrent: &mut Concurrent, spans: &[Span], rows: &[usize], place: usize) {
+    let span = span_of(spans, at(rows, place, 0));
     let mut kept: usize = 0;
     for index in 0..concurrent.active.len() {
         let other = concurrent.active.at(index);
-        if span_of(spans, at(rows, other, 0)).last < began {
+        if span_of(spans, at(rows, other, 0)).last < span.first {
             concurrent.ended.set(other, place);
         } else {
             concurrent.active.set(kept, other);
@@ -144,16 +150,10 @@ fn drop_ended(concurrent: &mut Concurrent, rows: &[usize], spans: &[Span], place
         }
     }
     concurrent.active.truncate(kept);
-}
-
-/// Finds which of the rows ran beside the one at the place.
-fn find_others(concurrent: &mut Concurrent, spans: &[Span], rows: &[usize], place: usize) {
-    drop_ended(concurrent, rows, spans, place);
     concurrent.starts.add(concurrent.others.len());
     concurrent.others.add_all(concurrent.active.items());
-    let end = span_of(spans, at(rows, place, 0)).end;
     for later in place.wrapping_add(1)..rows.len() {
-        if rows[later] >= end {
+        if rows[later] >= span.end {
             break;
         }
         concurrent.others.add(later);
@@ -176,33 +176,7 @@ pub(crate) fn find_concurrent(concurrent: &mut Concurrent, spans: &[Span], rows:
     concurrent.starts.add(concurrent.others.len());
 }
 
-/// Adds what each of the rows gains that commits to the place after which it had ended.
-fn add_gains(
-    sums: &mut Table<i64>,
-    ended: &Table<usize>,
-    spans: &[Span],
-    rows: &[usize],
-    gains: &Table<i64>,
-) {
-    for place in 0..rows.len() {
-        if span_of(spans, rows[place]).commits == TRUE {
-            let first = ended.at(place);
-            let known = sums.at(first);
-            sums.set(first, known.wrapping_add(gains.at(place)));
-        }
-    }
-}
-
-/// Adds to each number all before it.
-fn sum_up(sums: &mut [i64]) {
-    let mut sum: i64 = 0;
-    for place in 0..sums.len() {
-        sum = sum.wrapping_add(sums[place]);
-        sums[place] = sum;
-    }
-}
-
-/// For each of the rows what those add up to that had ended before it began and commit.
+/// For each of the rows what those gain together that had ended before it began and commit.
 pub(crate) fn sum_ended(
     sums: &mut Table<i64>,
     concurrent: &Concurrent,
@@ -212,36 +186,21 @@ pub(crate) fn sum_ended(
 ) {
     sums.clear();
     sums.fill(rows.len().wrapping_add(1));
-    add_gains(sums, &concurrent.ended, spans, rows, gains);
-    sum_up(sums.items_mut());
-}
-
-/// Adds a term to the sum that is being made: the row stands before the other one, and commits.
-fn add_term(
-    sums: &mut Sums,
-    variables: &mut Variables,
-    spans: &[Span],
-    gain: i64,
-    row: usize,
-    other: usize,
-) {
-    let commits = span_of(spans, row).commits;
-    let stands = before(spans, row, other);
-    if gain == 0 || commits == FALSE || stands == FALSE {
-        return;
+    for place in 0..rows.len() {
+        if span_of(spans, rows[place]).commits == TRUE {
+            let first = concurrent.ended.at(place);
+            sums.set(first, sums.at(first).wrapping_add(gains.at(place)));
+        }
     }
-    ask(variables, stands);
-    let term = Term {
-        gain,
-        literals: [stands, commits],
-        sum: short(sums.sums.len()),
-        holding: u8::from(stands == TRUE).wrapping_add(u8::from(commits == TRUE)),
-        failing: 0,
-    };
-    sums.terms.add(term);
+    let mut sum: i64 = 0;
+    for place in 0..sums.len() {
+        sum = sum.wrapping_add(sums.at(place));
+        sums.set(place, sum);
+    }
 }
 
-/// Adds the terms of those that ran beside the row of that place, but for the one that is skipped.
+/// Adds the terms of those that ran beside the row of that place, but for the one that is skipped, to the sum that is being made: each
+/// stands before the row, and commits.
 pub(crate) fn add_terms(
     problem: &mut Problem,
     concurrent: &Concurrent,
@@ -250,13 +209,23 @@ pub(crate) fn add_terms(
     place: usize,
     skipped: usize,
 ) {
-    let (sums, variables) = (&mut problem.sums, &mut problem.variables);
     let row = at(rows, place, 0);
+    let sum = short(problem.sums.sums.len());
     for other in concurrent.others_of(place) {
-        if *other != skipped {
-            let (gain, from) = (gains.at(*other), at(rows, *other, 0));
-            add_term(sums, variables, &problem.spans, gain, from, row);
+        let (gain, from) = (gains.at(*other), at(rows, *other, 0));
+        let commits = span_of(&problem.spans, from).commits;
+        let stands = before(&problem.spans, from, row);
+        if *other == skipped || gain == 0 || commits == FALSE || stands == FALSE {
+            continue;
         }
+        ask(&mut problem.variables, stands);
+        problem.sums.terms.add(Term {
+            gain,
+            literals: [stands, commits],
+            sum,
+            holding: u8::from(stands == TRUE).wrapping_add(u8::from(commits == TRUE)),
+            failing: 0,
+        });
     }
 }
 
@@ -290,21 +259,15 @@ fn common(one: i64, other: i64) -> i64 {
     whole
 }
 
-/// Of the terms the greatest number that divides what each of them adds. It is 0 where there are none.
-fn divisor(terms: &[Term]) -> i64 {
-    let mut divisor: i64 = 0;
-    for term in terms {
-        divisor = common(term.gain.saturating_abs(), divisor);
-    }
-    divisor
-}
-
 /// The origin and what is wanted of a sum of such terms; where they leave another remainder, a sum that is out of reach.
 fn remainder_or_sum(terms: &[Term], origin: Origin, wanted: i64, high: i64) -> (Origin, i64) {
     let Origin::Counter(row, object) = origin else {
         return (origin, wanted);
     };
-    let modulus = divisor(terms);
+    let mut modulus: i64 = 0;
+    for term in terms {
+        modulus = common(term.gain.saturating_abs(), modulus);
+    }
     match wanted.checked_rem(modulus) {
         Some(0) | None => (origin, wanted),
         Some(_) => (

@@ -42,61 +42,32 @@ pub(crate) fn watch_all(clauses: &mut Clauses, count: usize) {
     }
 }
 
-/// The place of a literal of the clause after the first two that does not fail, or 0.
-fn find_other(known: &Known, arena: &[u32], place: usize) -> usize {
-    let length = at(arena, place, 0) as usize;
-    let from = place.wrapping_add(LITERALS);
-    for found in from.wrapping_add(2)..from.wrapping_add(length) {
-        if known.value(at(arena, found, 0)) != -1 {
-            return found;
-        }
-    }
-    0
-}
-
-/// What becomes of a clause that watches a literal which fails: another one is watched, or the only other one is given, which has to
-/// hold. It stays in the list if no other is watched.
+/// What becomes of a clause that watches a literal which fails, its first or second: another one is watched that does not fail, or the only other
+/// one is given, which has to hold. It stays in the list if no other is watched.
 fn visit(
     known: &Known,
     arena: &mut [u32],
     heads: &mut [u32],
-    clause: u32,
+    (clause, side): (u32, usize),
     failing: u32,
 ) -> Option<u32> {
     let place = clause as usize;
     let first = place.wrapping_add(LITERALS);
-    let side = usize::from(at(arena, first, 0) != failing);
     let other = at(arena, first.wrapping_add(1).wrapping_sub(side), 0);
     if known.value(other) != 1 {
-        let found = find_other(known, arena, place);
-        if found != 0 {
+        let length = at(arena, place, 0) as usize;
+        for found in first.wrapping_add(2)..first.wrapping_add(length) {
             let literal = at(arena, found, 0);
-            set(arena, first.wrapping_add(side), literal);
-            set(arena, found, failing);
-            watch(arena, heads, clause, side, literal);
-            return None;
+            if known.value(literal) != -1 {
+                set(arena, first.wrapping_add(side), literal);
+                set(arena, found, failing);
+                watch(arena, heads, clause, side, literal);
+                return None;
+            }
         }
     }
     watch(arena, heads, clause, side, failing);
     Some(other)
-}
-
-/// The next clause that watches the literal.
-fn next_of(arena: &[u32], clause: u32, failing: u32) -> u32 {
-    let first = (clause as usize).wrapping_add(LITERALS);
-    let side = usize::from(at(arena, first, 0) != failing);
-    at(
-        arena,
-        (clause as usize).wrapping_add(LINK).wrapping_add(side),
-        NONE,
-    )
-}
-
-/// The clause goes on watching the literal.
-fn keep(arena: &mut [u32], heads: &mut [u32], clause: u32, failing: u32) {
-    let first = at(arena, (clause as usize).wrapping_add(LITERALS), 0);
-    let side = usize::from(first != failing);
-    watch(arena, heads, clause, side, failing);
 }
 
 /// Looks at the clauses in which a literal fails, as its opposite holds. Where a clause fails the rest is not looked at.
@@ -109,14 +80,15 @@ fn visit_all(known: &mut Known, clauses: &mut Clauses, failing: u32) -> Option<C
         if next == NONE {
             break;
         }
-        let clause = next;
-        next = next_of(arena, clause, failing);
+        let (clause, place) = (next, next as usize);
+        let side = usize::from(at(arena, place.wrapping_add(LITERALS), 0) != failing);
+        next = at(arena, place.wrapping_add(LINK).wrapping_add(side), NONE);
         known.work = known.work.wrapping_add(1);
         if conflict.is_some() {
-            keep(arena, heads, clause, failing);
+            watch(arena, heads, clause, side, failing);
             continue;
         }
-        let Some(other) = visit(known, arena, heads, clause, failing) else {
+        let Some(other) = visit(known, arena, heads, (clause, side), failing) else {
             continue;
         };
         match known.value(other) {

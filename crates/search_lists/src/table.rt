@@ -41,6 +41,11 @@ impl<T: Copy + Drop> Table<T> {
         &self.items
     }
 
+    /// The items, as a list of their own.
+    pub fn into_items(self) -> Vec<T> {
+        self.items
+    }
+
     /// The items, to be changed or sorted.
     pub fn items_mut(&mut self) -> &mut [T] {
         &mut self.items
