@@ -81,14 +81,6 @@ impl<A: Allocator> MemorySink<A> {
     {
         self.bytes.as_slice()
     }
-
-    /// The bytes that were written, handed over. It does not allocate.
-    pub fn into_bytes(self) -> Vec<u8, A>
-        ensures { result.items ≡ self.bytes }
-    {
-        let MemorySink { bytes, .. } = self;
-        bytes
-    }
 }
 
 impl<A: Allocator> Sink for MemorySink<A> {

@@ -21,7 +21,7 @@ pub(crate) fn clause_of(cells: &Cells, spans: &[Span], source: u32, writer: u32)
     let found = cells.sources.at(source as usize);
     let reader = cells.readers.at(found.reader as usize).row;
     let other = cells.writers.at(writer as usize);
-    if other.row == reader || found.writer == writer {
+    if (other.row == reader) | (found.writer == writer) {
         return [TRUE; 4];
     }
     let last = before_row(spans, other.row, found.row);
@@ -29,24 +29,26 @@ pub(crate) fn clause_of(cells: &Cells, spans: &[Span], source: u32, writer: u32)
     [neg(found.literal), neg(other.commits), neg(stands), last]
 }
 
-/// Follows the clause of the source and the other writer: where all of its literals fail but one that is open, that one holds.
-fn follow(known: &mut Known, source: u32, writer: u32, clause: &[u32; 4]) -> Option<Conflict> {
+/// Follows the clause of the source and the other writer: where all of its literals fail but one that is open, that one holds. It gives whether
+/// there is one that does not fail.
+fn follow(known: &mut Known, source: u32, writer: u32, clause: [u32; 4]) -> bool {
     known.work = known.work.wrapping_add(1);
     let mut open = FALSE;
-    for literal in clause {
-        let found = known.value(*literal);
-        if found == 1 || (found == 0 && open != FALSE) {
-            return None;
+    for place in 0..4 {
+        let literal = clause[place];
+        let found = known.value(literal);
+        if (found == 1) | ((found == 0) & (open != FALSE)) {
+            return true;
         }
         if found == 0 {
-            open = *literal;
+            open = literal;
         }
     }
     if open == FALSE {
-        return Some(Conflict::Between(source, writer));
+        return false;
     }
     assign(known, open, Antecedent::Between(source, writer));
-    None
+    true
 }
 
 /// The source holds: no other writer stands between. Those are looked at from the last one on that began before the reader ended, as
@@ -60,11 +62,10 @@ pub(crate) fn propagate_source(
     let found = cells.sources.at(source as usize);
     let reader = cells.readers.at(found.reader as usize);
     let cell = cells.cells.at(reader.cell as usize);
-    let began = if found.writer == NONE {
-        0
-    } else {
-        span_of(spans, found.row as usize).first
-    };
+    let mut began = 0;
+    if found.writer != NONE {
+        began = span_of(spans, found.row as usize).first;
+    }
     let to = writers_before(cells, cell, span_of(spans, reader.row).end);
     for step in 0..to.saturating_sub(cell.writers) {
         let number = to.wrapping_sub(1).wrapping_sub(step);
@@ -73,10 +74,10 @@ pub(crate) fn propagate_source(
             break;
         }
         if !meets(reader.need, writer.value) {
-            let clause = clause_of(cells, spans, source, short(number));
-            let conflict = follow(known, source, short(number), &clause);
-            if conflict.is_some() {
-                return conflict;
+            let other = short(number);
+            let clause = clause_of(cells, spans, source, other);
+            if !follow(known, source, other, clause) {
+                return Some(Conflict::Between(source, other));
             }
         }
     }
@@ -112,7 +113,7 @@ fn propagate_reader(
     let found = cells.readers.at(reader as usize);
     let other = cells.writers.at(writer as usize);
     let commits = known.value(other.commits);
-    if commits == -1 || other.row == found.row || meets(found.need, other.value) {
+    if (commits == -1) | (other.row == found.row) | meets(found.need, other.value) {
         return None;
     }
     let stands = before(spans, other.row, found.row);
@@ -122,14 +123,13 @@ fn propagate_reader(
     for number in found.sources..found.sources_end {
         let source = cells.sources.at(number);
         let holds = known.value(source.literal);
-        if holds == -1 || (holds == 0 && commits == 0) {
+        if (holds == -1) | ((holds == 0) & (commits == 0)) {
             continue;
         }
         let last = before_row(spans, other.row, source.row);
         let clause = [neg(source.literal), neg(other.commits), neg(stands), last];
-        let conflict = follow(known, short(number), writer, &clause);
-        if conflict.is_some() {
-            return conflict;
+        if !follow(known, short(number), writer, clause) {
+            return Some(Conflict::Between(short(number), writer));
         }
     }
     None
@@ -153,18 +153,17 @@ fn propagate_writers(
     for place in one.feeds..one.feeds_end {
         let feed = cells.feeds.at(place as usize);
         let holds = known.value(feed.literal);
-        if holds == -1 || (holds == 0 && commits == 0) {
+        if (holds == -1) | ((holds == 0) & (commits == 0)) {
             continue;
         }
         let reader = cells.readers.at(feed.reader as usize);
-        if reader.row == two.row || meets(reader.need, two.value) {
+        if (reader.row == two.row) | meets(reader.need, two.value) {
             continue;
         }
         let stands = before(spans, two.row, reader.row);
         let clause = [neg(feed.literal), neg(two.commits), neg(stands), last];
-        let conflict = follow(known, feed.source, other, &clause);
-        if conflict.is_some() {
-            return conflict;
+        if !follow(known, feed.source, other, clause) {
+            return Some(Conflict::Between(feed.source, other));
         }
     }
     None
@@ -209,7 +208,7 @@ pub(crate) fn propagate_pair(
     let mut two = cells.starts.at(other);
     let two_end = cells.starts.at(other.wrapping_add(1));
     for _ in 0..cells.uses.len().saturating_mul(2) {
-        if one >= one_end || two >= two_end {
+        if (one >= one_end) | (two >= two_end) {
             break;
         }
         let mine = cells.uses.at(one);
@@ -239,7 +238,8 @@ pub(crate) fn check_commits(
 ) -> Option<Conflict> {
     let from = cells.starts.at(row);
     let to = cells.starts.at(row.wrapping_add(1));
-    for cell_use in cells.uses.range(from, to) {
+    for place in from..to {
+        let cell_use = cells.uses.at(place);
         if cell_use.writer == NONE {
             continue;
         }

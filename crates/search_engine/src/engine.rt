@@ -1,17 +1,21 @@
 //! The engine.
 
+use crate::analysis::Analysis;
+use crate::closure::Closure;
 use crate::counting::find_order;
 use crate::encoding::Role;
-use crate::literals::{NONE, Table, at, neg, push, short};
-use crate::orders::{block, first_bad, order_rows};
-use crate::problem::Allowance;
+use crate::heap::Heap;
+use crate::known::Known;
+use crate::literals::{NONE, TRUE, Table, at, neg, push, short};
+use crate::log::Log;
+use crate::orders::{NO_DECISION, Trial, block, first_bad, order_rows};
+use crate::problem::{Allowance, Problem};
 use crate::reading::{Encoded, read};
 use crate::refuted::refutation_of;
 use crate::solver::{
-    Found, NO_DECISION, Solver, backjump, begin, bytes_held, check_room, is_over, prepare, search,
-    solver_of,
+    Course, Found, Solver, backjump, begin, bytes_held, check_room, is_over, prepare, search,
 };
-use crate::spans::{instant, span_of};
+use crate::spans::{Span, instant, span_of};
 use aud_event::{ObjKind, OutOfMemory};
 use aud_order::Shape;
 use aud_witness::Decision;
@@ -70,39 +74,79 @@ pub(crate) struct Ranked {
     row: usize,
 }
 
-pub(crate) const NOT_RANKED: Ranked = Ranked { key: 0, row: 0 };
+const NOT_RANKED: Ranked = Ranked { key: 0, row: 0 };
 
-/// Ranks the rows in the order of their instants.
-fn rank_rows(solver: &mut Solver, twentieths: u64) {
-    solver.ranked.clear();
-    for (row, found) in solver.problem.spans.iter().enumerate() {
-        let key = instant(*found, twentieths);
-        solver.ranked.add(Ranked { key, row });
+/// The rows in the order of an instant, the rank of each, and literals that are taken to hold for a while, as they stand so.
+#[derive(Drop)]
+pub(crate) struct Ranking {
+    ranked: Table<Ranked>,
+    ranks: Table<usize>,
+    pub assumed: Table<u32>,
+}
+
+impl Ranking {
+    /// Of no rows yet. It does not allocate.
+    pub(crate) fn empty(alloc: Global) -> Ranking {
+        Ranking {
+            ranked: Table::new(alloc, NOT_RANKED),
+            ranks: Table::new(alloc, 0),
+            assumed: Table::new(alloc, TRUE),
+        }
     }
-    solver.ranked.items_mut().sort_unstable();
-    solver.ranks.fill(solver.ranked.len());
-    for (rank, found) in solver.ranked.items().iter().enumerate() {
-        solver.ranks.set(found.row, rank);
+
+    /// Whether some growth was refused.
+    pub(crate) fn is_short(&self) -> bool {
+        self.ranked.is_short() | self.ranks.is_short() | self.assumed.is_short()
+    }
+
+    /// Whether something is taken to hold for a while.
+    pub(crate) fn has_assumed(&self) -> bool {
+        !self.assumed.is_empty()
     }
 }
 
+/// Sorts the rows by their instants.
+fn sort_rows(ranked: &mut Table<Ranked>, spans: &[Span], twentieths: u64) {
+    ranked.clear();
+    for row in 0..spans.len() {
+        let key = instant(span_of(spans, row), twentieths);
+        ranked.add(Ranked { key, row });
+    }
+    ranked.items_mut().sort_unstable();
+}
+
+/// Notes the rank of each row.
+fn note_ranks(ranks: &mut Table<usize>, ranked: &Table<Ranked>) {
+    ranks.fill(ranked.len());
+    for rank in 0..ranked.len() {
+        ranks.set(ranked.at(rank).row, rank);
+    }
+}
+
+/// Ranks the rows in the order of their instants.
+fn rank_rows(ranking: &mut Ranking, spans: &[Span], twentieths: u64) {
+    sort_rows(&mut ranking.ranked, spans, twentieths);
+    note_ranks(&mut ranking.ranks, &ranking.ranked);
+}
+
+/// Whether both rows ended.
+fn have_ended(spans: &[Span], row: usize, other: usize) -> bool {
+    (span_of(spans, row).last != NONE) & (span_of(spans, other).last != NONE)
+}
+
 /// Assumes that pairs of those that ended stand as in the order of the ranks, if they stand so far apart in it.
-fn assume_near(solver: &mut Solver, reach: usize) {
-    let spans = &solver.problem.spans[..];
-    let variables = &solver.problem.variables;
-    for variable in 1..variables.roles.len() {
-        let Role::Precedence(row, other) = variables.roles.at(variable) else {
+fn assume_near(assumed: &mut Table<u32>, problem: &Problem, ranks: &Table<usize>, reach: usize) {
+    for variable in 1..problem.variables.roles.len() {
+        let Role::Precedence(row, other) = problem.variables.roles.at(variable) else {
             continue;
         };
         let (row, other) = (row as usize, other as usize);
-        let have_ended = span_of(spans, row).last != NONE && span_of(spans, other).last != NONE;
-        let (one, two) = (solver.ranks.at(row), solver.ranks.at(other));
-        let is_asked = have_ended && variables.choices.at(variable);
-        if is_asked && one.abs_diff(two) > reach {
+        let one = ranks.at(row);
+        let two = ranks.at(other);
+        let is_asked = problem.variables.choices.at(variable);
+        if is_asked & (one.abs_diff(two) > reach) & have_ended(&problem.spans, row, other) {
             let literal = short(variable).wrapping_mul(2);
-            solver
-                .assumed
-                .add(if one < two { literal } else { neg(literal) });
+            assumed.add(if one < two { literal } else { neg(literal) });
         }
     }
 }
@@ -126,30 +170,6 @@ fn widen(nears: &mut [Near], place: usize, count: usize) {
             found.is_open = false;
         }
     }
-}
-
-/// What the trial of an order came to: it is good, or the search goes on without it, or there is no order.
-#[derive(Clone, Copy)]
-enum Tried {
-    Good,
-    Blocked,
-    NoOrder,
-}
-
-/// Tries the order that the search found. If the trial refutes it, the search goes on without it, if it can.
-fn try_found(alloc: Global, shape: &Shape, solver: &mut Solver) -> Result<Tried, OutOfMemory> {
-    order_rows(solver);
-    check_room(solver)?;
-    let Some(place) = first_bad(alloc, shape, solver.order.items())? else {
-        return Ok(Tried::Good);
-    };
-    let is_open = block(solver, place);
-    check_room(solver)?;
-    Ok(if is_open {
-        Tried::Blocked
-    } else {
-        Tried::NoOrder
-    })
 }
 
 /// The restarts of a search: plain ones, whose lengths are in units of so many conflicts, and ones near the orders of instants by turns.
@@ -183,20 +203,31 @@ fn schedule_for(rows: usize) -> Schedule {
     }
 }
 
-/// Assumes what the next restart does, and gives how many conflicts it may take, and the instant that it is near, if it is near one.
-fn begin_restart(schedule: &mut Schedule, solver: &mut Solver) -> (u64, Option<usize>) {
-    let restart = schedule.restart;
-    let Luby { index, share } = schedule.luby;
-    schedule.restart = restart.wrapping_add(1);
-    schedule.luby = if index & index.wrapping_neg() == share {
-        let index = index.wrapping_add(1);
-        Luby { index, share: 1 }
+/// The share of the next restart.
+fn next_share(luby: &mut Luby) -> u64 {
+    let share = luby.share;
+    if luby.index & luby.index.wrapping_neg() == share {
+        luby.index = luby.index.wrapping_add(1);
+        luby.share = 1;
     } else {
-        let share = share.wrapping_mul(2);
-        Luby { index, share }
-    };
-    solver.tries_best = restart % 2 == 0;
-    solver.assumed.clear();
+        luby.share = share.wrapping_mul(2);
+    }
+    share
+}
+
+/// Assumes pairs as in the order of the instant, if they stand far apart in it.
+fn assume_instant(ranking: &mut Ranking, problem: &Problem, found: Near) {
+    rank_rows(ranking, &problem.spans, found.twentieths);
+    assume_near(&mut ranking.assumed, problem, &ranking.ranks, found.reach);
+}
+
+/// Assumes what the next restart does, and gives how many conflicts it may take, and the instant that it is near, if it is near one.
+fn begin_restart(schedule: &mut Schedule, solver: &mut Solver<'_>) -> (u64, Option<usize>) {
+    let restart = schedule.restart;
+    let share = next_share(&mut schedule.luby);
+    schedule.restart = restart.wrapping_add(1);
+    solver.course.tries_best = restart % 2 == 0;
+    solver.ranking.assumed.clear();
     let plain = (share.saturating_mul(schedule.unit), None);
     if restart < 6 || restart % 2 == 1 {
         return plain;
@@ -205,15 +236,13 @@ fn begin_restart(schedule: &mut Schedule, solver: &mut Solver) -> (u64, Option<u
         return plain;
     };
     schedule.turn = place;
-    let found = schedule.nears[place % 4];
-    rank_rows(solver, found.twentieths);
     backjump(solver, 0);
-    assume_near(solver, found.reach);
+    assume_instant(solver.ranking, solver.problem, schedule.nears[place % 4]);
     (restart.saturating_mul(100).saturating_add(300), Some(place))
 }
 
 /// Whether it is time for the next beam: the rows only count, and the other search did as much as all beams before.
-fn is_beam_due(solver: &Solver, schedule: &Schedule) -> bool {
+fn is_beam_due(solver: &Solver<'_>, schedule: &Schedule) -> bool {
     solver.problem.counting.is_all
         && schedule.restart >= 6
         && schedule.beam_work.saturating_mul(2) <= solver.known.work
@@ -223,7 +252,7 @@ fn is_beam_due(solver: &Solver, schedule: &Schedule) -> bool {
 fn try_beam(
     alloc: Global,
     shape: &Shape,
-    solver: &mut Solver,
+    solver: &mut Solver<'_>,
     schedule: &mut Schedule,
     effort: Effort,
 ) -> Result<bool, OutOfMemory> {
@@ -231,15 +260,14 @@ fn try_beam(
     schedule.beams = number.saturating_add(1);
     let most = effort.work.saturating_sub(done);
     let bytes = effort.bytes.saturating_sub(bytes_held(solver)) / 2;
-    let (problem, order) = (&solver.problem, &mut solver.order);
-    let (is_found, work) = find_order(alloc, problem, order, number, most, bytes)?;
+    let order = &mut solver.trial.order;
+    let (is_found, work) = find_order(alloc, solver.problem, order, number, most, bytes)?;
     schedule.beam_work = schedule.beam_work.saturating_add(work);
     solver.known.work = done.saturating_add(work);
     if !is_found {
         return Ok(false);
     }
-    check_room(solver)?;
-    Ok(first_bad(alloc, shape, solver.order.items())?.is_none())
+    Ok(first_bad(alloc, shape, solver.trial.order.items())?.is_none())
 }
 
 /// How a search ended.
@@ -252,42 +280,52 @@ enum Ended {
     Spent,
 }
 
+/// Tries the order that the search found. If the trial refutes it, the search goes on without it, if it can: then it has not ended.
+fn try_found(
+    alloc: Global,
+    shape: &Shape,
+    solver: &mut Solver<'_>,
+) -> Result<Option<Ended>, OutOfMemory> {
+    order_rows(solver);
+    let Some(place) = first_bad(alloc, shape, solver.trial.order.items())? else {
+        return Ok(Some(Ended::Order));
+    };
+    if block(solver, place) {
+        Ok(None)
+    } else {
+        Ok(Some(Ended::NoOrder))
+    }
+}
+
 /// What the restart came to, which searched near that instant, if near one. None where the search goes on.
 fn end_restart(
     alloc: Global,
     shape: &Shape,
-    solver: &mut Solver,
+    solver: &mut Solver<'_>,
     schedule: &mut Schedule,
     near: Option<usize>,
     effort: Effort,
     found: Found,
 ) -> Result<Option<Ended>, OutOfMemory> {
     match found {
-        Found::NoOrder => return Ok(Some(Ended::NoOrder)),
-        Found::All => match try_found(alloc, shape, solver)? {
-            Tried::Good => return Ok(Some(Ended::Order)),
-            Tried::Blocked => {}
-            Tried::NoOrder => return Ok(Some(Ended::NoOrder)),
-        },
+        Found::NoOrder => Ok(Some(Ended::NoOrder)),
+        Found::All => try_found(alloc, shape, solver),
         Found::NotAssumed => {
             if let Some(place) = near {
                 widen(&mut schedule.nears, place, solver.problem.spans.len());
             }
+            Ok(None)
         }
-        Found::Spent => {
-            if is_over(solver, effort) {
-                return Ok(Some(Ended::Spent));
-            }
-        }
+        Found::Spent if is_over(solver, effort) => Ok(Some(Ended::Spent)),
+        Found::Spent => Ok(None),
     }
-    Ok(None)
 }
 
 /// Makes the next restart, after a beam, if it is time for one. None where the search goes on.
 fn restart(
     alloc: Global,
     shape: &Shape,
-    solver: &mut Solver,
+    solver: &mut Solver<'_>,
     schedule: &mut Schedule,
     effort: Effort,
 ) -> Result<Option<Ended>, OutOfMemory> {
@@ -295,20 +333,23 @@ fn restart(
         return Ok(Some(Ended::Order));
     }
     let (budget, near) = begin_restart(schedule, solver);
-    let most = solver.conflicts.saturating_add(budget);
+    let most = solver.course.conflicts.saturating_add(budget);
     let limits = Effort {
         conflicts: most.min(effort.conflicts),
-        ..effort
+        work: effort.work,
+        bytes: effort.bytes,
     };
-    let found = search(solver, limits)?;
-    end_restart(alloc, shape, solver, schedule, near, effort, found)
+    let found = search(solver, limits);
+    let ended = end_restart(alloc, shape, solver, schedule, near, effort, found)?;
+    check_room(solver)?;
+    Ok(ended)
 }
 
 /// Searches by restarts, plainly and near the orders of instants by turns.
 fn search_by_restarts(
     alloc: Global,
     shape: &Shape,
-    solver: &mut Solver,
+    solver: &mut Solver<'_>,
     effort: Effort,
 ) -> Result<Ended, OutOfMemory> {
     let mut schedule = schedule_for(solver.problem.spans.len());
@@ -322,12 +363,12 @@ fn search_by_restarts(
 }
 
 /// The refutation that the search wrote down. None where it wrote nothing down.
-fn refuted(alloc: Global, solver: &Solver) -> Result<Option<Solved>, OutOfMemory> {
+fn refuted(alloc: Global, solver: &Solver<'_>) -> Result<Option<Solved>, OutOfMemory> {
     let (steps, last) = (&solver.log.steps, solver.log.last);
     if last == NONE {
         return Ok(None);
     }
-    match refutation_of(alloc, &solver.problem, steps, last)? {
+    match refutation_of(alloc, solver.problem, steps, last)? {
         Some(refutation) => Ok(Some(Solved::Refuted(refutation))),
         None => Ok(Some(Solved::Unknown)),
     }
@@ -353,10 +394,10 @@ fn refuted_by(alloc: Global, law: ObjectLaw) -> Result<Solved, OutOfMemory> {
 fn read_and_search(
     alloc: Global,
     shape: &Shape,
-    solver: &mut Solver,
+    solver: &mut Solver<'_>,
     effort: Effort,
 ) -> Result<Option<Solved>, OutOfMemory> {
-    match read(alloc, shape, &mut solver.problem)? {
+    match read(alloc, shape, solver.problem)? {
         Encoded::Whole => {}
         Encoded::Large => return Ok(Some(Solved::Unknown)),
         Encoded::Clash(tx, object, cell) => {
@@ -364,18 +405,20 @@ fn read_and_search(
             return Ok(Some(refuted_by(alloc, law)?));
         }
     }
-    prepare(solver)?;
-    let ended = if begin(solver)? {
-        search_by_restarts(alloc, shape, solver, effort)?
-    } else {
-        Ended::NoOrder
-    };
+    prepare(solver);
+    check_room(solver)?;
+    let is_open = begin(solver);
+    check_room(solver)?;
+    let mut ended = Ended::NoOrder;
+    if is_open {
+        ended = search_by_restarts(alloc, shape, solver, effort)?;
+    }
     match ended {
         Ended::Spent => Ok(Some(Solved::Unknown)),
         Ended::NoOrder => refuted(alloc, solver),
         Ended::Order => {
             let empty = Table::new(alloc, NO_DECISION);
-            let order = std::mem::replace(&mut solver.order, empty);
+            let order = std::mem::replace(&mut solver.trial.order, empty);
             Ok(Some(Solved::Order(order.into_items())))
         }
     }
@@ -393,7 +436,26 @@ fn search_once(
         most: effort.work,
         bytes: effort.bytes,
     };
-    let mut solver = solver_of(alloc, allowance, logs);
+    let mut problem = Problem::empty(alloc, allowance);
+    let mut known = Known::empty(alloc);
+    let mut closure = Closure::empty(alloc);
+    let mut heap = Heap::empty(alloc);
+    let mut analysis = Analysis::empty(alloc);
+    let mut log = Log::empty(alloc, logs);
+    let mut trial = Trial::empty(alloc);
+    let mut ranking = Ranking::empty(alloc);
+    let mut course = Course::empty(alloc);
+    let mut solver = Solver {
+        problem: &mut problem,
+        known: &mut known,
+        closure: &mut closure,
+        heap: &mut heap,
+        analysis: &mut analysis,
+        log: &mut log,
+        trial: &mut trial,
+        ranking: &mut ranking,
+        course: &mut course,
+    };
     read_and_search(alloc, shape, &mut solver, effort)
 }
 

@@ -31,9 +31,10 @@ pub(crate) const NO_CONTRIBUTION: Contribution = Contribution {
 
 /// Adds the opposites of the clause's literals other than the forced one. They hold.
 fn add_others(literals: &[u32], forced: u32, out: &mut Table<u32>) {
-    for literal in literals {
-        if *literal != forced && var(*literal) != 0 {
-            out.add(neg(*literal));
+    for place in 0..literals.len() {
+        let literal = literals[place];
+        if (literal != forced) & (var(literal) != 0) {
+            out.add(neg(literal));
         }
     }
 }
@@ -61,15 +62,21 @@ pub(crate) fn pair_of(roles: &Table<Role>, literal: u32) -> Option<(usize, usize
     }
 }
 
+/// Adds the literal that the one row stands before the other, unless they are the same or real time says so.
+fn add_before(spans: &[Span], row: usize, other: usize, out: &mut Table<u32>) {
+    let literal = before(spans, row, other);
+    if (row != other) & (literal != TRUE) {
+        out.add(literal);
+    }
+}
+
 /// The literals of a circle over the pair, but for the one that the first row stands before the last.
 fn add_circle(spans: &[Span], ends: (usize, usize), pair: (usize, usize), out: &mut Table<u32>) {
-    let steps = [(ends.0, pair.0), pair, (pair.1, ends.1)];
-    for (row, other) in &steps {
-        let literal = before(spans, *row, *other);
-        if *row != *other && literal != TRUE {
-            out.add(literal);
-        }
-    }
+    let (first, last) = ends;
+    let (row, other) = pair;
+    add_before(spans, first, row, out);
+    add_before(spans, row, other, out);
+    add_before(spans, other, last, out);
 }
 
 /// Whether the term was known to hold or to fail before that place.
@@ -90,6 +97,33 @@ fn contributes_at(known: &Known, term: &Term, rises: bool) -> u32 {
     }
 }
 
+/// Whether the term is the forced literal's own: it has the literal that is wanted of it, and was not known before that place. If it rises, its
+/// other literal is added, unless that holds in any case.
+fn take_own(
+    known: &Known,
+    term: &Term,
+    rises: bool,
+    wanted: u32,
+    limit: u32,
+    out: &mut Table<u32>,
+) -> bool {
+    let [first, second] = term.literals;
+    if (first != wanted) & (second != wanted) {
+        return false;
+    }
+    if is_known(known, term, limit) {
+        return false;
+    }
+    let mut other = first;
+    if first == wanted {
+        other = second;
+    }
+    if rises & (other != TRUE) {
+        out.add(other);
+    }
+    true
+}
+
 /// Finds the terms that contribute to the bound before the limit, the forced literal's own term aside, whose other literal is added. It gives
 /// what the contributions have to add up to so that the bound is crossed.
 fn find_contributions(
@@ -104,35 +138,71 @@ fn find_contributions(
     let sign: i64 = if is_low { 1 } else { -1 };
     let mut lacks = sum.wanted.wrapping_mul(sign).wrapping_add(1);
     let mut is_found = forced == FALSE;
-    for place in sum.from..sum.to {
-        let term = view.problem.sums.terms.at(place);
-        let gain = term.gain.wrapping_mul(sign);
-        let rises = gain > 0;
+    for number in sum.from..sum.to {
+        let term = view.problem.sums.terms.at(number);
+        let change = term.gain.wrapping_mul(sign);
+        let gain = change.wrapping_abs();
+        let rises = change > 0;
+        let mut wanted = neg(forced);
         if !rises {
-            lacks = lacks.wrapping_sub(gain);
+            wanted = forced;
+            lacks = lacks.wrapping_add(gain);
         }
-        let wanted = if rises { neg(forced) } else { forced };
-        let is_own = !is_found && term.literals.contains(&wanted);
-        if is_own && !is_known(view.known, &term, limit) {
+        if !is_found && take_own(view.known, &term, rises, wanted, limit, out) {
             is_found = true;
-            lacks = lacks.wrapping_sub(gain.wrapping_abs());
-            let [first, second] = term.literals;
-            let other = if first == wanted { second } else { first };
-            if rises && other != TRUE {
-                out.add(other);
-            }
+            lacks = lacks.wrapping_sub(gain);
             continue;
         }
-        let came = contributes_at(view.known, &term, rises);
-        if came < limit {
+        let place = contributes_at(view.known, &term, rises);
+        if place < limit {
             contributions.add(Contribution {
-                place: came,
-                gain: gain.wrapping_abs(),
-                term: place,
+                place,
+                gain,
+                term: number,
             });
         }
     }
     lacks
+}
+
+/// Adds the literals by which the term contributes: both, if it does as it holds, or the one that failed first.
+fn add_literals(known: &Known, term: &Term, holds: bool, out: &mut Table<u32>) {
+    let [first, second] = term.literals;
+    if holds {
+        if first != TRUE {
+            out.add(first);
+        }
+        if second != TRUE {
+            out.add(second);
+        }
+        return;
+    }
+    let mut literal = second;
+    if place_if(known, first, -1) <= place_if(known, second, -1) {
+        literal = first;
+    }
+    out.add(neg(literal));
+}
+
+/// Adds the literals of the earliest contributions that add up to what the bound lacks.
+fn add_earliest(
+    view: &View<'_>,
+    is_low: bool,
+    bound: i64,
+    contributions: &Table<Contribution>,
+    out: &mut Table<u32>,
+) {
+    let mut lacks = bound;
+    for place in 0..contributions.len() {
+        if lacks <= 0 {
+            break;
+        }
+        let contribution = contributions.at(place);
+        lacks = lacks.wrapping_sub(contribution.gain);
+        let term = view.problem.sums.terms.at(contribution.term);
+        let rises = term.gain > 0;
+        add_literals(view.known, &term, rises == is_low, out);
+    }
 }
 
 /// The literals that force the least of the sum above what is wanted, or the greatest below it, before the limit: the earliest ones that
@@ -148,28 +218,10 @@ pub(crate) fn add_bound(
 ) {
     let sum = view.problem.sums.sums.at(number as usize);
     contributions.clear();
-    let mut lacks = find_contributions(view, &sum, is_low, forced, limit, contributions, out);
+    let lacks = find_contributions(view, &sum, is_low, forced, limit, contributions, out);
     contributions.items_mut().sort_unstable();
-    for contribution in contributions.items() {
-        if lacks <= 0 {
-            break;
-        }
-        lacks = lacks.wrapping_sub(contribution.gain);
-        let term = view.problem.sums.terms.at(contribution.term);
-        if (term.gain > 0) == is_low {
-            for literal in &term.literals {
-                if *literal != TRUE {
-                    out.add(*literal);
-                }
-            }
-        } else {
-            let [first, second] = term.literals;
-            let one = place_if(view.known, first, -1);
-            let other = place_if(view.known, second, -1);
-            out.add(neg(if one <= other { first } else { second }));
-        }
-    }
-    if sum.guard != TRUE && forced != neg(sum.guard) {
+    add_earliest(view, is_low, lacks, contributions, out);
+    if (sum.guard != TRUE) & (forced != neg(sum.guard)) {
         out.add(sum.guard);
     }
 }
@@ -197,15 +249,12 @@ pub(crate) fn explain(
             out,
         ),
         Antecedent::Between(source, writer) => add_between(view, source, writer, literal, out),
-        Antecedent::Circle(row, other) => match pair_of(&view.problem.variables.roles, literal) {
-            Some(ends) => add_circle(
-                &view.problem.spans,
-                ends,
-                (row as usize, other as usize),
-                out,
-            ),
-            None => {}
-        },
+        Antecedent::Circle(row, other) => {
+            if let Some(ends) = pair_of(&view.problem.variables.roles, literal) {
+                let pair = (row as usize, other as usize);
+                add_circle(&view.problem.spans, ends, pair, out);
+            }
+        }
         Antecedent::Low(sum) => add_bound(view, sum, true, literal, limit, contributions, out),
         Antecedent::High(sum) => add_bound(view, sum, false, literal, limit, contributions, out),
     }
@@ -225,12 +274,8 @@ pub(crate) fn explain_conflict(
             out,
         ),
         Conflict::Circle(row, from, to, other) => {
-            let spans = &view.problem.spans[..];
-            let literal = before(spans, other, row);
-            if row != other && literal != TRUE {
-                out.add(literal);
-            }
-            add_circle(spans, (row, other), (from, to), out)
+            add_before(&view.problem.spans, other, row, out);
+            add_circle(&view.problem.spans, (row, other), (from, to), out)
         }
         Conflict::Between(source, writer) => add_between(view, source, writer, FALSE, out),
         Conflict::Sum(sum, is_low) => add_bound(view, sum, is_low, FALSE, NONE, contributions, out),

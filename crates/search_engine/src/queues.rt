@@ -1,6 +1,6 @@
 //! Queues: which addition is taken, how many are taken and added before, and what was added before is taken before.
 
-use crate::encoding::{Origin, Role, add_clause, add_variable, ask};
+use crate::encoding::{Origin, Role, Variables, add_clause, add_variable, ask};
 use crate::literals::{FALSE, NONE, TRUE, Table, at, neg, range, short};
 use crate::problem::{Problem, is_large, spend};
 use crate::spans::{Span, before, instant, span_of};
@@ -8,7 +8,7 @@ use crate::sums::{Concurrent, add_all_terms, add_terms, end_sum, find_concurrent
 use std::alloc::Global;
 
 /// What a transaction does on a queue.
-#[derive(Clone, Copy, PartialEq, Eq)]
+#[derive(Clone, Copy)]
 pub(crate) enum QueueOp {
     Adds(i64),
     Takes(i64),
@@ -170,12 +170,6 @@ impl QueueUse {
     pub(crate) fn begin(&mut self, object: u16) {
         self.object = object;
         self.rows.clear();
-        self.takes.clear();
-        self.adds.clear();
-        self.both.clear();
-        self.adders.clear();
-        self.takers.clear();
-        self.added.clear();
     }
 
     /// Whether some growth was refused.
@@ -241,76 +235,125 @@ fn may_commit(rows: &Table<usize>, spans: &[Span], place: usize) -> bool {
     span_of(spans, rows.at(place)).commits != FALSE
 }
 
-/// Reads who adds what, as which of its own additions, and, of those that may commit, who takes what and how many each takes and adds.
-fn read_ops(queue: &mut QueueUse, spans: &[Span], ops: &[PlacedOp]) {
-    queue.takes.fill(queue.rows.len());
-    queue.adds.fill(queue.rows.len());
-    let mut index: u32 = 0;
-    let mut last = usize::MAX;
-    for found in ops {
-        let place = found.place;
-        if place != last {
-            index = 0;
-            last = place;
-        }
-        let commits = may_commit(&queue.rows, spans, place);
-        match found.op {
-            QueueOp::Adds(value) => {
-                queue.adders.add(Holding {
-                    value,
-                    place,
-                    index,
-                });
-                index = index.wrapping_add(1);
-                count(&mut queue.adds, place, -i64::from(commits));
+/// Counts how many each row takes, and less how many it adds, if it may commit.
+fn count_ops(
+    takes: &mut Table<i64>,
+    adds: &mut Table<i64>,
+    rows: &Table<usize>,
+    spans: &[Span],
+    ops: &[PlacedOp],
+) {
+    takes.clear();
+    adds.clear();
+    takes.fill(rows.len());
+    adds.fill(rows.len());
+    for index in 0..ops.len() {
+        let found = ops[index];
+        if may_commit(rows, spans, found.place) {
+            match found.op {
+                QueueOp::Adds(_) => count(adds, found.place, -1),
+                QueueOp::Takes(_) => count(takes, found.place, 1),
+                QueueOp::SeesEmpty => {}
             }
-            QueueOp::Takes(value) if commits => {
-                queue.takers.add(Holding {
-                    value,
-                    place,
-                    index: 0,
-                });
-                count(&mut queue.takes, place, 1);
-            }
-            _ => {}
         }
     }
 }
 
-/// The value that the row at the place adds, with who may take it.
-fn added_by(queue: &QueueUse, spans: &[Span], place: usize, value: i64) -> Added {
-    let takers = place_of(queue.takers.items(), value, false);
-    let takers_end = place_of(queue.takers.items(), value, true);
+/// Lists by the values who adds them, as which of its own additions, and who takes them, of those that may commit.
+fn list_holdings(
+    adders: &mut Table<Holding>,
+    takers: &mut Table<Holding>,
+    rows: &Table<usize>,
+    spans: &[Span],
+    ops: &[PlacedOp],
+) {
+    adders.clear();
+    takers.clear();
+    let mut last = NOT_HELD;
+    last.place = usize::MAX;
+    for number in 0..ops.len() {
+        let found = ops[number];
+        if found.place != last.place {
+            last.place = found.place;
+            last.index = 0;
+        }
+        match found.op {
+            QueueOp::Adds(value) => {
+                last.value = value;
+                adders.add(last);
+                last.index = last.index.wrapping_add(1);
+            }
+            QueueOp::Takes(value) => if may_commit(rows, spans, found.place) {
+                takers.add(Holding {
+                    value,
+                    place: found.place,
+                    index: 0,
+                });
+            },
+            QueueOp::SeesEmpty => {}
+        }
+    }
+    adders.items_mut().sort_unstable();
+    takers.items_mut().sort_unstable();
+}
+
+/// What each row takes, less what it adds.
+fn add_counts(both: &mut Table<i64>, takes: &Table<i64>, adds: &Table<i64>) {
+    both.clear();
+    for place in 0..takes.len() {
+        both.add(takes.at(place).wrapping_add(adds.at(place)));
+    }
+}
+
+/// The value that the row at the place adds, with who may take it. There is no next one yet.
+fn added_by(
+    takers: &Table<Holding>,
+    rows: &Table<usize>,
+    spans: &[Span],
+    place: usize,
+    value: i64,
+) -> Added {
+    let first = place_of(takers.items(), value, false);
+    let takers_end = place_of(takers.items(), value, true);
     let mut taken = NONE;
-    for number in takers..takers_end {
-        let row = queue.rows.at(queue.takers.at(number).place);
+    for number in first..takers_end {
+        let row = rows.at(takers.at(number).place);
         taken = taken.min(span_of(spans, row).last);
     }
     Added {
         place,
         value,
-        takers,
+        takers: first,
         takers_end,
         taken,
-        next: queue.added.len().wrapping_add(1),
+        next: 0,
     }
 }
 
 /// Lists the values that are added by those that may commit, in the order of their rows, after one that is none. A row's value after
 /// itself counts once.
-fn list_added(queue: &mut QueueUse, spans: &[Span], ops: &[PlacedOp]) {
+fn list_added(
+    added: &mut Table<Added>,
+    takers: &Table<Holding>,
+    rows: &Table<usize>,
+    spans: &[Span],
+    ops: &[PlacedOp],
+) {
     let mut last = NOT_ADDED;
     last.place = usize::MAX;
     last.next = 1;
-    queue.added.add(last);
-    for found in ops {
+    added.clear();
+    added.add(last);
+    for number in 0..ops.len() {
+        let found = ops[number];
         let QueueOp::Adds(value) = found.op else {
             continue;
         };
-        let is_same = last.place == found.place && last.value == value;
-        if !is_same && may_commit(&queue.rows, spans, found.place) {
-            last = added_by(queue, spans, found.place, value);
-            queue.added.add(last);
+        let is_same = (last.place == found.place) & (last.value == value);
+        if !is_same && may_commit(rows, spans, found.place) {
+            last = added_by(takers, rows, spans, found.place, value);
+            last.next = added.len().wrapping_add(1);
+            added.add(last);
         }
     }
 }
@@ -332,51 +375,76 @@ struct Guard {
     item: u32,
 }
 
+/// Puts the item at the end of the list, and gives its number.
+fn number_item<T: Copy + Drop>(list: &mut Table<T>, item: T) -> u32 {
+    let number = short(list.len());
+    list.add(item);
+    number
+}
+
+/// Adds to the clause that one of the takers of what was added stands before the asked row, that row's own takes aside.
+fn list_takers(
+    clause: &mut Table<u32>,
+    takers: &Table<Holding>,
+    rows: &Table<usize>,
+    spans: &[Span],
+    asked: Demand,
+    added: Added,
+) {
+    let mut last = asked.place;
+    for number in added.takers..added.takers_end {
+        let place = takers.at(number).place;
+        if (place != asked.place) & (place != last) {
+            last = place;
+            clause.add(before(spans, rows.at(place), asked.take.row));
+        }
+    }
+}
+
+/// The values of the variables of all these literals may be chosen.
+fn ask_all(variables: &mut Variables, literals: &[u32]) {
+    for place in 0..literals.len() {
+        ask(variables, literals[place]);
+    }
+}
+
 /// The law that the value that another row added before is taken before: one of its takers stands before the asked row, that row's own takes
 /// aside.
 fn add_gone(
     queue: &mut QueueUse,
     problem: &mut Problem,
     asked: Demand,
-    added: Added,
+    known: usize,
     ahead: u32,
     guard: Guard,
 ) {
-    let number = short(problem.items.gone.len());
-    let row = queue.rows.at(added.place);
-    problem.items.gone.add(GoneOf {
+    let added = queue.added.at(known);
+    let rows = &queue.rows;
+    let clause = &mut queue.clause;
+    let spans = &problem.spans[..];
+    let row = rows.at(added.place);
+    let gone = GoneOf {
         take: asked.take,
         item: guard.item,
         row,
         value: added.value,
-    });
-    let commits = span_of(&problem.spans, row).commits;
-    let denied = [neg(ahead), neg(guard.literal), neg(commits)];
-    queue.clause.clear();
-    queue.clause.add_all(&denied);
-    let mut last = asked.place;
-    for number in added.takers..added.takers_end {
-        let place = queue.takers.at(number).place;
-        if place != asked.place && place != last {
-            last = place;
-            let taker = queue.rows.at(place);
-            queue
-                .clause
-                .add(before(&problem.spans, taker, asked.take.row));
-        }
-    }
-    for literal in queue.clause.items() {
-        ask(&mut problem.variables, *literal);
-    }
-    let origin = Origin::Gone(number);
-    add_clause(&mut problem.clauses, origin, queue.clause.items());
+    };
+    let origin = Origin::Gone(number_item(&mut problem.items.gone, gone));
+    let commits = span_of(spans, row).commits;
+    clause.clear();
+    clause.add_all(&[neg(ahead), neg(guard.literal), neg(commits)]);
+    list_takers(clause, &queue.takers, rows, spans, asked, added);
+    ask_all(&mut problem.variables, clause.items());
+    add_clause(&mut problem.clauses, origin, clause.items());
 }
 
 /// Whether the row takes the value from the queue. Its operations are given.
 fn takes_value(ops: &[PlacedOp], value: i64) -> bool {
-    for found in ops {
-        if found.op == QueueOp::Takes(value) {
-            return true;
+    for number in 0..ops.len() {
+        if let QueueOp::Takes(taken) = ops[number].op {
+            if taken == value {
+                return true;
+            }
         }
     }
     false
@@ -397,6 +465,36 @@ fn next_added(added: &mut Table<Added>, known: usize, began: u32) -> usize {
     added.len()
 }
 
+/// Whether what was added at the place, and all after it, surely was added after the item of the row at the other place.
+fn is_past(queue: &QueueUse, problem: &Problem, known: usize, adder: usize) -> bool {
+    let spans = &problem.spans[..];
+    let row = queue.rows.at(queue.added.at(known).place);
+    let last = span_of(spans, queue.rows.at(adder)).last;
+    (known >= queue.added.len()) | (span_of(spans, row).first > last)
+}
+
+/// The literal that what was added at the place was added before the item of the row at the other place. It never holds where that row or the asked
+/// one added it, or the asked row's own operations take it.
+fn added_ahead(
+    queue: &QueueUse,
+    problem: &Problem,
+    own: &[PlacedOp],
+    asked: Demand,
+    known: usize,
+    adder: usize,
+) -> u32 {
+    let added = queue.added.at(known);
+    let row = queue.rows.at(added.place);
+    let ahead = before(&problem.spans, row, queue.rows.at(adder));
+    if (added.place == asked.place) | (added.place == adder) | (ahead == FALSE) {
+        return FALSE;
+    }
+    if takes_value(own, added.value) {
+        return FALSE;
+    }
+    ahead
+}
+
 /// What was added before the item of the row at that place, or before the queue is empty, is taken before.
 fn add_all_gone(
     queue: &mut QueueUse,
@@ -407,21 +505,58 @@ fn add_all_gone(
     guard: Guard,
 ) {
     let began = span_of(&problem.spans, asked.take.row).first;
-    let row = queue.rows.at(adder);
-    let last = span_of(&problem.spans, row).last;
     let mut known = 0;
     for _ in 0..queue.added.len() {
         spend(&mut problem.allowance, 1);
         known = next_added(&mut queue.added, known, began);
-        let found = queue.added.at(known);
-        let other = queue.rows.at(found.place);
-        if known >= queue.added.len() || span_of(&problem.spans, other).first > last {
+        if is_past(queue, problem, known, adder) {
             break;
         }
-        let ahead = before(&problem.spans, other, row);
-        let is_own = found.place == asked.place || found.place == adder;
-        if !is_own && ahead != FALSE && !takes_value(own, found.value) {
-            add_gone(queue, problem, asked, found, ahead, guard);
+        let ahead = added_ahead(queue, problem, own, asked, known, adder);
+        if ahead != FALSE {
+            add_gone(queue, problem, asked, known, ahead, guard);
+        }
+    }
+}
+
+/// Begins the list of the additions that the row may take the value from, with its own ones before.
+fn find_own(found: &mut Table<Holding>, own: &[PlacedOp], asked: Demand, value: i64) {
+    let mut held = NOT_HELD;
+    held.value = value;
+    held.place = asked.place;
+    found.clear();
+    for place in 0..own.len() {
+        let known = own[place];
+        if known.number >= asked.number {
+            break;
+        }
+        if let QueueOp::Adds(added) = known.op {
+            if added == value {
+                found.add(held);
+            }
+            held.index = held.index.wrapping_add(1);
+        }
+    }
+}
+
+/// Finds the additions of others that the row may take the value from: those that may commit, and stand before it.
+fn find_others(
+    found: &mut Table<Holding>,
+    adders: &Table<Holding>,
+    rows: &Table<usize>,
+    spans: &[Span],
+    asked: Demand,
+    value: i64,
+) {
+    let from = place_of(adders.items(), value, false);
+    let to = place_of(adders.items(), value, true);
+    for number in from..to {
+        let held = adders.at(number);
+        let stands = before(spans, rows.at(held.place), asked.take.row);
+        if (held.place != asked.place) & (stands != FALSE) {
+            if may_commit(rows, spans, held.place) {
+                found.add(held);
+            }
         }
     }
 }
@@ -429,34 +564,9 @@ fn add_all_gone(
 /// Finds the additions that the row may take the value from: first its own ones before, then those of others that may commit, and stand before
 /// it.
 fn find_items(queue: &mut QueueUse, spans: &[Span], own: &[PlacedOp], asked: Demand, value: i64) {
-    let place = asked.place;
-    let mut index: u32 = 0;
-    queue.found.clear();
-    for known in own {
-        if known.number >= asked.number {
-            break;
-        }
-        if let QueueOp::Adds(added) = known.op {
-            if added == value {
-                queue.found.add(Holding {
-                    value,
-                    place,
-                    index,
-                });
-            }
-            index = index.wrapping_add(1);
-        }
-    }
-    let from = place_of(queue.adders.items(), value, false);
-    let to = place_of(queue.adders.items(), value, true);
-    for number in from..to {
-        let held = queue.adders.at(number);
-        let stands = before(spans, queue.rows.at(held.place), asked.take.row);
-        let may_be_taken = stands != FALSE && may_commit(&queue.rows, spans, held.place);
-        if held.place != place && may_be_taken {
-            queue.found.add(held);
-        }
-    }
+    let found = &mut queue.found;
+    find_own(found, own, asked, value);
+    find_others(found, &queue.adders, &queue.rows, spans, asked, value);
 }
 
 /// As many are taken before the row at the place as are added, less what is wanted, where the literal holds.
@@ -480,7 +590,8 @@ fn add_own_place(
 fn add_item(queue: &QueueUse, problem: &mut Problem, asked: Demand, held: Holding, guard: Guard) {
     let origin = Origin::Place(guard.item);
     let wanted = i64::from(held.index).wrapping_sub(asked.taken);
-    let (place, adder) = (asked.place, held.place);
+    let place = asked.place;
+    let adder = held.place;
     if adder == place {
         add_own_place(queue, problem, place, wanted, guard.literal, origin);
         return;
@@ -514,25 +625,34 @@ fn favoured(queue: &QueueUse, spans: &[Span], row: usize) -> usize {
     usize::MAX
 }
 
-/// Adds what a take of the value asks: it is of one of the additions that were found, each of which has a literal.
+/// A new item, which is that the take is of the addition, with its literal.
+fn begin_item(
+    queue: &QueueUse,
+    problem: &mut Problem,
+    take: u32,
+    held: Holding,
+    is_favoured: bool,
+) -> Guard {
+    let item = ItemOf {
+        take,
+        row: queue.rows.at(held.place),
+        addition: held.index,
+        sum: short(problem.sums.sums.len()),
+    };
+    let item = number_item(&mut problem.items.items, item);
+    let literal = add_variable(&mut problem.variables, Role::Item(item), is_favoured, true);
+    Guard { literal, item }
+}
+
+/// Adds that a take is of one of the additions that were found, each of which has a literal, and what each of them asks.
 fn add_take(queue: &mut QueueUse, problem: &mut Problem, own: &[PlacedOp], asked: Demand) {
     let best = favoured(queue, &problem.spans, asked.take.row);
-    let take = short(problem.items.takes.len());
-    problem.items.takes.add(asked.take);
+    let take = number_item(&mut problem.items.takes, asked.take);
     queue.choices.clear();
     for index in 0..queue.found.len() {
         let held = queue.found.at(index);
-        let item = short(problem.items.items.len());
-        problem.items.items.add(ItemOf {
-            take,
-            row: queue.rows.at(held.place),
-            addition: held.index,
-            sum: short(problem.sums.sums.len()),
-        });
-        let role = Role::Item(item);
-        let literal = add_variable(&mut problem.variables, role, index == best, true);
-        let guard = Guard { literal, item };
-        queue.choices.add(literal);
+        let guard = begin_item(queue, problem, take, held, index == best);
+        queue.choices.add(guard.literal);
         add_item(queue, problem, asked, held, guard);
         add_all_gone(queue, problem, own, asked, held.place, guard);
     }
@@ -555,11 +675,10 @@ fn add_empty(queue: &mut QueueUse, problem: &mut Problem, own: &[PlacedOp], aske
 
 /// What the operation asks, before which its row took and added so many. A take goes by the number of takes before it.
 fn demand_of(queue: &QueueUse, found: PlacedOp, taken: i64, added: i64) -> Demand {
-    let number = if found.op == QueueOp::SeesEmpty {
-        found.number
-    } else {
-        (taken & 0xffff_ffff) as u32
-    };
+    let mut number = (taken & 0xffff_ffff) as u32;
+    if matches!(found.op, QueueOp::SeesEmpty) {
+        number = found.number;
+    }
     Demand {
         take: TakeOf {
             row: queue.rows.at(found.place),
@@ -575,12 +694,14 @@ fn demand_of(queue: &QueueUse, found: PlacedOp, taken: i64, added: i64) -> Deman
 
 /// Adds what the operations of one row ask.
 fn add_row(queue: &mut QueueUse, problem: &mut Problem, own: &[PlacedOp]) {
-    let (mut taken, mut added): (i64, i64) = (0, 0);
-    for found in own {
+    let mut taken: i64 = 0;
+    let mut added: i64 = 0;
+    for number in 0..own.len() {
         if is_large(problem) {
             break;
         }
-        let asked = demand_of(queue, *found, taken, added);
+        let found = own[number];
+        let asked = demand_of(queue, found, taken, added);
         match found.op {
             QueueOp::Adds(_) => added = added.wrapping_add(1),
             QueueOp::Takes(value) => {
@@ -594,17 +715,20 @@ fn add_row(queue: &mut QueueUse, problem: &mut Problem, own: &[PlacedOp]) {
     }
 }
 
-/// Reads the operations.
-fn read_queue(queue: &mut QueueUse, spans: &[Span], ops: &[PlacedOp]) {
-    read_ops(queue, spans, ops);
-    queue.adders.items_mut().sort_unstable();
-    queue.takers.items_mut().sort_unstable();
-    for place in 0..queue.rows.len() {
-        let both = queue.takes.at(place).wrapping_add(queue.adds.at(place));
-        queue.both.add(both);
-    }
-    list_added(queue, spans, ops);
-    let (rows, concurrent) = (queue.rows.items(), &mut queue.concurrent);
+/// Reads who adds and who takes what, and how many.
+fn read_ops(queue: &mut QueueUse, spans: &[Span], ops: &[PlacedOp]) {
+    let rows = &queue.rows;
+    let takers = &mut queue.takers;
+    count_ops(&mut queue.takes, &mut queue.adds, rows, spans, ops);
+    list_holdings(&mut queue.adders, takers, rows, spans, ops);
+    add_counts(&mut queue.both, &queue.takes, &queue.adds);
+    list_added(&mut queue.added, takers, rows, spans, ops);
+}
+
+/// Finds which of the rows ran beside which, and adds up what those take and add that had ended before each one.
+fn read_ended(queue: &mut QueueUse, spans: &[Span]) {
+    let rows = queue.rows.items();
+    let concurrent = &mut queue.concurrent;
     find_concurrent(concurrent, spans, rows);
     sum_ended(
         &mut queue.ended_takes,
@@ -622,11 +746,7 @@ fn add_rows(queue: &mut QueueUse, problem: &mut Problem, ops: &[PlacedOp]) {
     let mut from = 0;
     for place in 0..ops.len() {
         let next = place.wrapping_add(1);
-        let is_last = match ops.get(next) {
-            Some(other) => other.place != ops[place].place,
-            None => true,
-        };
-        if is_last {
+        if (next == ops.len()) | (at(ops, next, NO_OP).place != ops[place].place) {
             add_row(queue, problem, range(ops, from, next));
             from = next;
         }
@@ -635,6 +755,7 @@ fn add_rows(queue: &mut QueueUse, problem: &mut Problem, ops: &[PlacedOp]) {
 
 /// Adds a queue, whose rows are read: their operations, in the order of the rows and of their blocks.
 pub(crate) fn add_queue(problem: &mut Problem, queue: &mut QueueUse, ops: &[PlacedOp]) {
-    read_queue(queue, &problem.spans, ops);
+    read_ops(queue, &problem.spans, ops);
+    read_ended(queue, &problem.spans);
     add_rows(queue, problem, ops);
 }

@@ -1,6 +1,6 @@
 //! Reads what the transactions of a history ask of an order.
 
-use crate::cell_index::{mark_cells, sort_feeds, sort_uses};
+use crate::cell_index::sort_cells;
 use crate::cells::{Touch, add_cell};
 use crate::counting::list_rows;
 use crate::encoding::{Origin, add_pairs};
@@ -320,6 +320,21 @@ fn add_queue_executions(
     add_queue(problem, &mut room.queue, room.ops.items());
 }
 
+/// Adds what is asked of a register, or of a key of a map.
+fn add_content(
+    problem: &mut Problem,
+    touches: &[Touch],
+    (object, key): (u16, i64),
+    (kind, opening): (ObjKind, i64),
+) {
+    let mut opens = None;
+    if kind == ObjKind::Register {
+        opens = Some(opening);
+    }
+    problem.counting.is_all = false;
+    add_cell(problem, touches, (object, cell_with(kind, key)), opens);
+}
+
 /// Adds what is asked by the executions of one object and key; or gives the row that contradicts itself there.
 fn add_uses(
     problem: &mut Problem,
@@ -350,14 +365,8 @@ fn add_uses(
             add_counts(problem, room, (object, Some(key)), 0);
         }
         _ => {
-            problem.counting.is_all = false;
-            let opens = if kind == ObjKind::Register {
-                Some(opening)
-            } else {
-                None
-            };
-            let cell = (object, cell_with(kind, key));
-            add_cell(problem, room.touches.items(), cell, opens);
+            let touches = room.touches.items();
+            add_content(problem, touches, (object, key), (kind, opening));
         }
     }
     None
@@ -403,9 +412,7 @@ fn add_all(
 /// Sorts what is asked, as the search looks for it.
 fn sort_all(problem: &mut Problem) {
     let rows = problem.spans.len();
-    sort_uses(&mut problem.cells, rows);
-    sort_feeds(&mut problem.cells);
-    mark_cells(&mut problem.cells, rows);
+    sort_cells(&mut problem.cells, rows);
     sort_occurrences(&mut problem.sums, problem.variables.roles.len());
     list_rows(&mut problem.counting, &problem.spans);
 }

@@ -5,18 +5,19 @@ use crate::betweens::{check_commits, propagate_pair, propagate_source};
 use crate::bounds::{clear_waiting, count_terms, propagate_waiting, wake_guarded};
 use crate::closure::{Closure, close, close_spans, reopen};
 use crate::encoding::{Clauses, LITERALS, Role, Variables, append};
-use crate::engine::{Effort, NOT_RANKED, Ranked};
+use crate::engine::{Effort, Ranking};
 use crate::explanation::{View, pair_of};
 use crate::heap::{Heap, heaviest, insert, make_heap, take_heaviest};
 use crate::known::{Antecedent, Conflict, Known, assign, make_room};
-use crate::literals::{FALSE, NONE, TRUE, Table, neg, short, var};
+use crate::literals::{NONE, Table, at, neg, short, var};
 use crate::log::{Log, bytes_logged, log_conflict, log_learned, make_log};
-use crate::problem::{Allowance, Problem, bytes_of, unless_short};
+use crate::orders::Trial;
+use crate::problem::{Problem, bytes_of, unless_short};
 use crate::reduce::reduce;
 use crate::spans::{Span, instant, span_of};
+use crate::sums::Sums;
 use crate::watches::{follow_clauses, watch_all, watch_both};
 use aud_event::OutOfMemory;
-use aud_witness::{Decision, Fate};
 use std::alloc::Global;
 
 /// After so many conflicts the worse half of the learned clauses goes.
@@ -37,44 +38,60 @@ const NOT_LATE: Late = Late {
     level: 0,
 };
 
-pub(crate) const NO_DECISION: Decision = Decision {
-    tx: 0,
-    fate: Fate::A,
-};
-
-/// A search, as far as it is.
+/// The course of a search.
 #[derive(Drop)]
-pub(crate) struct Solver {
-    pub problem: Problem,
-    pub known: Known,
-    pub closure: Closure,
-    pub heap: Heap,
-    pub analysis: Analysis,
-    pub log: Log,
-    pub conflicts: u64,
-    /// The order that was tried last, as rows and as decisions; of each row how many of those stand before it that are not placed yet; and the
-    /// clause of an order that was tried in vain.
-    pub rows: Table<usize>,
-    pub order: Table<Decision>,
-    pub counts: Table<u32>,
-    pub blocked: Table<u32>,
-    /// The rows in the order of an instant, and the rank of each.
-    pub ranked: Table<Ranked>,
-    pub ranks: Table<usize>,
-    /// Literals that are taken to hold for a while.
-    pub assumed: Table<u32>,
-    /// The phases of the longest trail, its length, how many of its first literals still hold, and whether its phases are tried.
+pub(crate) struct Course {
+    /// The phases of the longest trail that was seen, its length, how many of its first literals still hold, and whether its phases are tried.
     best: Table<bool>,
     best_count: usize,
     best_kept: usize,
     pub tries_best: bool,
+    late: Table<Late>,
+    /// How many conflicts it met, and after how many it looks through what it learned.
+    pub conflicts: u64,
     reduce_at: u64,
     /// How many values were chosen, and how many before the last conflict.
-    choice_count: u64,
+    choices: u64,
     at_conflict: u64,
-    /// How many levels the search goes back, where more would be far.
+    /// How many levels it goes back, where more would be far.
     stride: u32,
-    late: Table<Late>,
+}
+
+impl Course {
+    /// Of a search that begins. It does not allocate.
+    pub(crate) fn empty(alloc: Global) -> Course {
+        Course {
+            best: Table::new(alloc, false),
+            best_count: 0,
+            best_kept: 0,
+            tries_best: false,
+            late: Table::new(alloc, NOT_LATE),
+            conflicts: 0,
+            reduce_at: REDUCE_EVERY,
+            choices: 0,
+            at_conflict: 0,
+            stride: 1,
+        }
+    }
+
+    /// Whether some growth was refused.
+    fn is_short(&self) -> bool {
+        self.best.is_short() | self.late.is_short()
+    }
+}
+
+/// A search, as far as it is: what is asked, what is known, and what it works with.
+#[derive(Drop)]
+pub(crate) struct Solver<'a> {
+    pub problem: &'a mut Problem,
+    pub known: &'a mut Known,
+    pub closure: &'a mut Closure,
+    pub heap: &'a mut Heap,
+    pub analysis: &'a mut Analysis,
+    pub log: &'a mut Log,
+    pub trial: &'a mut Trial,
+    pub ranking: &'a mut Ranking,
+    pub course: &'a mut Course,
 }
 
 /// What a search came to.
@@ -90,105 +107,101 @@ pub(crate) enum Found {
     NotAssumed,
 }
 
-/// A search of nothing yet, which may take so much; it writes its steps down if that is asked for. It does not allocate.
-pub(crate) fn solver_of(alloc: Global, allowance: Allowance, logs: bool) -> Solver {
-    Solver {
-        problem: Problem::empty(alloc, allowance),
-        known: Known::empty(alloc),
-        closure: Closure::empty(alloc),
-        rows: Table::new(alloc, 0),
-        order: Table::new(alloc, NO_DECISION),
-        counts: Table::new(alloc, NONE),
-        blocked: Table::new(alloc, FALSE),
-        ranked: Table::new(alloc, NOT_RANKED),
-        ranks: Table::new(alloc, 0),
-        heap: Heap::empty(alloc),
-        analysis: Analysis::empty(alloc),
-        log: Log::empty(alloc, logs),
-        conflicts: 0,
-        assumed: Table::new(alloc, TRUE),
-        best: Table::new(alloc, false),
-        best_count: 0,
-        best_kept: 0,
-        tries_best: false,
-        reduce_at: REDUCE_EVERY,
-        choice_count: 0,
-        at_conflict: 0,
-        stride: 1,
-        late: Table::new(alloc, NOT_LATE),
-    }
+/// Whether some growth was refused since the search began.
+fn is_short(solver: &Solver<'_>) -> bool {
+    solver.problem.is_short()
+        | solver.known.is_short()
+        | solver.closure.is_short()
+        | solver.heap.is_short()
+        | solver.analysis.is_short()
+        | solver.log.is_short()
+        | solver.trial.is_short()
+        | solver.ranking.is_short()
+        | solver.course.is_short()
 }
 
 /// Want of memory, where some growth was refused since the search began.
-pub(crate) fn check_room(solver: &Solver) -> Result<(), OutOfMemory> {
-    unless_short(
-        solver.rows.is_short()
-            | solver.order.is_short()
-            | solver.counts.is_short()
-            | solver.blocked.is_short()
-            | solver.ranked.is_short()
-            | solver.ranks.is_short()
-            | solver.assumed.is_short()
-            | solver.best.is_short()
-            | solver.late.is_short()
-            | solver.known.is_short()
-            | solver.closure.is_short()
-            | solver.heap.is_short()
-            | solver.analysis.is_short()
-            | solver.log.is_short()
-            | solver.problem.is_short(),
-    )
+pub(crate) fn check_room(solver: &Solver<'_>) -> Result<(), OutOfMemory> {
+    unless_short(is_short(solver))
+}
+
+/// The greatest stamp at which something was last seen.
+fn last_stamp(spans: &[Span]) -> u32 {
+    let mut last: u32 = 0;
+    for row in 0..spans.len() {
+        last = span_of(spans, row).until.max(last);
+    }
+    last
 }
 
 /// Tries pairs first as they took effect, the earlier ones first.
-fn weigh_pairs(variables: &mut Variables, spans: &[Span], heap: &mut Heap) {
-    let mut last: u32 = 0;
-    for span in spans {
-        last = span.until.max(last);
-    }
-    let whole = f64::from(last) * 20.0 + 20.0;
+fn weigh_pairs(variables: &mut Variables, spans: &[Span], weights: &mut Table<f64>) {
+    let whole = f64::from(last_stamp(spans)) * 20.0 + 20.0;
     for variable in 1..variables.roles.len() {
         if let Role::Precedence(row, other) = variables.roles.at(variable) {
             let one = instant(span_of(spans, row as usize), 15);
             let two = instant(span_of(spans, other as usize), 15);
-            variables.phases.set(variable, one < two);
             let late = f64::from(short(one.max(two) as usize));
-            heap.weights.set(variable, 1.0 - 0.5 * (late / whole));
+            variables.phases.set(variable, one < two);
+            weights.set(variable, 1.0 - 0.5 * (late / whole));
         }
     }
 }
 
-/// Makes room, and decides first what comes first.
-pub(crate) fn prepare(solver: &mut Solver) -> Result<(), OutOfMemory> {
-    let count = solver.problem.variables.roles.len();
-    let origins = solver.problem.clauses.origins.len();
-    let (problem, heap) = (&mut solver.problem, &mut solver.heap);
-    close_spans(&mut solver.closure, &problem.spans);
-    make_room(&mut solver.known, count);
-    make_heap(heap, count);
-    make_marks(&mut solver.analysis, count);
-    make_log(&mut solver.log, count, origins);
-    solver.known.work = problem.allowance.work;
-    watch_all(&mut problem.clauses, count.saturating_mul(2));
-    weigh_pairs(&mut problem.variables, &problem.spans, heap);
-    for variable in 1..count {
-        if problem.variables.choices.at(variable) {
+/// Puts the variables whose values may be chosen on the heap.
+fn insert_all(heap: &mut Heap, choices: &Table<bool>) {
+    for variable in 1..choices.len() {
+        if choices.at(variable) {
             insert(heap, variable);
         }
     }
-    check_room(solver)
 }
 
-/// Follows the next literal that holds by all but clauses.
-fn propagate_next(
-    problem: &mut Problem,
+/// Decides first what comes first.
+fn weigh_all(problem: &mut Problem, heap: &mut Heap) {
+    let variables = &mut problem.variables;
+    weigh_pairs(variables, &problem.spans, &mut heap.weights);
+    insert_all(heap, &variables.choices);
+}
+
+/// Makes room for the variables, and begins with what real time says, and with the work that reading took.
+fn make_tables(
+    problem: &Problem,
     known: &mut Known,
     closure: &mut Closure,
+    heap: &mut Heap,
+    analysis: &mut Analysis,
+) {
+    let count = problem.variables.roles.len();
+    close_spans(closure, &problem.spans);
+    make_room(known, count);
+    make_heap(heap, count);
+    make_marks(analysis, count);
+    known.work = problem.allowance.work;
+}
+
+/// Makes room for what is noted of clauses, and watches them.
+fn watch_problem(problem: &mut Problem, log: &mut Log) {
+    let count = problem.variables.roles.len();
+    make_log(log, count, problem.clauses.origins.len());
+    watch_all(&mut problem.clauses, count.saturating_mul(2));
+}
+
+/// Makes room, and decides first what comes first.
+pub(crate) fn prepare(solver: &mut Solver<'_>) {
+    let (known, closure) = (&mut *solver.known, &mut *solver.closure);
+    make_tables(solver.problem, known, closure, solver.heap, solver.analysis);
+    watch_problem(solver.problem, solver.log);
+    weigh_all(solver.problem, solver.heap);
+}
+
+/// Follows a literal that holds by real time, by pairs and by cells.
+fn follow_literal(
+    problem: &Problem,
+    known: &mut Known,
+    closure: &mut Closure,
+    literal: u32,
 ) -> Option<Conflict> {
-    let literal = known.trail.at(known.propagated);
-    known.propagated = known.propagated.wrapping_add(1);
-    let count = count_terms(&mut problem.sums, literal, true);
-    known.work = known.work.wrapping_add(count as u64);
     let (cells, spans) = (&problem.cells, &problem.spans[..]);
     if let Some((row, other)) = pair_of(&problem.variables.roles, literal) {
         let conflict = close(known, closure, spans, row, other);
@@ -203,33 +216,54 @@ fn propagate_next(
     match problem.variables.roles.at(var(literal)) {
         Role::Source(source) => propagate_source(known, cells, spans, source),
         Role::Commits(row) => check_commits(known, cells, spans, row as usize),
-        Role::Item(item) => {
+        Role::Nothing | Role::Precedence(..) | Role::Item(_) => None,
+    }
+}
+
+/// The literal holds: if it says which item is taken, its sum is to be looked at.
+fn wake_item(problem: &mut Problem, literal: u32) {
+    if literal & 1 == 0 {
+        if let Role::Item(item) = problem.variables.roles.at(var(literal)) {
             let sum = problem.items.items.at(item as usize).sum;
             wake_guarded(&mut problem.sums, sum);
-            None
         }
-        Role::Nothing | Role::Precedence(..) => None,
     }
+}
+
+/// Follows the next literal that holds by all but clauses.
+fn propagate_next(
+    problem: &mut Problem,
+    known: &mut Known,
+    closure: &mut Closure,
+) -> Option<Conflict> {
+    let literal = known.trail.at(known.propagated);
+    let count = count_terms(&mut problem.sums, literal, true);
+    known.propagated = known.propagated.wrapping_add(1);
+    known.work = known.work.wrapping_add(count as u64);
+    wake_item(problem, literal);
+    follow_literal(problem, known, closure, literal)
+}
+
+/// Follows what holds by clauses.
+fn propagate_clauses(known: &mut Known, clauses: &mut Clauses) -> Option<Conflict> {
+    let (arena, heads) = (clauses.arena.items_mut(), clauses.heads.items_mut());
+    follow_clauses(known, arena, heads)
 }
 
 /// Follows what holds as far as it forces more.
 fn propagate(problem: &mut Problem, known: &mut Known, closure: &mut Closure) -> Option<Conflict> {
     for _ in 0..u64::MAX {
-        let conflict = follow_clauses(known, &mut problem.clauses);
+        let conflict = propagate_clauses(known, &mut problem.clauses);
         if conflict.is_some() {
             return conflict;
         }
-        if known.propagated < known.count {
-            let conflict = propagate_next(problem, known, closure);
-            if conflict.is_some() {
-                return conflict;
-            }
-            continue;
-        }
-        if problem.sums.waiting.is_empty() {
+        let conflict = if known.propagated < known.count {
+            propagate_next(problem, known, closure)
+        } else if problem.sums.waiting.is_empty() {
             return None;
-        }
-        let conflict = propagate_waiting(known, &mut problem.sums);
+        } else {
+            propagate_waiting(known, &mut problem.sums)
+        };
         if conflict.is_some() {
             return conflict;
         }
@@ -237,9 +271,29 @@ fn propagate(problem: &mut Problem, known: &mut Known, closure: &mut Closure) ->
     None
 }
 
+/// The literal holds no longer. What it said is tried first the next time.
+fn unassign(
+    variables: &mut Variables,
+    values: &mut Table<i8>,
+    closure: &mut Closure,
+    heap: &mut Heap,
+    literal: u32,
+) {
+    let variable = var(literal);
+    if let Some((row, other)) = pair_of(&variables.roles, literal) {
+        reopen(closure, row, other);
+    }
+    values.set(literal as usize, 0);
+    values.set(neg(literal) as usize, 0);
+    variables.phases.set(variable, literal & 1 == 0);
+    if variables.choices.at(variable) {
+        insert(heap, variable);
+    }
+}
+
 /// The literals of the trail from the place on hold no longer.
 fn unassign_from(
-    problem: &mut Problem,
+    variables: &mut Variables,
     known: &mut Known,
     closure: &mut Closure,
     heap: &mut Heap,
@@ -247,37 +301,55 @@ fn unassign_from(
 ) {
     for place in from..known.count {
         let literal = known.trail.at(place);
-        let variable = var(literal);
-        if let Some((row, other)) = pair_of(&problem.variables.roles, literal) {
-            reopen(closure, row, other);
-        }
-        known.values.set(literal as usize, 0);
-        known.values.set(neg(literal) as usize, 0);
-        problem.variables.phases.set(variable, literal & 1 == 0);
-        if problem.variables.choices.at(variable) {
-            insert(heap, variable);
-        }
+        unassign(variables, &mut known.values, closure, heap, literal);
     }
     known.count = from;
     known.seen = from;
     known.propagated = known.propagated.min(from);
 }
 
-/// Goes back to the level.
-pub(crate) fn backjump(solver: &mut Solver, level: u32) {
-    if solver.known.levels.len() <= level as usize {
-        return;
+/// The sums count the literals of the trail from the place on no longer, and none waits.
+fn uncount_from(sums: &mut Sums, known: &Known, from: usize) {
+    for place in from..known.propagated {
+        let _count = count_terms(sums, known.trail.at(place), false);
     }
-    let to = solver.known.levels.at(level as usize);
-    let (problem, known) = (&mut solver.problem, &mut solver.known);
-    for literal in known.trail.range(to, known.propagated) {
-        let _count = count_terms(&mut problem.sums, *literal, false);
+    clear_waiting(sums);
+}
+
+/// Where in the trail the level begins, or none, where there is no such level.
+fn begin_of(known: &Known, level: u32) -> Option<usize> {
+    if known.levels.len() <= level as usize {
+        return None;
     }
-    unassign_from(problem, known, &mut solver.closure, &mut solver.heap, to);
+    Some(known.levels.at(level as usize))
+}
+
+/// Takes back what holds since the place of the trail at which the level begins.
+fn take_back(
+    problem: &mut Problem,
+    known: &mut Known,
+    closure: &mut Closure,
+    heap: &mut Heap,
+    (level, from): (u32, usize),
+) {
+    uncount_from(&mut problem.sums, known, from);
+    unassign_from(&mut problem.variables, known, closure, heap, from);
     known.levels.truncate(level as usize);
-    solver.best_kept = solver.best_kept.min(to);
-    clear_waiting(&mut problem.sums);
-    force_late(known, &problem.clauses, &mut solver.late, level);
+}
+
+/// Goes back to the level.
+pub(crate) fn backjump(solver: &mut Solver<'_>, level: u32) {
+    let Some(from) = begin_of(solver.known, level) else {
+        return;
+    };
+    let (problem, known, course) = (
+        &mut *solver.problem,
+        &mut *solver.known,
+        &mut *solver.course,
+    );
+    take_back(problem, known, solver.closure, solver.heap, (level, from));
+    force_late(known, &problem.clauses, &mut course.late, level);
+    course.best_kept = course.best_kept.min(from);
 }
 
 /// What late clauses forced that are of this level or of lower ones they force again; the others are late no longer.
@@ -299,20 +371,27 @@ fn force_late(known: &mut Known, clauses: &Clauses, late: &mut Table<Late>, leve
     late.truncate(kept);
 }
 
+/// Notes the phases of the literals of the trail between the places.
+fn note_phases(phases: &mut Table<bool>, trail: &Table<u32>, from: usize, to: usize) {
+    for place in from..to {
+        let literal = trail.at(place);
+        phases.set(var(literal), literal & 1 == 0);
+    }
+}
+
 /// Notes the phases of the first literals of the trail, so many, if none longer was noted. Those that held when the last one was noted, and
 /// still do, are noted already.
-fn note_best(solver: &mut Solver, count: usize) {
-    if count <= solver.best_count {
+fn note_best(course: &mut Course, problem: &Problem, known: &Known, count: usize) {
+    if count <= course.best_count {
         return;
     }
-    if solver.best.is_empty() {
-        solver.best.add_all(solver.problem.variables.phases.items());
+    let best = &mut course.best;
+    if best.is_empty() {
+        best.add_all(problem.variables.phases.items());
     }
-    for literal in solver.known.trail.range(solver.best_kept, count) {
-        solver.best.set(var(*literal), *literal & 1 == 0);
-    }
-    solver.best_count = count;
-    solver.best_kept = count;
+    note_phases(best, &known.trail, course.best_kept, count);
+    course.best_count = count;
+    course.best_kept = count;
 }
 
 /// What was learned from a conflict, beside the clause: the level from which on the clause forces its first literal, of how many levels
@@ -324,118 +403,175 @@ struct Learned {
     step: u32,
 }
 
-/// Adds the learned clause, and what it forces since its level.
-fn add_learned(solver: &mut Solver, learned: Learned) {
-    let clauses = &mut solver.problem.clauses;
-    let literals = solver.analysis.clause.items();
-    let (levels, step) = (learned.levels, learned.step);
-    let clause = append(&mut clauses.arena, literals, levels, NONE, step);
+/// Adds a learned clause, which is watched from now on, and gives its place.
+fn add_clause(clauses: &mut Clauses, literals: &[u32], learned: Learned) -> u32 {
+    let arena = &mut clauses.arena;
+    let clause = append(arena, literals, learned.levels, NONE, learned.step);
+    watch_both(arena.items_mut(), clauses.heads.items_mut(), clause);
     clauses.learned.add(clause);
-    watch_both(clauses.arena.items_mut(), clauses.heads.items_mut(), clause);
-    let first = solver.analysis.clause.at(0);
-    if solver.known.value(first) == 0 {
-        assign(&mut solver.known, first, Antecedent::Clause(clause));
+    clause
+}
+
+/// Adds the learned clause, and takes to hold what it forces since its level.
+fn add_learned(
+    problem: &mut Problem,
+    known: &mut Known,
+    course: &mut Course,
+    literals: &[u32],
+    learned: Learned,
+) {
+    let clause = add_clause(&mut problem.clauses, literals, learned);
+    let first = at(literals, 0, 0);
+    if known.value(first) == 0 {
+        assign(known, first, Antecedent::Clause(clause));
     }
     let level = learned.level;
-    if level < short(solver.known.levels.len()) {
-        solver.late.add(Late { clause, level });
+    if level < short(known.levels.len()) {
+        course.late.add(Late { clause, level });
     }
 }
 
 /// The level to which the search goes back, where the clause forces a literal from that one on. Where that is far, it is one below the
 /// highest, and further with each conflict since the last choice: what was chosen between stays.
-fn backjump_level(solver: &mut Solver, level: u32, top: u32) -> u32 {
-    if solver.choice_count > solver.at_conflict {
-        solver.stride = 1;
+fn backjump_level(course: &mut Course, level: u32, top: u32) -> u32 {
+    if course.choices > course.at_conflict {
+        course.stride = 1;
     } else {
-        solver.stride = solver.stride.saturating_mul(2);
+        course.stride = course.stride.saturating_mul(2);
     }
-    solver.at_conflict = solver.choice_count;
+    course.at_conflict = course.choices;
     if top.saturating_sub(level) > FAR {
-        top.saturating_sub(solver.stride).max(level)
-    } else {
-        level
+        return top.saturating_sub(course.stride).max(level);
     }
+    level
 }
 
-/// Learns a clause from the conflict, whose highest level is given, writes down what it follows from, if that is asked for, and goes back to where the
-/// clause forces a literal.
-fn learn_clause(solver: &mut Solver, top: u32) -> Result<(), OutOfMemory> {
-    let view = View {
-        problem: &solver.problem,
-        known: &solver.known,
-    };
-    let (analysis, heap, log) = (&mut solver.analysis, &mut solver.heap, &mut solver.log);
-    let level = learn(analysis, heap, &view, top);
+/// Learns a clause from the conflict, whose highest level is given, and writes down what it follows from, if that is asked for.
+fn learn_clause(
+    analysis: &mut Analysis,
+    heap: &mut Heap,
+    log: &mut Log,
+    view: &View<'_>,
+    top: u32,
+) -> Learned {
+    let level = learn(analysis, heap, view, top);
     let levels = count_levels(analysis, view.known);
-    let step = if log.is_on {
-        log_learned(log, &view, analysis)
-    } else {
-        NONE
-    };
-    check_room(solver)?;
-    let to = backjump_level(solver, level, top);
-    backjump(solver, to);
-    add_learned(
-        solver,
-        Learned {
-            level,
-            levels,
-            step,
-        },
-    );
-    check_room(solver)
+    let mut step = NONE;
+    if log.is_on {
+        step = log_learned(log, view, analysis);
+    }
+    Learned {
+        level,
+        levels,
+        step,
+    }
 }
 
-/// Reads what the conflict needs, and notes it, if that is asked for or is the end. The highest level of it is given.
-fn read_top(solver: &mut Solver, conflict: Conflict) -> Result<u32, OutOfMemory> {
-    let has_learned = !solver.problem.clauses.learned.is_empty();
+/// Learns a clause from the conflict, whose highest level is given, and goes back to where the clause forces a literal.
+fn learn_and_return(solver: &mut Solver<'_>, top: u32) {
     let view = View {
-        problem: &solver.problem,
-        known: &solver.known,
+        problem: &*solver.problem,
+        known: &*solver.known,
     };
-    let (analysis, log) = (&mut solver.analysis, &mut solver.log);
-    let top = read_conflict(analysis, &view, conflict);
-    if log.is_on || (top == 0 && !has_learned) {
-        log_conflict(log, &view, conflict, analysis.todo.items(), top == 0);
+    let learned = learn_clause(solver.analysis, solver.heap, solver.log, &view, top);
+    let level = backjump_level(solver.course, learned.level, top);
+    backjump(solver, level);
+    let analysis = &*solver.analysis;
+    add_learned(
+        solver.problem,
+        solver.known,
+        solver.course,
+        analysis.clause.items(),
+        learned,
+    );
+}
+
+/// Reads what the conflict needs, and gives the highest level of it. The conflict is noted, if that is asked for, or, where `ends` says so, if that
+/// level is the lowest: then the search is at its end.
+fn read_top(
+    analysis: &mut Analysis,
+    log: &mut Log,
+    view: &View<'_>,
+    conflict: Conflict,
+    ends: bool,
+) -> u32 {
+    let top = read_conflict(analysis, view, conflict);
+    if log.is_on | (ends & (top == 0)) {
+        log_conflict(log, view, conflict, analysis.todo.items(), top == 0);
     }
-    check_room(solver)?;
-    Ok(top)
+    top
+}
+
+/// Reads what the conflict needs. The highest level of it is given. A search that learned nothing yet needs no second one for its steps.
+fn read_needed(solver: &mut Solver<'_>, conflict: Conflict) -> u32 {
+    let view = View {
+        problem: &*solver.problem,
+        known: &*solver.known,
+    };
+    let ends = view.problem.clauses.learned.is_empty();
+    read_top(solver.analysis, solver.log, &view, conflict, ends)
+}
+
+/// Drops learned clauses, if it is time for that.
+fn reduce_in_time(problem: &mut Problem, known: &mut Known, course: &mut Course) {
+    if course.conflicts >= course.reduce_at {
+        reduce(&mut problem.clauses, known);
+        course.late.clear();
+        course.reduce_at = course.conflicts.saturating_add(REDUCE_EVERY);
+    }
 }
 
 /// Learns from the conflict, and goes back. None where the search goes on.
-fn handle_conflict(solver: &mut Solver, conflict: Conflict) -> Result<Option<Found>, OutOfMemory> {
-    solver.conflicts = solver.conflicts.wrapping_add(1);
-    let last = solver.known.levels.len().wrapping_sub(1);
-    let begun = solver.known.levels.at(last);
-    note_best(solver, begun);
-    let top = read_top(solver, conflict)?;
+fn handle_conflict(solver: &mut Solver<'_>, conflict: Conflict) -> Option<Found> {
+    note_conflict(solver.course);
+    let begun = begin_of_last(solver.known);
+    note_best(solver.course, solver.problem, solver.known, begun);
+    let top = read_needed(solver, conflict);
     if top == 0 {
-        return Ok(Some(Found::NoOrder));
+        return Some(Found::NoOrder);
     }
-    if top == 1 && !solver.assumed.is_empty() {
+    if (top == 1) & solver.ranking.has_assumed() {
         backjump(solver, 0);
-        return Ok(Some(Found::NotAssumed));
+        return Some(Found::NotAssumed);
     }
     backjump(solver, top);
-    learn_clause(solver, top)?;
+    learn_and_return(solver, top);
     solver.heap.step /= 0.95;
-    if solver.conflicts >= solver.reduce_at {
-        reduce(&mut solver.problem.clauses, &mut solver.known);
-        solver.late.clear();
-        solver.reduce_at = solver.conflicts.saturating_add(REDUCE_EVERY);
+    reduce_in_time(solver.problem, solver.known, solver.course);
+    if is_short(solver) {
+        return Some(Found::Spent);
     }
-    Ok(None)
+    None
 }
 
-/// Takes the assumed literals to hold, at a level of their own. False where they cannot all.
-fn assume(solver: &mut Solver) -> bool {
-    solver.known.levels.add(solver.known.count);
-    let (problem, known) = (&mut solver.problem, &mut solver.known);
-    for literal in solver.assumed.items() {
-        if known.value(*literal) == 0 {
-            assign(known, *literal, Antecedent::Choice);
-            if propagate(problem, known, &mut solver.closure).is_some() {
+/// Counts a conflict.
+fn note_conflict(course: &mut Course) {
+    course.conflicts = course.conflicts.wrapping_add(1);
+}
+
+/// Where in the trail the last level begins.
+fn begin_of_last(known: &Known) -> usize {
+    known.levels.at(known.levels.len().wrapping_sub(1))
+}
+
+/// Opens a level.
+fn open_level(known: &mut Known) {
+    let count = known.count;
+    known.levels.add(count);
+}
+
+/// Takes the literals to hold, as far as they are open. False where they cannot all.
+fn assume_all(
+    problem: &mut Problem,
+    known: &mut Known,
+    closure: &mut Closure,
+    assumed: &Table<u32>,
+) -> bool {
+    for place in 0..assumed.len() {
+        let literal = assumed.at(place);
+        if known.value(literal) == 0 {
+            assign(known, literal, Antecedent::Choice);
+            if propagate(problem, known, closure).is_some() {
                 return false;
             }
         }
@@ -443,33 +579,51 @@ fn assume(solver: &mut Solver) -> bool {
     true
 }
 
-/// Decides the next variable. False where none is left.
-fn choose(solver: &mut Solver) -> bool {
-    for _ in 0..solver.known.values.len() {
-        let Some(variable) = take_heaviest(&mut solver.heap) else {
-            return false;
-        };
-        let literal = variable.wrapping_mul(2);
-        if solver.known.value(literal) == 0 {
-            let place = variable as usize;
-            let is_first = if solver.tries_best && solver.best_count > 0 {
-                solver.best.at(place)
-            } else {
-                solver.problem.variables.phases.at(place)
-            };
-            let literal = if is_first { literal } else { neg(literal) };
-            solver.choice_count = solver.choice_count.wrapping_add(1);
-            solver.known.levels.add(solver.known.count);
-            assign(&mut solver.known, literal, Antecedent::Choice);
-            return true;
-        }
-    }
-    false
+/// Takes the assumed literals to hold, at a level of their own. False where they cannot all.
+fn assume(solver: &mut Solver<'_>) -> bool {
+    open_level(solver.known);
+    let assumed = &solver.ranking.assumed;
+    assume_all(solver.problem, solver.known, solver.closure, assumed)
 }
 
-/// Follows what holds in any case: the clauses of one literal, and what they force. What cannot be is given, if something cannot.
-fn begin_all(problem: &mut Problem, known: &mut Known, closure: &mut Closure) -> Option<Conflict> {
-    let arena = &problem.clauses.arena;
+/// Takes the heaviest variable that has no value.
+fn next_variable(heap: &mut Heap, known: &Known) -> Option<u32> {
+    for _ in 0..known.values.len() {
+        let Some(variable) = take_heaviest(heap) else {
+            return None;
+        };
+        if known.value(variable.wrapping_mul(2)) == 0 {
+            return Some(variable);
+        }
+    }
+    None
+}
+
+/// The literal of the variable that is tried first.
+fn first_literal(course: &Course, problem: &Problem, variable: u32) -> u32 {
+    let place = variable as usize;
+    let mut holds = problem.variables.phases.at(place);
+    if course.tries_best & (course.best_count > 0) {
+        holds = course.best.at(place);
+    }
+    let literal = variable.wrapping_mul(2);
+    if holds { literal } else { neg(literal) }
+}
+
+/// Decides the next variable. False where none is left.
+fn choose(solver: &mut Solver<'_>) -> bool {
+    let Some(variable) = next_variable(solver.heap, solver.known) else {
+        return false;
+    };
+    let literal = first_literal(solver.course, solver.problem, variable);
+    solver.course.choices = solver.course.choices.wrapping_add(1);
+    open_level(solver.known);
+    assign(solver.known, literal, Antecedent::Choice);
+    true
+}
+
+/// Takes the clauses of one literal to hold. The clause that cannot is given, if one cannot.
+fn force_single(known: &mut Known, arena: &Table<u32>) -> Option<Conflict> {
     let mut place: usize = 0;
     for _ in 0..arena.len() {
         if place >= arena.len() {
@@ -479,104 +633,116 @@ fn begin_all(problem: &mut Problem, known: &mut Known, closure: &mut Closure) ->
         let literal = arena.at(place.wrapping_add(LITERALS));
         let clause = short(place);
         let found = known.value(literal);
-        if length == 0 || (length == 1 && found == -1) {
+        if (length == 0) | ((length == 1) & (found == -1)) {
             return Some(Conflict::Clause(clause));
         }
-        if length == 1 && found == 0 {
+        if (length == 1) & (found == 0) {
             assign(known, literal, Antecedent::Clause(clause));
         }
         place = place.wrapping_add(LITERALS).wrapping_add(length as usize);
+    }
+    None
+}
+
+/// Follows what holds in any case: the clauses of one literal, and what they force. What cannot be is given, if something cannot.
+fn begin_all(problem: &mut Problem, known: &mut Known, closure: &mut Closure) -> Option<Conflict> {
+    let conflict = force_single(known, &problem.clauses.arena);
+    if conflict.is_some() {
+        return conflict;
     }
     propagate(problem, known, closure)
 }
 
 /// Follows what holds in any case. False where that cannot be.
-pub(crate) fn begin(solver: &mut Solver) -> Result<bool, OutOfMemory> {
-    let (problem, known) = (&mut solver.problem, &mut solver.known);
-    let Some(conflict) = begin_all(problem, known, &mut solver.closure) else {
-        return Ok(true);
+pub(crate) fn begin(solver: &mut Solver<'_>) -> bool {
+    let Some(conflict) = begin_all(solver.problem, solver.known, solver.closure) else {
+        return true;
     };
-    let view = View {
-        problem: &solver.problem,
-        known: &solver.known,
-    };
-    let (analysis, log) = (&mut solver.analysis, &mut solver.log);
-    read_conflict(analysis, &view, conflict);
-    log_conflict(log, &view, conflict, analysis.todo.items(), true);
-    check_room(solver)?;
-    Ok(false)
+    read_needed(solver, conflict);
+    false
 }
 
 /// How many bytes the search takes, about.
-pub(crate) fn bytes_held(solver: &Solver) -> usize {
-    bytes_of(&solver.problem).saturating_add(bytes_logged(&solver.log.steps))
+pub(crate) fn bytes_held(solver: &Solver<'_>) -> usize {
+    bytes_of(solver.problem).saturating_add(bytes_logged(&solver.log.steps))
 }
 
 /// Whether the effort is spent.
-pub(crate) fn is_over(solver: &Solver, effort: Effort) -> bool {
-    solver.conflicts >= effort.conflicts
+pub(crate) fn is_over(solver: &Solver<'_>, effort: Effort) -> bool {
+    solver.course.conflicts >= effort.conflicts
         || solver.known.work >= effort.work
         || bytes_held(solver) > effort.bytes
 }
 
-/// Goes back to where other variables would be chosen now: the first levels stay whose variables weigh more than the next one.
-fn begin_again(solver: &mut Solver) {
-    if !solver.assumed.is_empty() {
-        backjump(solver, 0);
-        return;
-    }
-    let (known, heap) = (&solver.known, &mut solver.heap);
-    let mut next = 0.0;
+/// The weight of the heaviest variable that has no value. Those above it go from the heap.
+fn next_weight(heap: &mut Heap, known: &Known) -> f64 {
     for _ in 0..known.values.len() {
         let Some(variable) = heaviest(heap) else {
             break;
         };
         if known.value(variable.wrapping_mul(2)) == 0 {
-            next = heap.weights.at(variable as usize);
-            break;
+            return heap.weights.at(variable as usize);
         }
         let _taken = take_heaviest(heap);
     }
+    0.0
+}
+
+/// How many of the first levels chose variables that weigh so much or more.
+fn levels_above(known: &Known, weights: &Table<f64>, least: f64) -> u32 {
     let mut kept: usize = 0;
     for level in 0..known.levels.len() {
         let literal = known.trail.at(known.levels.at(level));
-        if heap.weights.at(var(literal)) < next {
+        if weights.at(var(literal)) < least {
             break;
         }
         kept = level.wrapping_add(1);
     }
-    backjump(solver, short(kept));
+    short(kept)
 }
 
-/// Searches within the limits.
-pub(crate) fn search(solver: &mut Solver, limits: Effort) -> Result<Found, OutOfMemory> {
+/// How many levels stay where the search begins again: the first ones whose variables weigh more than the next one would.
+fn kept_levels(heap: &mut Heap, known: &Known) -> u32 {
+    let next = next_weight(heap, known);
+    levels_above(known, &heap.weights, next)
+}
+
+/// Notes how far the search came, and goes back to where other variables would be chosen now.
+fn pause(solver: &mut Solver<'_>) {
+    let count = solver.known.count;
+    note_best(solver.course, solver.problem, solver.known, count);
+    let mut kept = 0;
+    if !solver.ranking.has_assumed() {
+        kept = kept_levels(solver.heap, solver.known);
+    }
+    backjump(solver, kept);
+}
+
+/// Whether the assumed literals are still to be taken to hold.
+fn is_to_assume(known: &Known, ranking: &Ranking) -> bool {
+    known.levels.is_empty() & ranking.has_assumed()
+}
+
+/// Searches within the limits, or until a growth is refused.
+pub(crate) fn search(solver: &mut Solver<'_>, limits: Effort) -> Found {
     for _ in 0..u64::MAX {
-        let conflict = propagate(&mut solver.problem, &mut solver.known, &mut solver.closure);
+        let conflict = propagate(solver.problem, solver.known, solver.closure);
         if let Some(conflict) = conflict {
-            if let Some(found) = handle_conflict(solver, conflict)? {
-                return Ok(found);
+            if let Some(found) = handle_conflict(solver, conflict) {
+                return found;
             }
-            continue;
-        }
-        if is_over(solver, limits) {
-            let count = solver.known.count;
-            note_best(solver, count);
-            begin_again(solver);
-            check_room(solver)?;
-            return Ok(Found::Spent);
-        }
-        if solver.known.levels.is_empty() && !solver.assumed.is_empty() {
+        } else if is_over(solver, limits) {
+            pause(solver);
+            return Found::Spent;
+        } else if is_to_assume(solver.known, solver.ranking) {
             if !assume(solver) {
-                solver.conflicts = solver.conflicts.wrapping_add(1);
+                note_conflict(solver.course);
                 backjump(solver, 0);
-                return Ok(Found::NotAssumed);
+                return Found::NotAssumed;
             }
-            continue;
-        }
-        if !choose(solver) {
-            check_room(solver)?;
-            return Ok(Found::All);
+        } else if !choose(solver) {
+            return Found::All;
         }
     }
-    Ok(Found::Spent)
+    Found::Spent
 }

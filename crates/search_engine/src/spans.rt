@@ -86,27 +86,29 @@ fn first_after(spans: &[Span], stamp: u32) -> usize {
     low
 }
 
+/// When the row ran. Its pairs are not numbered yet, and the literal that it commits is still none, if its fate is open.
+fn read_span(row: &TxRow) -> Span {
+    let mut span = NOBODY;
+    span.tx = row.tx();
+    span.first = row.first();
+    span.last = row.last();
+    span.until = row.last();
+    match row.status() {
+        Status::Committed => span.commits = TRUE,
+        Status::Aborted => {}
+        Status::CommitPending => {
+            span.last = NONE;
+            span.commits = NONE;
+        }
+        Status::Live => span.last = NONE,
+    }
+    span
+}
+
 /// Reads the rows' spans. The literals that those commit whose fates are open are still none.
 pub(crate) fn read_spans(spans: &mut Vec<Span>, rows: &[TxRow]) -> Result<(), OutOfMemory> {
-    for row in rows {
-        let (last, commits) = match row.status() {
-            Status::Committed => (row.last(), TRUE),
-            Status::Aborted => (row.last(), FALSE),
-            Status::CommitPending => (NONE, NONE),
-            Status::Live => (NONE, FALSE),
-        };
-        push(
-            spans,
-            Span {
-                tx: row.tx(),
-                first: row.first(),
-                last,
-                until: row.last(),
-                end: 0,
-                base: 0,
-                commits,
-            },
-        )?;
+    for row in 0..rows.len() {
+        push(spans, read_span(&rows[row]))?;
     }
     number_pairs(spans);
     Ok(())

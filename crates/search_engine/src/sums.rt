@@ -199,6 +199,25 @@ pub(crate) fn sum_ended(
     }
 }
 
+/// Adds the term to the sum that is being made that the row gains so much where it stands before the other and commits, if it can.
+fn add_term(problem: &mut Problem, row: usize, other: usize, gain: i64) {
+    let commits = span_of(&problem.spans, row).commits;
+    let stands = before(&problem.spans, row, other);
+    if (gain == 0) | (commits == FALSE) | (stands == FALSE) {
+        return;
+    }
+    ask(&mut problem.variables, stands);
+    let sums = &mut problem.sums;
+    let sum = short(sums.sums.len());
+    sums.terms.add(Term {
+        gain,
+        literals: [stands, commits],
+        sum,
+        holding: u8::from(stands == TRUE).wrapping_add(u8::from(commits == TRUE)),
+        failing: 0,
+    });
+}
+
 /// Adds the terms of those that ran beside the row of that place, but for the one that is skipped, to the sum that is being made: each
 /// stands before the row, and commits.
 pub(crate) fn add_terms(
@@ -210,22 +229,12 @@ pub(crate) fn add_terms(
     skipped: usize,
 ) {
     let row = at(rows, place, 0);
-    let sum = short(problem.sums.sums.len());
-    for other in concurrent.others_of(place) {
-        let (gain, from) = (gains.at(*other), at(rows, *other, 0));
-        let commits = span_of(&problem.spans, from).commits;
-        let stands = before(&problem.spans, from, row);
-        if *other == skipped || gain == 0 || commits == FALSE || stands == FALSE {
-            continue;
+    let others = concurrent.others_of(place);
+    for index in 0..others.len() {
+        let other = others[index];
+        if other != skipped {
+            add_term(problem, at(rows, other, 0), row, gains.at(other));
         }
-        ask(&mut problem.variables, stands);
-        problem.sums.terms.add(Term {
-            gain,
-            literals: [stands, commits],
-            sum,
-            holding: u8::from(stands == TRUE).wrapping_add(u8::from(commits == TRUE)),
-            failing: 0,
-        });
     }
 }
 
@@ -259,14 +268,28 @@ fn common(one: i64, other: i64) -> i64 {
     whole
 }
 
-/// The origin and what is wanted of a sum of such terms; where they leave another remainder, a sum that is out of reach.
-fn remainder_or_sum(terms: &[Term], origin: Origin, wanted: i64, high: i64) -> (Origin, i64) {
+/// What the terms of a sum can add up to at least, at most, and by one of them.
+#[derive(Clone, Copy)]
+struct Reach {
+    low: i64,
+    high: i64,
+    most: i64,
+}
+
+/// The origin and what is wanted of a sum of the terms from the place on; where they leave another remainder, a sum that is out of reach.
+fn remainder_or_sum(
+    terms: &Table<Term>,
+    from: usize,
+    origin: Origin,
+    wanted: i64,
+    high: i64,
+) -> (Origin, i64) {
     let Origin::Counter(row, object) = origin else {
         return (origin, wanted);
     };
     let mut modulus: i64 = 0;
-    for term in terms {
-        modulus = common(term.gain.saturating_abs(), modulus);
+    for place in from..terms.len() {
+        modulus = common(terms.at(place).gain.saturating_abs(), modulus);
     }
     match wanted.checked_rem(modulus) {
         Some(0) | None => (origin, wanted),
@@ -277,35 +300,36 @@ fn remainder_or_sum(terms: &[Term], origin: Origin, wanted: i64, high: i64) -> (
     }
 }
 
-/// What the terms can add up to at least, at most, and by one of them.
-fn reach_of(terms: &[Term]) -> (i64, i64, i64) {
-    let (mut low, mut high, mut most): (i64, i64, i64) = (0, 0, 1);
-    for term in terms {
-        most = most.max(term.gain.saturating_abs());
-        if term.gain > 0 {
-            high = high.saturating_add(term.gain);
-        } else {
-            low = low.saturating_add(term.gain);
-        }
+/// What the terms from the place on can add up to.
+fn reach_of(terms: &Table<Term>, from: usize) -> Reach {
+    let mut low: i64 = 0;
+    let mut high: i64 = 0;
+    let mut most: i64 = 1;
+    for place in from..terms.len() {
+        let gain = terms.at(place).gain;
+        most = most.max(gain.saturating_abs());
+        high = high.saturating_add(gain.max(0));
+        low = low.saturating_add(gain.min(0));
     }
-    (low, high, most)
+    Reach { low, high, most }
 }
 
 /// Ends the sum of the terms from the place on. Where it cannot be reached, the slack says so.
 pub(crate) fn end_sum(sums: &mut Sums, from: usize, guard: u32, wanted: i64, origin: Origin) {
-    let to = sums.terms.len();
-    let (low, high, most) = reach_of(sums.terms.range(from, to));
-    if high > GREATEST || low < -GREATEST || wanted == i64::MAX {
-        sums.terms.truncate(from);
+    let terms = &mut sums.terms;
+    let reach = reach_of(terms, from);
+    if (reach.high > GREATEST) | (reach.low < -GREATEST) | (wanted == i64::MAX) {
+        terms.truncate(from);
         return;
     }
-    let (origin, wanted) = remainder_or_sum(sums.terms.range(from, to), origin, wanted, high);
+    let (origin, wanted) = remainder_or_sum(terms, from, origin, wanted, reach.high);
+    let to = terms.len();
     let wanted = wanted.max(-4 * GREATEST).min(4 * GREATEST);
     sums.waiting.add(short(sums.sums.len()));
     sums.slacks.add(Slack {
-        below: wanted.saturating_sub(low),
-        above: high.saturating_sub(wanted),
-        most,
+        below: wanted.saturating_sub(reach.low),
+        above: reach.high.saturating_sub(wanted),
+        most: reach.most,
         waits: true,
     });
     sums.sums.add(Sum {

@@ -1,8 +1,8 @@
 #![tactic(auto)]
 //! Items of lists by their places, for searches of which nothing is proved but that they end.
 //!
-//! Such a search keeps its tables in flat lists, and where a place is none there is nothing to do: `at` and `range` then give what the caller says, or
-//! nothing, and `set` does nothing. So no caller has to prove that a place is one. `push`, `extend_by` and `fill` meet want of memory once for all.
+//! Such a search keeps its tables in flat lists, and where a place is none there is nothing to do: `at` and `range` then give what the caller says,
+//! or nothing, and `set` does nothing. So no caller has to prove that a place is one. `push` meets want of memory once for all lists.
 //! A `Table` has its items and what it reads as beyond them, and notes a growth that was refused: its search asks for that in the end.
 //!
 //! ```
@@ -17,5 +17,5 @@
 mod lists;
 mod table;
 
-pub use lists::{NONE, at, extend_by, fill, push, range, set, short};
+pub use lists::{NONE, at, push, range, set, short};
 pub use table::Table;

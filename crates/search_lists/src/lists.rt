@@ -42,17 +42,3 @@ pub fn push<T: Drop>(items: &mut Vec<T>, item: T) -> Result<(), OutOfMemory> {
     items.push(item)?;
     Ok(())
 }
-
-/// Puts the items at the end.
-pub fn extend_by<T: Copy>(items: &mut Vec<T>, more: &[T]) -> Result<(), OutOfMemory> {
-    items.extend_from_slice(more)?;
-    Ok(())
-}
-
-/// Makes the list so long, with the item at the places that are new.
-pub fn fill<T: Copy + Drop>(items: &mut Vec<T>, count: usize, item: T) -> Result<(), OutOfMemory> {
-    for _ in items.len()..count {
-        push(items, item)?;
-    }
-    Ok(())
-}
