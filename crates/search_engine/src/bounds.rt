@@ -2,7 +2,7 @@
 
 use crate::known::{Antecedent, Conflict, Known, assign};
 use crate::literals::{Table, neg, var};
-use crate::sums::{Slack, Sums, Term};
+use crate::sums::{Slack, Sum, Sums, Term};
 
 /// The sum is to be looked at, if it does not wait yet.
 fn wake(slack: &mut Slack, waiting: &mut Table<u32>, number: u32) {
@@ -75,30 +75,41 @@ fn forget(term: &mut Term, slack: &mut Slack, holds: bool) {
     }
 }
 
+/// One of the term's literals holds, or fails, from now on or no longer.
+fn count_term(
+    term: &mut Term,
+    slack: &mut Slack,
+    waiting: &mut Table<u32>,
+    holds: bool,
+    is_new: bool,
+) {
+    if !is_new {
+        forget(term, slack, holds);
+        return;
+    }
+    let forces = if holds {
+        note_holding(term, slack)
+    } else {
+        note_failing(term, slack)
+    };
+    if forces {
+        wake(slack, waiting, term.sum);
+    }
+}
+
 /// The literal holds from now on, or no longer: the terms that it is in change.
 pub(crate) fn count_terms(sums: &mut Sums, literal: u32, is_new: bool) -> usize {
     let from = sums.starts.at(var(literal)) as usize;
     let to = sums.starts.at(var(literal).wrapping_add(1)) as usize;
     let (terms, slacks) = (sums.terms.items_mut(), sums.slacks.items_mut());
-    for used in sums.occurrences.range(from, to) {
-        let holds = (*used & 1) == (literal & 1);
-        let Some(term) = terms.get_mut((*used >> 1) as usize) else {
-            continue;
-        };
-        let Some(slack) = slacks.get_mut(term.sum as usize) else {
-            continue;
-        };
-        if !is_new {
-            forget(term, slack, holds);
-            continue;
-        }
-        let forces = if holds {
-            note_holding(term, slack)
-        } else {
-            note_failing(term, slack)
-        };
-        if forces {
-            wake(slack, &mut sums.waiting, term.sum);
+    let (occurrences, waiting) = (&sums.occurrences, &mut sums.waiting);
+    for place in from..to {
+        let used = occurrences.at(place);
+        let holds = (used & 1) == (literal & 1);
+        if let Some(term) = terms.get_mut((used >> 1) as usize) {
+            if let Some(slack) = slacks.get_mut(term.sum as usize) {
+                count_term(term, slack, waiting, holds, is_new);
+            }
         }
     }
     to.saturating_sub(from)
@@ -147,10 +158,33 @@ fn settle(sums: &mut Sums, number: u32) {
     sums.slacks.set(number as usize, slack);
 }
 
-/// Looks at the last sum that waits, if one does: whether it can be what is wanted, and what that forces.
-pub(crate) fn propagate_waiting(known: &mut Known, sums: &mut Sums) -> Option<Conflict> {
-    let number = sums.waiting.pop()?;
-    settle(sums, number);
+/// The sum cannot be what is wanted, as its least is above that, or its greatest below it: its guard fails, if it is open.
+fn deny_guard(known: &mut Known, guard: u32, number: u32, is_low: bool) -> Option<Conflict> {
+    if known.value(guard) != 0 {
+        return Some(Conflict::Sum(number, is_low));
+    }
+    let mut antecedent = Antecedent::High(number);
+    if is_low {
+        antecedent = Antecedent::Low(number);
+    }
+    assign(known, neg(guard), antecedent);
+    None
+}
+
+/// Forces what the open terms of the sum have to be.
+fn force_terms(known: &mut Known, terms: &Table<Term>, sum: Sum, slack: Slack, number: u32) {
+    for place in sum.from..sum.to {
+        let term = terms.at(place);
+        if (term.failing == 0) & (term.holding < 2) {
+            force(known, &term, slack, number);
+        }
+    }
+    let count = sum.to.saturating_sub(sum.from);
+    known.work = known.work.wrapping_add(count as u64);
+}
+
+/// Looks at the sum: whether it can be what is wanted, and what that forces.
+fn propagate_sum(known: &mut Known, sums: &Sums, number: u32) -> Option<Conflict> {
     let sum = sums.sums.at(number as usize);
     let guard = known.value(sum.guard);
     if guard == -1 {
@@ -158,30 +192,21 @@ pub(crate) fn propagate_waiting(known: &mut Known, sums: &mut Sums) -> Option<Co
     }
     let slack = sums.slacks.at(number as usize);
     let is_low = slack.below < 0;
-    if is_low || slack.above < 0 {
-        if guard == 0 {
-            let antecedent = if is_low {
-                Antecedent::Low(number)
-            } else {
-                Antecedent::High(number)
-            };
-            assign(known, neg(sum.guard), antecedent);
-            return None;
-        }
-        return Some(Conflict::Sum(number, is_low));
+    if is_low | (slack.above < 0) {
+        return deny_guard(known, sum.guard, number, is_low);
     }
-    if guard == 0 || (slack.below >= slack.most && slack.above >= slack.most) {
-        return None;
+    let is_wide = (slack.below >= slack.most) & (slack.above >= slack.most);
+    if (guard == 1) & !is_wide {
+        force_terms(known, &sums.terms, sum, slack, number);
     }
-    for term in sums.terms.range(sum.from, sum.to) {
-        if term.failing == 0 && term.holding < 2 {
-            force(known, term, slack, number);
-        }
-    }
-    known.work = known
-        .work
-        .wrapping_add(sum.to.saturating_sub(sum.from) as u64);
     None
+}
+
+/// Looks at the last sum that waits, if one does.
+pub(crate) fn propagate_waiting(known: &mut Known, sums: &mut Sums) -> Option<Conflict> {
+    let number = sums.waiting.pop()?;
+    settle(sums, number);
+    propagate_sum(known, sums, number)
 }
 
 /// No sum waits any longer.

@@ -16,3 +16,10 @@ pub(crate) fn neg(literal: u32) -> u32 {
 pub(crate) fn var(literal: u32) -> usize {
     (literal >> 1) as usize
 }
+
+/// Puts the item at the end of the list, and gives its number.
+pub(crate) fn number_item<T: Copy + Drop>(list: &mut Table<T>, item: T) -> u32 {
+    let number = short(list.len());
+    list.add(item);
+    number
+}

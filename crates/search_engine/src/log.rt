@@ -1,10 +1,10 @@
 //! The steps of a search, as they are found: clauses, and what each one follows from.
 
 use crate::analysis::Analysis;
-use crate::encoding::{ORIGIN, Origin, STEP};
+use crate::encoding::{Clauses, ORIGIN, Origin, STEP};
 use crate::explanation::{Contribution, NO_CONTRIBUTION, View, explain, literals_of, pair_of};
-use crate::known::{Antecedent, Conflict};
-use crate::literals::{NONE, Table, neg, short, var};
+use crate::known::{Antecedent, Conflict, Known};
+use crate::literals::{NONE, Table, neg, number_item, short, var};
 use std::alloc::Global;
 
 /// What a step follows from: its origin alone, or the steps that the hints between these places name.
@@ -48,6 +48,24 @@ const NOT_PLACED: Placed = Placed {
     number: 0,
 };
 
+/// The steps that give what is known: for each origin of a clause, for each variable the literal that holds in any case, and the last one that it was
+/// forced by.
+#[derive(Drop)]
+struct Given {
+    origins: Table<u32>,
+    units: Table<u32>,
+    forced: Table<u32>,
+}
+
+/// What a step needs, by the places of the trail, and the literals and the bounds that are still to be looked at for that.
+#[derive(Drop)]
+struct Needs {
+    is_needed: Table<bool>,
+    needed: Table<Placed>,
+    todo: Table<u32>,
+    contributions: Table<Contribution>,
+}
+
 /// What is written down of a search, if anything is.
 #[derive(Drop)]
 pub(crate) struct Log {
@@ -55,16 +73,10 @@ pub(crate) struct Log {
     pub steps: StepLog,
     /// The step of the last conflict.
     pub last: u32,
-    /// For each origin of a clause the step that gives it; for each variable the step that gives the literal which holds in any case, and
-    /// the last step that it was forced by.
-    origins: Table<u32>,
-    units: Table<u32>,
-    forced: Table<u32>,
-    is_needed: Table<bool>,
-    needed: Table<Placed>,
-    todo: Table<u32>,
+    given: Given,
+    needs: Needs,
+    /// A clause that is being made.
     clause: Table<u32>,
-    contributions: Table<Contribution>,
 }
 
 impl Log {
@@ -78,14 +90,18 @@ impl Log {
                 hints: Table::new(alloc, NONE),
             },
             last: NONE,
-            origins: Table::new(alloc, NONE),
-            units: Table::new(alloc, NONE),
-            forced: Table::new(alloc, NONE),
-            is_needed: Table::new(alloc, false),
-            needed: Table::new(alloc, NOT_PLACED),
-            todo: Table::new(alloc, 0),
+            given: Given {
+                origins: Table::new(alloc, NONE),
+                units: Table::new(alloc, NONE),
+                forced: Table::new(alloc, NONE),
+            },
+            needs: Needs {
+                is_needed: Table::new(alloc, false),
+                needed: Table::new(alloc, NOT_PLACED),
+                todo: Table::new(alloc, 0),
+                contributions: Table::new(alloc, NO_CONTRIBUTION),
+            },
             clause: Table::new(alloc, 0),
-            contributions: Table::new(alloc, NO_CONTRIBUTION),
         }
     }
 
@@ -94,23 +110,24 @@ impl Log {
         self.steps.steps.is_short()
             | self.steps.literals.is_short()
             | self.steps.hints.is_short()
-            | self.origins.is_short()
-            | self.units.is_short()
-            | self.forced.is_short()
-            | self.is_needed.is_short()
-            | self.needed.is_short()
-            | self.todo.is_short()
+            | self.given.origins.is_short()
+            | self.given.units.is_short()
+            | self.given.forced.is_short()
+            | self.needs.is_needed.is_short()
+            | self.needs.needed.is_short()
+            | self.needs.todo.is_short()
+            | self.needs.contributions.is_short()
             | self.clause.is_short()
-            | self.contributions.is_short()
     }
 }
 
 /// Room for so many variables and origins.
 pub(crate) fn make_log(log: &mut Log, variables: usize, origins: usize) {
-    log.origins.fill(origins);
-    log.units.fill(variables);
-    log.forced.fill(variables);
-    log.is_needed.fill(variables);
+    let given = &mut log.given;
+    given.origins.fill(origins);
+    given.units.fill(variables);
+    given.forced.fill(variables);
+    log.needs.is_needed.fill(variables);
 }
 
 /// How many bytes the steps take, about.
@@ -122,23 +139,27 @@ pub(crate) fn bytes_logged(steps: &StepLog) -> usize {
 
 /// Adds a step, and gives its number.
 fn add_step(steps: &mut StepLog, literals: &[u32], why: Why) -> u32 {
-    let number = short(steps.steps.len());
-    let from = steps.literals.len();
-    steps.literals.add_all(literals);
-    let to = steps.literals.len();
-    steps.steps.add(Logged { from, to, why });
-    number
+    let list = &mut steps.literals;
+    let from = list.len();
+    list.add_all(literals);
+    let to = list.len();
+    number_item(&mut steps.steps, Logged { from, to, why })
+}
+
+/// Adds a step of what follows from the steps that the hints name from that place on, and gives its number.
+fn add_units(steps: &mut StepLog, from: usize, literals: &[u32]) -> u32 {
+    let to = steps.hints.len();
+    add_step(steps, literals, Why::Units(from, to))
 }
 
 /// The step that gives the clause.
 fn step_of_clause(
     steps: &mut StepLog,
     origins: &mut Table<u32>,
-    view: &View<'_>,
+    clauses: &Clauses,
     clause: u32,
 ) -> u32 {
     let place = clause as usize;
-    let clauses = &view.problem.clauses;
     let origin = clauses.arena.at(place.wrapping_add(ORIGIN));
     if origin == NONE {
         return clauses.arena.at(place.wrapping_add(STEP));
@@ -160,13 +181,9 @@ fn is_step(steps: &StepLog, number: u32, literals: &[u32]) -> bool {
     is_there && *steps.literals.range(step.from, step.to) == *literals
 }
 
-/// The step whose clause forced the literal. If it is the same as when one was last made of it, that one is taken.
-fn step_of(log: &mut Log, view: &View<'_>, literal: u32) -> u32 {
-    let antecedent = view.known.state(literal).antecedent;
-    if let Antecedent::Clause(clause) = antecedent {
-        return step_of_clause(&mut log.steps, &mut log.origins, view, clause);
-    }
-    let origin = match antecedent {
+/// What the clause holds by that forced the literal, if it is none of those that are listed.
+fn origin_of(view: &View<'_>, antecedent: Antecedent, literal: u32) -> Origin {
+    match antecedent {
         Antecedent::Circle(row, other) => match pair_of(&view.problem.variables.roles, literal) {
             Some((first, last)) => Origin::Circle(short(first), row, other, short(last)),
             None => Origin::Tried,
@@ -176,27 +193,69 @@ fn step_of(log: &mut Log, view: &View<'_>, literal: u32) -> u32 {
             view.problem.sums.sums.at(sum as usize).origin
         }
         Antecedent::Choice | Antecedent::Clause(_) => Origin::Tried,
-    };
-    log.clause.clear();
-    explain(view, literal, &mut log.contributions, &mut log.clause);
-    for found in log.clause.items_mut() {
-        *found = neg(*found);
     }
-    log.clause.add(literal);
-    let known = log.forced.at(var(literal));
-    if is_step(&log.steps, known, log.clause.items()) {
+}
+
+/// Makes the clause that forced the literal.
+fn read_clause(
+    clause: &mut Table<u32>,
+    contributions: &mut Table<Contribution>,
+    view: &View<'_>,
+    literal: u32,
+) {
+    clause.clear();
+    explain(view, literal, contributions, clause);
+    for place in 0..clause.len() {
+        clause.set(place, neg(clause.at(place)));
+    }
+    clause.add(literal);
+}
+
+/// The step of the clause that forced the literal. If it is the same as when one was last made of it, that one is taken.
+fn step_of_forced(
+    steps: &mut StepLog,
+    forced: &mut Table<u32>,
+    clause: &[u32],
+    literal: u32,
+    origin: Origin,
+) -> u32 {
+    let known = forced.at(var(literal));
+    if is_step(steps, known, clause) {
         return known;
     }
-    let number = add_step(&mut log.steps, log.clause.items(), Why::Origin(origin));
-    log.forced.set(var(literal), number);
+    let number = add_step(steps, clause, Why::Origin(origin));
+    forced.set(var(literal), number);
     number
+}
+
+/// The step whose clause forced the literal.
+fn step_of(log: &mut Log, view: &View<'_>, literal: u32) -> u32 {
+    let antecedent = view.known.state(literal).antecedent;
+    let (steps, given) = (&mut log.steps, &mut log.given);
+    if let Antecedent::Clause(clause) = antecedent {
+        return step_of_clause(steps, &mut given.origins, &view.problem.clauses, clause);
+    }
+    let origin = origin_of(view, antecedent, literal);
+    let clause = &mut log.clause;
+    read_clause(clause, &mut log.needs.contributions, view, literal);
+    step_of_forced(steps, &mut given.forced, clause.items(), literal, origin)
+}
+
+/// Makes a clause of the opposites of the literals.
+fn list_opposites(clause: &mut Table<u32>, literals: &[u32]) {
+    clause.clear();
+    for place in 0..literals.len() {
+        clause.add(neg(literals[place]));
+    }
 }
 
 /// The step of what cannot be. The literals are those that hold and cannot all do.
 fn step_of_conflict(log: &mut Log, view: &View<'_>, conflict: Conflict, literals: &[u32]) -> u32 {
+    let steps = &mut log.steps;
     let origin = match conflict {
         Conflict::Clause(clause) => {
-            return step_of_clause(&mut log.steps, &mut log.origins, view, clause);
+            let origins = &mut log.given.origins;
+            return step_of_clause(steps, origins, &view.problem.clauses, clause);
         }
         Conflict::Circle(row, from, to, other) => {
             Origin::Circle(short(row), short(from), short(to), short(other))
@@ -204,98 +263,174 @@ fn step_of_conflict(log: &mut Log, view: &View<'_>, conflict: Conflict, literals
         Conflict::Between(source, writer) => Origin::Between(source, writer),
         Conflict::Sum(sum, _) => view.problem.sums.sums.at(sum as usize).origin,
     };
-    log.clause.clear();
-    for literal in literals {
-        log.clause.add(neg(*literal));
+    let clause = &mut log.clause;
+    list_opposites(clause, literals);
+    add_step(steps, clause.items(), Why::Origin(origin))
+}
+
+/// Notes that the literal is needed, if it is not the one that always holds. False where that was noted.
+fn note_needed(
+    is_needed: &mut Table<bool>,
+    needed: &mut Table<Placed>,
+    known: &Known,
+    number: u32,
+) -> bool {
+    let variable = var(number);
+    if (variable == 0) | (variable >= is_needed.len()) | is_needed.at(variable) {
+        return false;
     }
-    add_step(&mut log.steps, log.clause.items(), Why::Origin(origin))
+    is_needed.set(variable, true);
+    let place = known.state(number).place;
+    needed.add(Placed { place, number });
+    true
+}
+
+/// Puts what is needed in the order of the trail. It is noted no longer.
+fn sort_needed(needed: &mut Table<Placed>, is_needed: &mut Table<bool>) {
+    needed.items_mut().sort_unstable();
+    for place in 0..needed.len() {
+        is_needed.set(var(needed.at(place).number), false);
+    }
 }
 
 /// Finds what the literals need that hold in any case, themselves too, as far as no step gives it yet; in the order of the trail.
-fn find_needed(log: &mut Log, view: &View<'_>, literals: &[u32]) {
-    log.needed.clear();
-    log.todo.clear();
-    log.todo.add_all(literals);
+fn find_needed(needs: &mut Needs, units: &Table<u32>, view: &View<'_>, literals: &[u32]) {
+    let (is_needed, needed) = (&mut needs.is_needed, &mut needs.needed);
+    let todo = &mut needs.todo;
+    needed.clear();
+    todo.clear();
+    todo.add_all(literals);
     for _ in 0..u64::MAX {
-        let Some(number) = log.todo.pop() else {
+        let Some(literal) = todo.pop() else {
             break;
         };
-        let variable = var(number);
-        if variable == 0 || variable >= log.is_needed.len() || log.is_needed.at(variable) {
-            continue;
-        }
-        log.is_needed.set(variable, true);
-        let place = view.known.state(number).place;
-        log.needed.add(Placed { place, number });
-        if log.units.at(variable) == NONE {
-            explain(view, number, &mut log.contributions, &mut log.todo);
+        if note_needed(is_needed, needed, view.known, literal) {
+            if units.at(var(literal)) == NONE {
+                explain(view, literal, &mut needs.contributions, todo);
+            }
         }
     }
-    log.needed.items_mut().sort_unstable();
-    for found in log.needed.items() {
-        log.is_needed.set(var(found.number), false);
+    sort_needed(needed, is_needed);
+}
+
+/// Names as hints the steps that the literals hold in any case.
+fn hint_units(hints: &mut Table<u32>, units: &Table<u32>, literals: &[u32]) {
+    for place in 0..literals.len() {
+        hints.add(units.at(var(literals[place])));
     }
 }
 
-/// Adds the steps that the literals hold in any case. Each follows from the step that forced it and from earlier such ones; where there are
-/// no such ones that step says so itself.
+/// The step that the literal holds in any case: it follows from the one that forced it and from earlier such ones; where there are no such ones
+/// that one says so itself.
+fn add_unit(log: &mut Log, view: &View<'_>, literal: u32, forced: u32) -> u32 {
+    let (steps, clause) = (&mut log.steps, &mut log.clause);
+    clause.clear();
+    explain(view, literal, &mut log.needs.contributions, clause);
+    if clause.is_empty() {
+        return forced;
+    }
+    let hints = &mut steps.hints;
+    let from = hints.len();
+    hint_units(hints, &log.given.units, clause.items());
+    hints.add(forced);
+    add_units(steps, from, &[literal])
+}
+
+/// Adds the steps that the literals hold in any case, and those of what they need.
 fn log_units(log: &mut Log, view: &View<'_>, literals: &[u32]) {
-    find_needed(log, view, literals);
-    for place in 0..log.needed.len() {
-        let literal = log.needed.at(place).number;
-        if log.units.at(var(literal)) != NONE {
-            continue;
+    find_needed(&mut log.needs, &log.given.units, view, literals);
+    for place in 0..log.needs.needed.len() {
+        let literal = log.needs.needed.at(place).number;
+        if log.given.units.at(var(literal)) == NONE {
+            let forced = step_of(log, view, literal);
+            let number = add_unit(log, view, literal, forced);
+            log.given.units.set(var(literal), number);
         }
-        let mut number = step_of(log, view, literal);
-        log.clause.clear();
-        explain(view, literal, &mut log.contributions, &mut log.clause);
-        if !log.clause.is_empty() {
-            let from = log.steps.hints.len();
-            for other in log.clause.items() {
-                log.steps.hints.add(log.units.at(var(*other)));
-            }
-            log.steps.hints.add(number);
-            let to = log.steps.hints.len();
-            number = add_step(&mut log.steps, &[literal], Why::Units(from, to));
-        }
-        log.units.set(var(literal), number);
     }
 }
 
 /// Adds the step of the literals that follows from the steps that the hints name from that one on, from those that are needed, and from the
 /// last conflict.
-fn add_last(log: &mut Log, from: usize, literals: &[u32]) -> u32 {
-    for found in log.needed.items() {
-        log.steps.hints.add(found.number);
+fn add_last(
+    steps: &mut StepLog,
+    needed: &Table<Placed>,
+    last: u32,
+    from: usize,
+    literals: &[u32],
+) -> u32 {
+    let hints = &mut steps.hints;
+    for place in 0..needed.len() {
+        hints.add(needed.at(place).number);
     }
-    log.steps.hints.add(log.last);
-    let to = log.steps.hints.len();
-    add_step(&mut log.steps, literals, Why::Units(from, to))
+    hints.add(last);
+    add_units(steps, from, literals)
+}
+
+/// Notes that the steps are needed that forced the literals, in the order of the trail.
+fn list_forcing(log: &mut Log, view: &View<'_>, literals: &[u32]) {
+    log.needs.needed.clear();
+    for index in 0..literals.len() {
+        let literal = literals[index];
+        let number = step_of(log, view, literal);
+        let place = view.known.state(literal).place;
+        log.needs.needed.add(Placed { place, number });
+    }
+    log.needs.needed.items_mut().sort_unstable();
+}
+
+/// Names as hints the steps that the literals hold in any case, each once.
+fn hint_sure(
+    hints: &mut Table<u32>,
+    is_needed: &mut Table<bool>,
+    units: &Table<u32>,
+    literals: &[u32],
+) {
+    for place in 0..literals.len() {
+        let variable = var(literals[place]);
+        if (variable < is_needed.len()) & !is_needed.at(variable) {
+            is_needed.set(variable, true);
+            hints.add(units.at(variable));
+        }
+    }
+    for place in 0..literals.len() {
+        is_needed.set(var(literals[place]), false);
+    }
 }
 
 /// Adds the step of a learned clause: it follows from those that give what holds in any case, from those that forced the literals that
 /// were used, and from the last conflict.
 pub(crate) fn log_learned(log: &mut Log, view: &View<'_>, analysis: &Analysis) -> u32 {
-    log_units(log, view, analysis.sure.items());
-    log.needed.clear();
-    for literal in analysis.used.items() {
-        let number = step_of(log, view, *literal);
-        let place = view.known.state(*literal).place;
-        log.needed.add(Placed { place, number });
-    }
-    log.needed.items_mut().sort_unstable();
-    let from = log.steps.hints.len();
-    for literal in analysis.sure.items() {
-        let variable = var(*literal);
-        if variable < log.is_needed.len() && !log.is_needed.at(variable) {
-            log.is_needed.set(variable, true);
-            log.steps.hints.add(log.units.at(variable));
+    let sure = analysis.sure.items();
+    log_units(log, view, sure);
+    list_forcing(log, view, analysis.used.items());
+    let (steps, needs) = (&mut log.steps, &mut log.needs);
+    let from = steps.hints.len();
+    hint_sure(
+        &mut steps.hints,
+        &mut needs.is_needed,
+        &log.given.units,
+        sure,
+    );
+    add_last(
+        steps,
+        &needs.needed,
+        log.last,
+        from,
+        analysis.clause.items(),
+    )
+}
+
+/// Puts the steps of the needed literals in place of them: those that they hold in any case, or, where there are none, those that forced them.
+fn replace_needed(log: &mut Log, view: &View<'_>) {
+    for place in 0..log.needs.needed.len() {
+        let mut found = log.needs.needed.at(place);
+        let literal = found.number;
+        found.number = log.given.units.at(var(literal));
+        if found.number == NONE {
+            found.number = step_of(log, view, literal);
         }
+        log.needs.needed.set(place, found);
     }
-    for literal in analysis.sure.items() {
-        log.is_needed.set(var(*literal), false);
-    }
-    add_last(log, from, analysis.clause.items())
 }
 
 /// Notes the step of what cannot be, and, if that is the end, the step with no literal: the conflict then needs but what holds in any case.
@@ -307,21 +442,13 @@ pub(crate) fn log_conflict(
     literals: &[u32],
     is_end: bool,
 ) {
-    log.last = step_of_conflict(log, view, conflict, literals);
-    if !is_end || is_step(&log.steps, log.last, &[]) {
+    let last = step_of_conflict(log, view, conflict, literals);
+    log.last = last;
+    if !is_end || is_step(&log.steps, last, &[]) {
         return;
     }
-    find_needed(log, view, literals);
-    for place in 0..log.needed.len() {
-        let mut found = log.needed.at(place);
-        let unit = log.units.at(var(found.number));
-        found.number = if unit == NONE {
-            step_of(log, view, found.number)
-        } else {
-            unit
-        };
-        log.needed.set(place, found);
-    }
+    find_needed(&mut log.needs, &log.given.units, view, literals);
+    replace_needed(log, view);
     let from = log.steps.hints.len();
-    log.last = add_last(log, from, &[]);
+    log.last = add_last(&mut log.steps, &log.needs.needed, last, from, &[]);
 }

@@ -1,7 +1,7 @@
 //! Queues: which addition is taken, how many are taken and added before, and what was added before is taken before.
 
 use crate::encoding::{Origin, Role, Variables, add_clause, add_variable, ask};
-use crate::literals::{FALSE, NONE, TRUE, Table, at, neg, range, short};
+use crate::literals::{FALSE, NONE, TRUE, Table, at, neg, number_item, range, short};
 use crate::problem::{Problem, is_large, spend};
 use crate::spans::{Span, before, instant, span_of};
 use crate::sums::{Concurrent, add_all_terms, add_terms, end_sum, find_concurrent, sum_ended};
@@ -373,13 +373,6 @@ struct Demand {
 struct Guard {
     literal: u32,
     item: u32,
-}
-
-/// Puts the item at the end of the list, and gives its number.
-fn number_item<T: Copy + Drop>(list: &mut Table<T>, item: T) -> u32 {
-    let number = short(list.len());
-    list.add(item);
-    number
 }
 
 /// Adds to the clause that one of the takers of what was added stands before the asked row, that row's own takes aside.

@@ -2,12 +2,12 @@
 
 use crate::cell_index::sort_cells;
 use crate::cells::{Touch, add_cell};
-use crate::counting::list_rows;
+use crate::counting::{Counting, list_rows};
 use crate::encoding::{Origin, add_pairs};
 use crate::literals::{TRUE, Table, at, range, short};
 use crate::problem::{Problem, is_large, sort_occurrences, spend, unless_short};
 use crate::queues::{NO_OP, PlacedOp, QueueOp, QueueUse, add_queue};
-use crate::spans::{NOBODY, count_pairs, read_spans};
+use crate::spans::{NOBODY, Span, count_pairs, read_spans};
 use crate::sums::{Concurrent, add_all_terms, end_sum, find_concurrent, sum_ended};
 use aud_event::{Answer, ObjDecl, ObjKind, Op, OutOfMemory};
 use aud_history::TxRow;
@@ -67,17 +67,22 @@ const NO_COUNT: Count = Count {
     gain: 0,
 };
 
-/// Room for what the rows do with one object, or with one cell of it.
+/// Room for what the rows do with one counter: what each one sees and adds, which rows these are, which of them ran beside which, what each one
+/// adds, and what those add that had ended before it began.
 #[derive(Drop)]
-struct Room {
-    touches: Table<Touch>,
+struct CounterRoom {
     counts: Table<Count>,
-    /// Of a counter the rows that touch it, which of them ran beside which, what each one adds, and what those add that had ended before it
-    /// began.
     rows: Table<usize>,
     concurrent: Concurrent,
     gains: Table<i64>,
     ended: Table<i64>,
+}
+
+/// Room for what the rows do with one object, or with one cell of it.
+#[derive(Drop)]
+struct Room {
+    touches: Table<Touch>,
+    counter: CounterRoom,
     ops: Table<PlacedOp>,
     queue: QueueUse,
 }
@@ -87,11 +92,13 @@ impl Room {
     fn empty(alloc: Global) -> Room {
         Room {
             touches: Table::new(alloc, NO_TOUCH),
-            counts: Table::new(alloc, NO_COUNT),
-            rows: Table::new(alloc, 0),
-            concurrent: Concurrent::empty(alloc),
-            gains: Table::new(alloc, 0),
-            ended: Table::new(alloc, 0),
+            counter: CounterRoom {
+                counts: Table::new(alloc, NO_COUNT),
+                rows: Table::new(alloc, 0),
+                concurrent: Concurrent::empty(alloc),
+                gains: Table::new(alloc, 0),
+                ended: Table::new(alloc, 0),
+            },
             ops: Table::new(alloc, NO_OP),
             queue: QueueUse::empty(alloc),
         }
@@ -100,11 +107,11 @@ impl Room {
     /// Whether some growth was refused.
     fn is_short(&self) -> bool {
         self.touches.is_short()
-            | self.counts.is_short()
-            | self.rows.is_short()
-            | self.concurrent.is_short()
-            | self.gains.is_short()
-            | self.ended.is_short()
+            | self.counter.counts.is_short()
+            | self.counter.rows.is_short()
+            | self.counter.concurrent.is_short()
+            | self.counter.gains.is_short()
+            | self.counter.ended.is_short()
             | self.ops.is_short()
             | self.queue.is_short()
     }
@@ -214,7 +221,7 @@ fn read_counts(counts: &mut Table<Count>, executions: &[Execution]) -> Option<us
 }
 
 /// What the row does with an element of a set, as a count of 0 or 1.
-fn member_of(touch: &Touch) -> Count {
+fn member_of(touch: Touch) -> Count {
     let need = match touch.need {
         Some(need) => Some(i64::from(need != Need::Absent)),
         None => None,
@@ -230,10 +237,18 @@ fn member_of(touch: &Touch) -> Count {
     }
 }
 
+/// Lists what each row does with the elements of a set, as counts of 0 or 1.
+fn list_members(counts: &mut Table<Count>, touches: &Table<Touch>) {
+    counts.clear();
+    for place in 0..touches.len() {
+        counts.add(member_of(touches.at(place)));
+    }
+}
+
 /// Adds the sum of what stands before the row at the place, if that row reads the counter, or the element of a set.
 fn add_sum(
     problem: &mut Problem,
-    room: &Room,
+    room: &CounterRoom,
     place: usize,
     (object, element): (u16, Option<i64>),
     opening: i64,
@@ -258,25 +273,49 @@ fn add_sum(
     end_sum(&mut problem.sums, from, TRUE, wanted, origin);
 }
 
-/// Adds what is asked of a counter, or of an element of a set, as far as there is room.
-fn add_counts(problem: &mut Problem, room: &mut Room, named: (u16, Option<i64>), opening: i64) {
-    let cell = problem.counting.openings.len();
-    problem.counting.openings.add(opening);
-    room.rows.clear();
-    room.gains.clear();
-    for count in room.counts.items() {
-        problem.counting.touches.add(CountTouch {
+/// Lists the rows, what each one adds, and, for a beam, what it does with the next cell, which opens so.
+fn list_counts(
+    counting: &mut Counting,
+    rows: &mut Table<usize>,
+    gains: &mut Table<i64>,
+    counts: &Table<Count>,
+    opening: i64,
+) {
+    let (touches, openings) = (&mut counting.touches, &mut counting.openings);
+    let cell = openings.len();
+    openings.add(opening);
+    rows.clear();
+    gains.clear();
+    for place in 0..counts.len() {
+        let count = counts.at(place);
+        touches.add(CountTouch {
             row: count.row,
             cell,
             need: count.need,
             gain: count.gain,
         });
-        room.rows.add(count.row);
-        room.gains.add(count.gain);
+        rows.add(count.row);
+        gains.add(count.gain);
     }
-    let (rows, spans) = (room.rows.items(), &problem.spans[..]);
-    find_concurrent(&mut room.concurrent, spans, rows);
-    sum_ended(&mut room.ended, &room.concurrent, spans, rows, &room.gains);
+}
+
+/// Finds which of the rows ran beside which, and adds up what those add that had ended before each one.
+fn read_ended(room: &mut CounterRoom, spans: &[Span]) {
+    let (rows, concurrent) = (room.rows.items(), &mut room.concurrent);
+    find_concurrent(concurrent, spans, rows);
+    sum_ended(&mut room.ended, concurrent, spans, rows, &room.gains);
+}
+
+/// Adds what is asked of a counter, or of an element of a set, as far as there is room.
+fn add_counts(
+    problem: &mut Problem,
+    room: &mut CounterRoom,
+    named: (u16, Option<i64>),
+    opening: i64,
+) {
+    let (rows, gains) = (&mut room.rows, &mut room.gains);
+    list_counts(&mut problem.counting, rows, gains, &room.counts, opening);
+    read_ended(room, &problem.spans);
     for place in 0..room.counts.len() {
         if is_large(problem) {
             break;
@@ -296,6 +335,23 @@ fn queue_op_of(op: Op, answer: Answer) -> QueueOp {
     }
 }
 
+/// Lists the rows that touch the queue, and the operations of each.
+fn list_ops(ops: &mut Table<PlacedOp>, rows: &mut Table<usize>, executions: &[Execution]) {
+    ops.clear();
+    for index in 0..executions.len() {
+        let found = executions[index];
+        let last = rows.at(rows.len().wrapping_sub(1));
+        if rows.is_empty() | (last != found.row) {
+            rows.add(found.row);
+        }
+        ops.add(PlacedOp {
+            place: rows.len().wrapping_sub(1),
+            number: short(found.number),
+            op: queue_op_of(found.op, found.answer),
+        });
+    }
+}
+
 /// Adds what is asked of a queue.
 fn add_queue_executions(
     problem: &mut Problem,
@@ -303,21 +359,11 @@ fn add_queue_executions(
     executions: &[Execution],
     object: u16,
 ) {
+    let (queue, ops) = (&mut room.queue, &mut room.ops);
     problem.counting.is_all = false;
-    room.queue.begin(object);
-    room.ops.clear();
-    let rows = &mut room.queue.rows;
-    for found in executions {
-        if rows.is_empty() || rows.at(rows.len().wrapping_sub(1)) != found.row {
-            rows.add(found.row);
-        }
-        room.ops.add(PlacedOp {
-            place: rows.len().wrapping_sub(1),
-            number: short(found.number),
-            op: queue_op_of(found.op, found.answer),
-        });
-    }
-    add_queue(problem, &mut room.queue, room.ops.items());
+    queue.begin(object);
+    list_ops(ops, &mut queue.rows, executions);
+    add_queue(problem, queue, ops.items());
 }
 
 /// Adds what is asked of a register, or of a key of a map.
@@ -335,6 +381,21 @@ fn add_content(
     add_cell(problem, touches, (object, cell_with(kind, key)), opens);
 }
 
+/// Adds what is asked of a counter; or gives the row that contradicts itself there.
+fn add_counter(
+    problem: &mut Problem,
+    room: &mut CounterRoom,
+    executions: &[Execution],
+    object: u16,
+    opening: i64,
+) -> Option<usize> {
+    let refused = read_counts(&mut room.counts, executions);
+    if refused.is_none() {
+        add_counts(problem, room, (object, None), opening);
+    }
+    refused
+}
+
 /// Adds what is asked by the executions of one object and key; or gives the row that contradicts itself there.
 fn add_uses(
     problem: &mut Problem,
@@ -347,27 +408,20 @@ fn add_uses(
         add_queue_executions(problem, room, executions, object);
         return None;
     }
-    let refused = if kind == ObjKind::Counter {
-        read_counts(&mut room.counts, executions)
-    } else {
-        read_touches(&mut room.touches, executions, kind)
-    };
+    let counter = &mut room.counter;
+    if kind == ObjKind::Counter {
+        return add_counter(problem, counter, executions, object, opening);
+    }
+    let touches = &mut room.touches;
+    let refused = read_touches(touches, executions, kind);
     if refused.is_some() {
         return refused;
     }
-    match kind {
-        ObjKind::Counter => add_counts(problem, room, (object, None), opening),
-        ObjKind::SetOf => {
-            room.counts.clear();
-            for touch in room.touches.items() {
-                room.counts.add(member_of(touch));
-            }
-            add_counts(problem, room, (object, Some(key)), 0);
-        }
-        _ => {
-            let touches = room.touches.items();
-            add_content(problem, touches, (object, key), (kind, opening));
-        }
+    if kind == ObjKind::SetOf {
+        list_members(&mut counter.counts, touches);
+        add_counts(problem, counter, (object, Some(key)), 0);
+    } else {
+        add_content(problem, touches.items(), (object, key), (kind, opening));
     }
     None
 }
@@ -419,19 +473,26 @@ fn sort_all(problem: &mut Problem) {
 
 /// Adds what is asked of all objects, and sorts it; or gives the row that contradicts itself, on that object and key.
 fn add_history(
-    alloc: Global,
     problem: &mut Problem,
+    room: &mut Room,
+    executions: &mut Table<Execution>,
     shape: &Shape,
-) -> Result<Option<Execution>, OutOfMemory> {
+) -> Option<Execution> {
+    add_pairs(&mut problem.variables, &mut problem.spans);
+    read_executions(executions, shape.table().rows());
+    let objects = shape.plan().objects();
+    let refused = add_all(problem, room, objects, executions.items());
+    sort_all(problem);
+    refused
+}
+
+/// Adds what is asked of all objects, with room for that. It gives the row that contradicts itself, if one does, and whether some growth was refused.
+fn add_with_room(alloc: Global, problem: &mut Problem, shape: &Shape) -> (Option<Execution>, bool) {
     let mut executions = Table::new(alloc, NO_EXECUTION);
     let mut room = Room::empty(alloc);
-    add_pairs(&mut problem.variables, &mut problem.spans);
-    read_executions(&mut executions, shape.table().rows());
-    let objects = shape.plan().objects();
-    let refused = add_all(problem, &mut room, objects, executions.items());
-    sort_all(problem);
-    unless_short(executions.is_short() | room.is_short() | problem.is_short())?;
-    Ok(refused)
+    let refused = add_history(problem, &mut room, &mut executions, shape);
+    let is_short = executions.is_short() | room.is_short() | problem.is_short();
+    (refused, is_short)
 }
 
 /// Reads what the history asks of an order, if the work and the bytes that the problem may take suffice for it.
@@ -444,7 +505,9 @@ pub(crate) fn read(
     if count_pairs(&problem.spans).saturating_mul(100) > problem.allowance.bytes {
         return Ok(Encoded::Large);
     }
-    if let Some(found) = add_history(alloc, problem, shape)? {
+    let (refused, is_short) = add_with_room(alloc, problem, shape);
+    unless_short(is_short)?;
+    if let Some(found) = refused {
         let tx = at(&problem.spans, found.row, NOBODY).tx;
         let (kind, _) = declared_as(shape.plan().objects(), found.object);
         return Ok(Encoded::Clash(tx, found.object, cell_with(kind, found.key)));

@@ -168,18 +168,31 @@ const NO_LITERAL: Literal = Literal {
     holds: false,
 };
 
+impl Names {
+    /// No names. It does not allocate.
+    fn empty(alloc: Global) -> Names {
+        Names {
+            steps: Table::new(alloc, NONE),
+            variables: Table::new(alloc, NONE),
+            atoms: Table::new(alloc, NO_ATOM),
+            is_list_short: false,
+        }
+    }
+
+    /// Whether some growth was refused.
+    fn is_short(&self) -> bool {
+        self.steps.is_short()
+            | self.variables.is_short()
+            | self.atoms.is_short()
+            | self.is_list_short
+    }
+}
+
 /// The numbers of the steps that the last one needs, and room for those of atoms.
-fn names_of(alloc: Global, problem: &Problem, steps: &StepLog, last: u32) -> Names {
-    let mut names = Names {
-        steps: Table::new(alloc, NONE),
-        variables: Table::new(alloc, NONE),
-        atoms: Table::new(alloc, NO_ATOM),
-        is_list_short: false,
-    };
+fn begin_names(names: &mut Names, problem: &Problem, steps: &StepLog, last: u32) {
     names.steps.fill(steps.steps.len());
     names.variables.fill(problem.variables.roles.len());
     number_needed(&mut names.steps, steps, last);
-    names
 }
 
 /// Numbers the steps that the last one needs.
@@ -205,6 +218,38 @@ fn number_needed(numbers: &mut Table<u32>, steps: &StepLog, last: u32) {
     }
 }
 
+/// Names the atoms of the literals that are new.
+fn name_atoms(names: &mut Names, problem: &Problem, literals: &[u32]) {
+    let (variables, atoms) = (&mut names.variables, &mut names.atoms);
+    for place in 0..literals.len() {
+        let variable = var(literals[place]);
+        if (variable < variables.len()) & (variables.at(variable) == NONE) {
+            variables.set(variable, short(atoms.len()));
+            atoms.add(atom_of(problem, variable));
+        }
+    }
+}
+
+/// Adds those of the literals to the clause that deny a source or an item, or those that do not.
+fn add_literals(
+    clause: &mut Table<Literal>,
+    variables: &Table<u32>,
+    problem: &Problem,
+    literals: &[u32],
+    is_guard: bool,
+) {
+    for place in 0..literals.len() {
+        let literal = literals[place];
+        let role = problem.variables.roles.at(var(literal));
+        let denies = matches!(role, Role::Source(_) | Role::Item(_)) & (literal & 1 == 1);
+        if denies == is_guard {
+            let atom = variables.at(var(literal));
+            let holds = literal & 1 == 0;
+            clause.add(Literal { atom, holds });
+        }
+    }
+}
+
 /// The clause, those of its literals first that deny a source or an item. The atoms of the literals that are new are named.
 fn clause_of(
     alloc: Global,
@@ -212,27 +257,45 @@ fn clause_of(
     problem: &Problem,
     literals: &[u32],
 ) -> Vec<Literal> {
-    for literal in literals {
-        let variable = var(*literal);
-        if variable < names.variables.len() && names.variables.at(variable) == NONE {
-            names.variables.set(variable, short(names.atoms.len()));
-            names.atoms.add(atom_of(problem, variable));
-        }
-    }
+    name_atoms(names, problem, literals);
     let mut clause = Table::new(alloc, NO_LITERAL);
-    for is_first in &[true, false] {
-        for literal in literals {
-            let role = problem.variables.roles.at(var(*literal));
-            let is_guard = matches!(role, Role::Source(_) | Role::Item(_)) && literal & 1 == 1;
-            if is_guard == *is_first {
-                let atom = names.variables.at(var(*literal));
-                let holds = literal & 1 == 0;
-                clause.add(Literal { atom, holds });
-            }
-        }
-    }
+    let variables = &names.variables;
+    add_literals(&mut clause, variables, problem, literals, true);
+    add_literals(&mut clause, variables, problem, literals, false);
     names.is_list_short |= clause.is_short();
     clause.into_items()
+}
+
+/// The numbers of the steps that the hints name.
+fn steps_named(alloc: Global, names: &mut Names, hints: &[u32]) -> Vec<u32> {
+    let mut list = Table::new(alloc, NONE);
+    for place in 0..hints.len() {
+        list.add(names.steps.at(hints[place] as usize));
+    }
+    names.is_list_short |= list.is_short();
+    list.into_items()
+}
+
+/// Puts the number at the end of the list, if it is not in it.
+fn add_new(list: &mut Table<u32>, number: u32) {
+    if !list.items().contains(&number) {
+        list.add(number);
+    }
+}
+
+/// The transactions of the rows, each once.
+fn transactions_of(
+    alloc: Global,
+    names: &mut Names,
+    problem: &Problem,
+    rows: [u32; 4],
+) -> Vec<u32> {
+    let mut list = Table::new(alloc, NONE);
+    for place in 0..4 {
+        add_new(&mut list, tx_of(problem, rows[place] as usize));
+    }
+    names.is_list_short |= list.is_short();
+    list.into_items()
 }
 
 /// What the step follows from, if that can be said.
@@ -243,24 +306,14 @@ fn reason_of(
     steps: &StepLog,
     why: Why,
 ) -> Option<Reason<ObjectLaw>> {
-    let mut list = Table::new(alloc, NONE);
     match why {
         Why::Units(from, to) => {
-            for hint in steps.hints.range(from, to) {
-                list.add(names.steps.at(*hint as usize));
-            }
-            names.is_list_short |= list.is_short();
-            Some(Reason::Units(list.into_items()))
+            let hints = steps.hints.range(from, to);
+            Some(Reason::Units(steps_named(alloc, names, hints)))
         }
         Why::Origin(Origin::Circle(first, row, other, last)) => {
-            for row in &[first, row, other, last] {
-                let tx = tx_of(problem, *row as usize);
-                if !list.items().contains(&tx) {
-                    list.add(tx);
-                }
-            }
-            names.is_list_short |= list.is_short();
-            Some(Reason::Circle(list.into_items()))
+            let rows = [first, row, other, last];
+            Some(Reason::Circle(transactions_of(alloc, names, problem, rows)))
         }
         Why::Origin(origin) => Some(Reason::Law(law_of(problem, origin)?)),
     }
@@ -286,6 +339,7 @@ fn add_steps(
             None => return Ok(false),
         }
     }
+    unless_short(names.is_short())?;
     Ok(true)
 }
 
@@ -296,16 +350,10 @@ pub(crate) fn refutation_of(
     steps: &StepLog,
     last: u32,
 ) -> Result<Option<Refutation<ObjectLaw>>, OutOfMemory> {
-    let mut names = names_of(alloc, problem, steps, last);
+    let mut names = Names::empty(alloc);
     let mut said = Vec::new(alloc);
-    let is_said = add_steps(alloc, &mut said, &mut names, problem, steps)?;
-    unless_short(
-        names.steps.is_short()
-            | names.variables.is_short()
-            | names.atoms.is_short()
-            | names.is_list_short,
-    )?;
-    if !is_said {
+    begin_names(&mut names, problem, steps, last);
+    if !add_steps(alloc, &mut said, &mut names, problem, steps)? {
         return Ok(None);
     }
     let empty = Table::new(alloc, NO_ATOM);
