@@ -267,6 +267,7 @@ fn try_beam(
     if !is_found {
         return Ok(false);
     }
+    check_room(solver)?;
     Ok(first_bad(alloc, shape, solver.trial.order.items())?.is_none())
 }
 

@@ -67,8 +67,8 @@ const NO_COUNT: Count = Count {
     gain: 0,
 };
 
-/// Room for what the rows do with one counter: what each one sees and adds, which rows these are, which of them ran beside which, what each one
-/// adds, and what those add that had ended before it began.
+/// Room for what the rows do with one counter, or with one element of a set: what each one sees and adds, which rows these are, which of them ran
+/// beside which, what each one adds, and what those add that had ended before it began.
 #[derive(Drop)]
 struct CounterRoom {
     counts: Table<Count>,

@@ -327,6 +327,7 @@ fn add_steps(
     problem: &Problem,
     steps: &StepLog,
 ) -> Result<bool, OutOfMemory> {
+    let mut is_said = true;
     for number in 0..steps.steps.len() {
         if names.steps.at(number) == NONE {
             continue;
@@ -336,11 +337,14 @@ fn add_steps(
         let clause = clause_of(alloc, names, problem, literals);
         match reason_of(alloc, names, problem, steps, found.why) {
             Some(reason) => push(said, Step::new(clause, reason))?,
-            None => return Ok(false),
+            None => {
+                is_said = false;
+                break;
+            }
         }
     }
     unless_short(names.is_short())?;
-    Ok(true)
+    Ok(is_said)
 }
 
 /// The refutation that ends with the step, with no step that it does not need; or none, where a step cannot be said.
