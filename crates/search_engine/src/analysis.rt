@@ -1,6 +1,6 @@
 //! What is learned from what cannot be.
 
-use crate::explanation::{Contribution, NO_CONTRIBUTION, View, explain, explain_conflict};
+use crate::explanation::{Explained, View, explain, explain_conflict};
 use crate::heap::{Heap, bump};
 use crate::known::{Antecedent, Conflict, Known};
 use crate::literals::{Table, at, neg, set, var};
@@ -10,7 +10,7 @@ use std::alloc::Global;
 #[derive(Drop)]
 pub(crate) struct Analysis {
     /// Literals that hold, of which one is to fail.
-    pub todo: Table<u32>,
+    pub explained: Explained,
     /// The clause. Its first literal is to hold where the others fail.
     pub clause: Table<u32>,
     /// The literals that were replaced by their antecedents, and those antecedents that hold in any case.
@@ -19,7 +19,6 @@ pub(crate) struct Analysis {
     /// The variables that were met, and whether each one was.
     met: Table<usize>,
     is_met: Table<bool>,
-    pub contributions: Table<Contribution>,
     /// For each level when a literal of it was last counted.
     stamps: Table<u64>,
     stamp: u64,
@@ -29,13 +28,12 @@ impl Analysis {
     /// Of nothing. It does not allocate.
     pub(crate) fn empty(alloc: Global) -> Analysis {
         Analysis {
-            todo: Table::new(alloc, 0),
+            explained: Explained::empty(alloc),
             clause: Table::new(alloc, 0),
             used: Table::new(alloc, 0),
             sure: Table::new(alloc, 0),
             met: Table::new(alloc, 0),
             is_met: Table::new(alloc, false),
-            contributions: Table::new(alloc, NO_CONTRIBUTION),
             stamps: Table::new(alloc, 0),
             stamp: 0,
         }
@@ -43,13 +41,12 @@ impl Analysis {
 
     /// Whether some growth was refused.
     pub(crate) fn is_short(&self) -> bool {
-        self.todo.is_short()
+        self.explained.is_short()
             | self.clause.is_short()
             | self.used.is_short()
             | self.sure.is_short()
             | self.met.is_short()
             | self.is_met.is_short()
-            | self.contributions.is_short()
             | self.stamps.is_short()
     }
 }
@@ -63,8 +60,8 @@ pub(crate) fn make_marks(analysis: &mut Analysis, count: usize) {
 /// Takes in the literals that hold and were not met before: those of the level are counted, and of the lower ones one may fail.
 fn take_in(analysis: &mut Analysis, heap: &mut Heap, known: &Known, level: u32) -> usize {
     let mut count: usize = 0;
-    for place in 0..analysis.todo.len() {
-        let literal = analysis.todo.at(place);
+    for place in 0..analysis.explained.literals.len() {
+        let literal = analysis.explained.literals.at(place);
         let variable = var(literal);
         let since = known.state(literal).level;
         if since == 0 {
@@ -109,13 +106,8 @@ fn find_first(analysis: &mut Analysis, heap: &mut Heap, view: &View<'_>, level: 
             analysis.clause.set(0, neg(literal));
             break;
         }
-        analysis.todo.clear();
-        explain(
-            view,
-            literal,
-            &mut analysis.contributions,
-            &mut analysis.todo,
-        );
+        analysis.explained.literals.clear();
+        explain(view, literal, &mut analysis.explained);
         analysis.used.add(literal);
     }
 }
@@ -125,19 +117,14 @@ fn follows(analysis: &mut Analysis, view: &View<'_>, literal: u32) -> bool {
     if let Antecedent::Choice = view.known.state(literal).antecedent {
         return false;
     }
-    analysis.todo.clear();
-    explain(
-        view,
-        neg(literal),
-        &mut analysis.contributions,
-        &mut analysis.todo,
-    );
-    for found in analysis.todo.items() {
+    analysis.explained.literals.clear();
+    explain(view, neg(literal), &mut analysis.explained);
+    for found in analysis.explained.literals.items() {
         if view.known.state(*found).level != 0 && !analysis.is_met.at(var(*found)) {
             return false;
         }
     }
-    for found in analysis.todo.items() {
+    for found in analysis.explained.literals.items() {
         if view.known.state(*found).level == 0 {
             analysis.sure.add(*found);
         }
@@ -177,7 +164,7 @@ fn order_clause(clause: &mut [u32], known: &Known) -> u32 {
     level
 }
 
-/// Learns a clause from a conflict at the level, of whose literals `todo` are those that hold. It gives the level from which on the clause
+/// Learns a clause from a conflict at the level, of whose literals `explained` has those that hold. It gives the level from which on the clause
 /// forces its first literal.
 pub(crate) fn learn(analysis: &mut Analysis, heap: &mut Heap, view: &View<'_>, level: u32) -> u32 {
     analysis.clause.clear();
@@ -194,15 +181,10 @@ pub(crate) fn learn(analysis: &mut Analysis, heap: &mut Heap, view: &View<'_>, l
 
 /// Reads the literals that hold and cannot all do, and gives the highest of their levels.
 pub(crate) fn read_conflict(analysis: &mut Analysis, view: &View<'_>, conflict: Conflict) -> u32 {
-    analysis.todo.clear();
-    explain_conflict(
-        view,
-        conflict,
-        &mut analysis.contributions,
-        &mut analysis.todo,
-    );
+    analysis.explained.literals.clear();
+    explain_conflict(view, conflict, &mut analysis.explained);
     let mut level = 0;
-    for literal in analysis.todo.items() {
+    for literal in analysis.explained.literals.items() {
         level = view.known.state(*literal).level.max(level);
     }
     level

@@ -1,19 +1,18 @@
 //! The engine.
 
-use crate::analysis::Analysis;
 use crate::closure::Closure;
 use crate::counting::find_order;
 use crate::encoding::Role;
 use crate::heap::Heap;
 use crate::known::Known;
-use crate::literals::{NONE, TRUE, Table, at, neg, push, short};
-use crate::log::Log;
+use crate::literals::{NONE, Table, at, neg, push, short};
 use crate::orders::{NO_DECISION, Trial, block, first_bad, order_rows};
-use crate::problem::{Allowance, Problem};
+use crate::problem::{Allowance, Problem, unless_short};
 use crate::reading::{Encoded, read};
 use crate::refuted::refutation_of;
 use crate::solver::{
-    Course, Found, Solver, backjump, begin, bytes_held, check_room, is_over, prepare, search,
+    Course, Found, Learning, Solver, backjump, begin, bytes_held, check_room, is_over, prepare,
+    search,
 };
 use crate::spans::{Span, instant, span_of};
 use aud_event::{ObjKind, OutOfMemory};
@@ -76,12 +75,11 @@ pub(crate) struct Ranked {
 
 const NOT_RANKED: Ranked = Ranked { key: 0, row: 0 };
 
-/// The rows in the order of an instant, the rank of each, and literals that are taken to hold for a while, as they stand so.
+/// The rows in the order of an instant, and the rank of each.
 #[derive(Drop)]
 pub(crate) struct Ranking {
     ranked: Table<Ranked>,
     ranks: Table<usize>,
-    pub assumed: Table<u32>,
 }
 
 impl Ranking {
@@ -90,18 +88,12 @@ impl Ranking {
         Ranking {
             ranked: Table::new(alloc, NOT_RANKED),
             ranks: Table::new(alloc, 0),
-            assumed: Table::new(alloc, TRUE),
         }
     }
 
     /// Whether some growth was refused.
     pub(crate) fn is_short(&self) -> bool {
-        self.ranked.is_short() | self.ranks.is_short() | self.assumed.is_short()
-    }
-
-    /// Whether something is taken to hold for a while.
-    pub(crate) fn has_assumed(&self) -> bool {
-        !self.assumed.is_empty()
+        self.ranked.is_short() | self.ranks.is_short()
     }
 }
 
@@ -162,8 +154,11 @@ fn next_near(nears: &[Near], turn: usize) -> Option<usize> {
     None
 }
 
-/// There is no order so near: the next ones may be further away.
-fn widen(nears: &mut [Near], place: usize, count: usize) {
+/// There is no order so near that instant, if near one: the next ones may be further away.
+fn widen(nears: &mut [Near], near: Option<usize>, count: usize) {
+    let Some(place) = near else {
+        return;
+    };
     if let Some(found) = nears.get_mut(place) {
         found.reach = (found.reach.saturating_mul(4) / 3).saturating_add(1);
         if found.reach > count / 2 {
@@ -216,18 +211,22 @@ fn next_share(luby: &mut Luby) -> u64 {
 }
 
 /// Assumes pairs as in the order of the instant, if they stand far apart in it.
-fn assume_instant(ranking: &mut Ranking, problem: &Problem, found: Near) {
+fn assume_instant(assumed: &mut Table<u32>, ranking: &mut Ranking, problem: &Problem, found: Near) {
     rank_rows(ranking, &problem.spans, found.twentieths);
-    assume_near(&mut ranking.assumed, problem, &ranking.ranks, found.reach);
+    assume_near(assumed, problem, &ranking.ranks, found.reach);
 }
 
 /// Assumes what the next restart does, and gives how many conflicts it may take, and the instant that it is near, if it is near one.
-fn begin_restart(schedule: &mut Schedule, solver: &mut Solver<'_>) -> (u64, Option<usize>) {
+fn begin_restart(
+    schedule: &mut Schedule,
+    solver: &mut Solver<'_>,
+    ranking: &mut Ranking,
+) -> (u64, Option<usize>) {
     let restart = schedule.restart;
     let share = next_share(&mut schedule.luby);
     schedule.restart = restart.wrapping_add(1);
     solver.course.tries_best = restart % 2 == 0;
-    solver.ranking.assumed.clear();
+    solver.course.assumed.clear();
     let plain = (share.saturating_mul(schedule.unit), None);
     if restart < 6 || restart % 2 == 1 {
         return plain;
@@ -237,7 +236,8 @@ fn begin_restart(schedule: &mut Schedule, solver: &mut Solver<'_>) -> (u64, Opti
     };
     schedule.turn = place;
     backjump(solver, 0);
-    assume_instant(solver.ranking, solver.problem, schedule.nears[place % 4]);
+    let assumed = &mut solver.course.assumed;
+    assume_instant(assumed, ranking, solver.problem, schedule.nears[place % 4]);
     (restart.saturating_mul(100).saturating_add(300), Some(place))
 }
 
@@ -253,6 +253,7 @@ fn try_beam(
     alloc: Global,
     shape: &Shape,
     solver: &mut Solver<'_>,
+    trial: &mut Trial,
     schedule: &mut Schedule,
     effort: Effort,
 ) -> Result<bool, OutOfMemory> {
@@ -260,15 +261,15 @@ fn try_beam(
     schedule.beams = number.saturating_add(1);
     let most = effort.work.saturating_sub(done);
     let bytes = effort.bytes.saturating_sub(bytes_held(solver)) / 2;
-    let order = &mut solver.trial.order;
+    let order = &mut trial.order;
     let (is_found, work) = find_order(alloc, solver.problem, order, number, most, bytes)?;
     schedule.beam_work = schedule.beam_work.saturating_add(work);
     solver.known.work = done.saturating_add(work);
     if !is_found {
         return Ok(false);
     }
-    check_room(solver)?;
-    Ok(first_bad(alloc, shape, solver.trial.order.items())?.is_none())
+    unless_short(trial.is_short())?;
+    Ok(first_bad(alloc, shape, trial.order.items())?.is_none())
 }
 
 /// How a search ended.
@@ -286,39 +287,33 @@ fn try_found(
     alloc: Global,
     shape: &Shape,
     solver: &mut Solver<'_>,
+    trial: &mut Trial,
 ) -> Result<Option<Ended>, OutOfMemory> {
-    order_rows(solver);
-    let Some(place) = first_bad(alloc, shape, solver.trial.order.items())? else {
+    order_rows(solver, trial);
+    let Some(place) = first_bad(alloc, shape, trial.order.items())? else {
         return Ok(Some(Ended::Order));
     };
-    if block(solver, place) {
+    if block(solver, trial, place) {
         Ok(None)
     } else {
         Ok(Some(Ended::NoOrder))
     }
 }
 
-/// What the restart came to, which searched near that instant, if near one. None where the search goes on.
+/// What the restart came to. None where the search goes on.
 fn end_restart(
     alloc: Global,
     shape: &Shape,
     solver: &mut Solver<'_>,
-    schedule: &mut Schedule,
-    near: Option<usize>,
+    trial: &mut Trial,
     effort: Effort,
     found: Found,
 ) -> Result<Option<Ended>, OutOfMemory> {
     match found {
         Found::NoOrder => Ok(Some(Ended::NoOrder)),
-        Found::All => try_found(alloc, shape, solver),
-        Found::NotAssumed => {
-            if let Some(place) = near {
-                widen(&mut schedule.nears, place, solver.problem.spans.len());
-            }
-            Ok(None)
-        }
+        Found::All => try_found(alloc, shape, solver, trial),
         Found::Spent if is_over(solver, effort) => Ok(Some(Ended::Spent)),
-        Found::Spent => Ok(None),
+        Found::Spent | Found::NotAssumed => Ok(None),
     }
 }
 
@@ -327,13 +322,14 @@ fn restart(
     alloc: Global,
     shape: &Shape,
     solver: &mut Solver<'_>,
+    trial: &mut Trial,
     schedule: &mut Schedule,
     effort: Effort,
 ) -> Result<Option<Ended>, OutOfMemory> {
-    if is_beam_due(solver, schedule) && try_beam(alloc, shape, solver, schedule, effort)? {
+    if is_beam_due(solver, schedule) && try_beam(alloc, shape, solver, trial, schedule, effort)? {
         return Ok(Some(Ended::Order));
     }
-    let (budget, near) = begin_restart(schedule, solver);
+    let (budget, near) = begin_restart(schedule, solver, &mut trial.ranking);
     let most = solver.course.conflicts.saturating_add(budget);
     let limits = Effort {
         conflicts: most.min(effort.conflicts),
@@ -341,8 +337,12 @@ fn restart(
         bytes: effort.bytes,
     };
     let found = search(solver, limits);
-    let ended = end_restart(alloc, shape, solver, schedule, near, effort, found)?;
+    if found == Found::NotAssumed {
+        widen(&mut schedule.nears, near, solver.problem.spans.len());
+    }
+    let ended = end_restart(alloc, shape, solver, trial, effort, found)?;
     check_room(solver)?;
+    unless_short(trial.is_short())?;
     Ok(ended)
 }
 
@@ -351,11 +351,12 @@ fn search_by_restarts(
     alloc: Global,
     shape: &Shape,
     solver: &mut Solver<'_>,
+    trial: &mut Trial,
     effort: Effort,
 ) -> Result<Ended, OutOfMemory> {
     let mut schedule = schedule_for(solver.problem.spans.len());
     for _ in 0..u64::MAX {
-        let ended = restart(alloc, shape, solver, &mut schedule, effort)?;
+        let ended = restart(alloc, shape, solver, trial, &mut schedule, effort)?;
         if let Some(ended) = ended {
             return Ok(ended);
         }
@@ -365,7 +366,8 @@ fn search_by_restarts(
 
 /// The refutation that the search wrote down. None where it wrote nothing down.
 fn refuted(alloc: Global, solver: &Solver<'_>) -> Result<Option<Solved>, OutOfMemory> {
-    let (steps, last) = (&solver.log.steps, solver.log.last);
+    let log = &solver.learning.log;
+    let (steps, last) = (&log.steps, log.last);
     if last == NONE {
         return Ok(None);
     }
@@ -391,36 +393,86 @@ fn refuted_by(alloc: Global, law: ObjectLaw) -> Result<Solved, OutOfMemory> {
     Ok(Solved::Refuted(Refutation { atoms, steps }))
 }
 
+/// Follows what holds in any case, and searches on from there.
+fn search_on(
+    alloc: Global,
+    shape: &Shape,
+    solver: &mut Solver<'_>,
+    trial: &mut Trial,
+    effort: Effort,
+) -> Result<Ended, OutOfMemory> {
+    check_room(solver)?;
+    let is_open = begin(solver);
+    check_room(solver)?;
+    if !is_open {
+        return Ok(Ended::NoOrder);
+    }
+    search_by_restarts(alloc, shape, solver, trial, effort)
+}
+
+/// Takes the order that was tried.
+fn take_order(alloc: Global, trial: &mut Trial) -> Vec<Decision> {
+    let empty = Table::new(alloc, NO_DECISION);
+    std::mem::replace(&mut trial.order, empty).into_items()
+}
+
+/// What a search comes to. None where there is no order, and nothing was written down of that.
+fn solve_by(
+    alloc: Global,
+    shape: &Shape,
+    solver: &mut Solver<'_>,
+    trial: &mut Trial,
+    effort: Effort,
+) -> Result<Option<Solved>, OutOfMemory> {
+    match search_on(alloc, shape, solver, trial, effort)? {
+        Ended::Spent => Ok(Some(Solved::Unknown)),
+        Ended::NoOrder => refuted(alloc, solver),
+        Ended::Order => Ok(Some(Solved::Order(take_order(alloc, trial)))),
+    }
+}
+
+/// Makes what a search works with, and searches. The parts are made by three functions, since one that drops many tables is dear to prove.
+fn search_with(
+    alloc: Global,
+    shape: &Shape,
+    problem: &mut Problem,
+    learning: &mut Learning,
+    effort: Effort,
+) -> Result<Option<Solved>, OutOfMemory> {
+    let mut known = Known::empty(alloc);
+    let mut closure = Closure::empty(alloc);
+    let mut heap = Heap::empty(alloc);
+    let mut trial = Trial::empty(alloc);
+    let mut course = Course::empty(alloc);
+    prepare(problem, &mut known, &mut closure, &mut heap, learning);
+    let mut solver = Solver {
+        problem,
+        known: &mut known,
+        closure: &mut closure,
+        heap: &mut heap,
+        learning,
+        course: &mut course,
+    };
+    solve_by(alloc, shape, &mut solver, &mut trial, effort)
+}
+
 /// Reads what the history asks, and searches for an order of it. None where there is no order, and nothing was written down of that.
 fn read_and_search(
     alloc: Global,
     shape: &Shape,
-    solver: &mut Solver<'_>,
+    problem: &mut Problem,
     effort: Effort,
+    logs: bool,
 ) -> Result<Option<Solved>, OutOfMemory> {
-    match read(alloc, shape, solver.problem)? {
-        Encoded::Whole => {}
-        Encoded::Large => return Ok(Some(Solved::Unknown)),
+    match read(alloc, shape, problem)? {
+        Encoded::Whole => {
+            let mut learning = Learning::empty(alloc, logs);
+            search_with(alloc, shape, problem, &mut learning, effort)
+        }
+        Encoded::Large => Ok(Some(Solved::Unknown)),
         Encoded::Clash(tx, object, cell) => {
             let law = law_of_clash(shape, tx, object, cell);
-            return Ok(Some(refuted_by(alloc, law)?));
-        }
-    }
-    prepare(solver);
-    check_room(solver)?;
-    let is_open = begin(solver);
-    check_room(solver)?;
-    let mut ended = Ended::NoOrder;
-    if is_open {
-        ended = search_by_restarts(alloc, shape, solver, effort)?;
-    }
-    match ended {
-        Ended::Spent => Ok(Some(Solved::Unknown)),
-        Ended::NoOrder => refuted(alloc, solver),
-        Ended::Order => {
-            let empty = Table::new(alloc, NO_DECISION);
-            let order = std::mem::replace(&mut solver.trial.order, empty);
-            Ok(Some(Solved::Order(order.into_items())))
+            Ok(Some(refuted_by(alloc, law)?))
         }
     }
 }
@@ -438,26 +490,7 @@ fn search_once(
         bytes: effort.bytes,
     };
     let mut problem = Problem::empty(alloc, allowance);
-    let mut known = Known::empty(alloc);
-    let mut closure = Closure::empty(alloc);
-    let mut heap = Heap::empty(alloc);
-    let mut analysis = Analysis::empty(alloc);
-    let mut log = Log::empty(alloc, logs);
-    let mut trial = Trial::empty(alloc);
-    let mut ranking = Ranking::empty(alloc);
-    let mut course = Course::empty(alloc);
-    let mut solver = Solver {
-        problem: &mut problem,
-        known: &mut known,
-        closure: &mut closure,
-        heap: &mut heap,
-        analysis: &mut analysis,
-        log: &mut log,
-        trial: &mut trial,
-        ranking: &mut ranking,
-        course: &mut course,
-    };
-    read_and_search(alloc, shape, &mut solver, effort)
+    read_and_search(alloc, shape, &mut problem, effort, logs)
 }
 
 /// Searches for an order that shows the history, or for steps that refute it, within the effort. The order is tried; whoever needs it

@@ -7,6 +7,7 @@ use crate::literals::{FALSE, NONE, TRUE, Table, neg, var};
 use crate::problem::Problem;
 use crate::spans::{Span, before};
 use crate::sums::{Sum, Term};
+use std::alloc::Global;
 
 /// What explanations are read from: what is asked, and what is known.
 #[derive(Clone, Copy)]
@@ -23,11 +24,33 @@ pub(crate) struct Contribution {
     term: usize,
 }
 
-pub(crate) const NO_CONTRIBUTION: Contribution = Contribution {
+const NO_CONTRIBUTION: Contribution = Contribution {
     place: 0,
     gain: 0,
     term: 0,
 };
+
+/// Literals that force others, as they are listed, and room for the terms of a bound.
+#[derive(Drop)]
+pub(crate) struct Explained {
+    pub literals: Table<u32>,
+    contributions: Table<Contribution>,
+}
+
+impl Explained {
+    /// No literals. It does not allocate.
+    pub(crate) fn empty(alloc: Global) -> Explained {
+        Explained {
+            literals: Table::new(alloc, 0),
+            contributions: Table::new(alloc, NO_CONTRIBUTION),
+        }
+    }
+
+    /// Whether some growth was refused.
+    pub(crate) fn is_short(&self) -> bool {
+        self.literals.is_short() | self.contributions.is_short()
+    }
+}
 
 /// Adds the opposites of the clause's literals other than the forced one. They hold.
 fn add_others(literals: &[u32], forced: u32, out: &mut Table<u32>) {
@@ -207,16 +230,17 @@ fn add_earliest(
 
 /// The literals that force the least of the sum above what is wanted, or the greatest below it, before the limit: the earliest ones that
 /// suffice. The forced literal, if there is one, is no part of them.
-pub(crate) fn add_bound(
+fn add_bound(
     view: &View<'_>,
     number: u32,
     is_low: bool,
     forced: u32,
     limit: u32,
-    contributions: &mut Table<Contribution>,
-    out: &mut Table<u32>,
+    explained: &mut Explained,
 ) {
     let sum = view.problem.sums.sums.at(number as usize);
+    let contributions = &mut explained.contributions;
+    let out = &mut explained.literals;
     contributions.clear();
     let lacks = find_contributions(view, &sum, is_low, forced, limit, contributions, out);
     contributions.items_mut().sort_unstable();
@@ -233,51 +257,44 @@ fn add_between(view: &View<'_>, source: u32, writer: u32, forced: u32, out: &mut
 }
 
 /// Adds the literals that force this one.
-pub(crate) fn explain(
-    view: &View<'_>,
-    literal: u32,
-    contributions: &mut Table<Contribution>,
-    out: &mut Table<u32>,
-) {
+pub(crate) fn explain(view: &View<'_>, literal: u32, explained: &mut Explained) {
     let state = view.known.state(literal);
     let limit = state.place;
     match state.antecedent {
         Antecedent::Choice => {}
-        Antecedent::Clause(clause) => add_others(
-            literals_of(&view.problem.clauses, clause),
-            literal,
-            out,
-        ),
-        Antecedent::Between(source, writer) => add_between(view, source, writer, literal, out),
+        Antecedent::Clause(clause) => {
+            let literals = literals_of(&view.problem.clauses, clause);
+            add_others(literals, literal, &mut explained.literals)
+        }
+        Antecedent::Between(source, writer) => {
+            add_between(view, source, writer, literal, &mut explained.literals)
+        }
         Antecedent::Circle(row, other) => {
             if let Some(ends) = pair_of(&view.problem.variables.roles, literal) {
                 let pair = (row as usize, other as usize);
-                add_circle(&view.problem.spans, ends, pair, out);
+                add_circle(&view.problem.spans, ends, pair, &mut explained.literals);
             }
         }
-        Antecedent::Low(sum) => add_bound(view, sum, true, literal, limit, contributions, out),
-        Antecedent::High(sum) => add_bound(view, sum, false, literal, limit, contributions, out),
+        Antecedent::Low(sum) => add_bound(view, sum, true, literal, limit, explained),
+        Antecedent::High(sum) => add_bound(view, sum, false, literal, limit, explained),
     }
 }
 
 /// Adds the literals that hold, and cannot all do.
-pub(crate) fn explain_conflict(
-    view: &View<'_>,
-    conflict: Conflict,
-    contributions: &mut Table<Contribution>,
-    out: &mut Table<u32>,
-) {
+pub(crate) fn explain_conflict(view: &View<'_>, conflict: Conflict, explained: &mut Explained) {
     match conflict {
-        Conflict::Clause(clause) => add_others(
-            literals_of(&view.problem.clauses, clause),
-            FALSE,
-            out,
-        ),
+        Conflict::Clause(clause) => {
+            let literals = literals_of(&view.problem.clauses, clause);
+            add_others(literals, FALSE, &mut explained.literals)
+        }
         Conflict::Circle(row, from, to, other) => {
+            let out = &mut explained.literals;
             add_before(&view.problem.spans, other, row, out);
             add_circle(&view.problem.spans, (row, other), (from, to), out)
         }
-        Conflict::Between(source, writer) => add_between(view, source, writer, FALSE, out),
-        Conflict::Sum(sum, is_low) => add_bound(view, sum, is_low, FALSE, NONE, contributions, out),
+        Conflict::Between(source, writer) => {
+            add_between(view, source, writer, FALSE, &mut explained.literals)
+        }
+        Conflict::Sum(sum, is_low) => add_bound(view, sum, is_low, FALSE, NONE, explained),
     }
 }

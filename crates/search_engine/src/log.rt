@@ -2,7 +2,7 @@
 
 use crate::analysis::Analysis;
 use crate::encoding::{Clauses, ORIGIN, Origin, STEP};
-use crate::explanation::{Contribution, NO_CONTRIBUTION, View, explain, literals_of, pair_of};
+use crate::explanation::{Explained, View, explain, literals_of, pair_of};
 use crate::known::{Antecedent, Conflict, Known};
 use crate::literals::{NONE, Table, neg, number_item, short, var};
 use std::alloc::Global;
@@ -57,13 +57,11 @@ struct Given {
     forced: Table<u32>,
 }
 
-/// What a step needs, by the places of the trail, and the literals and the bounds that are still to be looked at for that.
+/// What a step needs, by the places of the trail.
 #[derive(Drop)]
 struct Needs {
     is_needed: Table<bool>,
     needed: Table<Placed>,
-    todo: Table<u32>,
-    contributions: Table<Contribution>,
 }
 
 /// What is written down of a search, if anything is.
@@ -75,8 +73,8 @@ pub(crate) struct Log {
     pub last: u32,
     given: Given,
     needs: Needs,
-    /// A clause that is being made.
-    clause: Table<u32>,
+    /// Literals that force others: those that are still to be looked at, or those of a clause that is being made.
+    explained: Explained,
 }
 
 impl Log {
@@ -98,10 +96,8 @@ impl Log {
             needs: Needs {
                 is_needed: Table::new(alloc, false),
                 needed: Table::new(alloc, NOT_PLACED),
-                todo: Table::new(alloc, 0),
-                contributions: Table::new(alloc, NO_CONTRIBUTION),
             },
-            clause: Table::new(alloc, 0),
+            explained: Explained::empty(alloc),
         }
     }
 
@@ -115,9 +111,7 @@ impl Log {
             | self.given.forced.is_short()
             | self.needs.is_needed.is_short()
             | self.needs.needed.is_short()
-            | self.needs.todo.is_short()
-            | self.needs.contributions.is_short()
-            | self.clause.is_short()
+            | self.explained.is_short()
     }
 }
 
@@ -197,14 +191,10 @@ fn origin_of(view: &View<'_>, antecedent: Antecedent, literal: u32) -> Origin {
 }
 
 /// Makes the clause that forced the literal.
-fn read_clause(
-    clause: &mut Table<u32>,
-    contributions: &mut Table<Contribution>,
-    view: &View<'_>,
-    literal: u32,
-) {
-    clause.clear();
-    explain(view, literal, contributions, clause);
+fn read_clause(explained: &mut Explained, view: &View<'_>, literal: u32) {
+    explained.literals.clear();
+    explain(view, literal, explained);
+    let clause = &mut explained.literals;
     for place in 0..clause.len() {
         clause.set(place, neg(clause.at(place)));
     }
@@ -236,9 +226,10 @@ fn step_of(log: &mut Log, view: &View<'_>, literal: u32) -> u32 {
         return step_of_clause(steps, &mut given.origins, &view.problem.clauses, clause);
     }
     let origin = origin_of(view, antecedent, literal);
-    let clause = &mut log.clause;
-    read_clause(clause, &mut log.needs.contributions, view, literal);
-    step_of_forced(steps, &mut given.forced, clause.items(), literal, origin)
+    let explained = &mut log.explained;
+    read_clause(explained, view, literal);
+    let clause = explained.literals.items();
+    step_of_forced(steps, &mut given.forced, clause, literal, origin)
 }
 
 /// Makes a clause of the opposites of the literals.
@@ -263,7 +254,7 @@ fn step_of_conflict(log: &mut Log, view: &View<'_>, conflict: Conflict, literals
         Conflict::Between(source, writer) => Origin::Between(source, writer),
         Conflict::Sum(sum, _) => view.problem.sums.sums.at(sum as usize).origin,
     };
-    let clause = &mut log.clause;
+    let clause = &mut log.explained.literals;
     list_opposites(clause, literals);
     add_step(steps, clause.items(), Why::Origin(origin))
 }
@@ -294,19 +285,24 @@ fn sort_needed(needed: &mut Table<Placed>, is_needed: &mut Table<bool>) {
 }
 
 /// Finds what the literals need that hold in any case, themselves too, as far as no step gives it yet; in the order of the trail.
-fn find_needed(needs: &mut Needs, units: &Table<u32>, view: &View<'_>, literals: &[u32]) {
+fn find_needed(
+    needs: &mut Needs,
+    explained: &mut Explained,
+    units: &Table<u32>,
+    view: &View<'_>,
+    literals: &[u32],
+) {
     let (is_needed, needed) = (&mut needs.is_needed, &mut needs.needed);
-    let todo = &mut needs.todo;
     needed.clear();
-    todo.clear();
-    todo.add_all(literals);
+    explained.literals.clear();
+    explained.literals.add_all(literals);
     for _ in 0..u64::MAX {
-        let Some(literal) = todo.pop() else {
+        let Some(literal) = explained.literals.pop() else {
             break;
         };
         if note_needed(is_needed, needed, view.known, literal) {
             if units.at(var(literal)) == NONE {
-                explain(view, literal, &mut needs.contributions, todo);
+                explain(view, literal, explained);
             }
         }
     }
@@ -323,22 +319,28 @@ fn hint_units(hints: &mut Table<u32>, units: &Table<u32>, literals: &[u32]) {
 /// The step that the literal holds in any case: it follows from the one that forced it and from earlier such ones; where there are no such ones
 /// that one says so itself.
 fn add_unit(log: &mut Log, view: &View<'_>, literal: u32, forced: u32) -> u32 {
-    let (steps, clause) = (&mut log.steps, &mut log.clause);
-    clause.clear();
-    explain(view, literal, &mut log.needs.contributions, clause);
-    if clause.is_empty() {
+    let (steps, explained) = (&mut log.steps, &mut log.explained);
+    explained.literals.clear();
+    explain(view, literal, explained);
+    if explained.literals.is_empty() {
         return forced;
     }
     let hints = &mut steps.hints;
     let from = hints.len();
-    hint_units(hints, &log.given.units, clause.items());
+    hint_units(hints, &log.given.units, explained.literals.items());
     hints.add(forced);
     add_units(steps, from, &[literal])
 }
 
 /// Adds the steps that the literals hold in any case, and those of what they need.
 fn log_units(log: &mut Log, view: &View<'_>, literals: &[u32]) {
-    find_needed(&mut log.needs, &log.given.units, view, literals);
+    find_needed(
+        &mut log.needs,
+        &mut log.explained,
+        &log.given.units,
+        view,
+        literals,
+    );
     for place in 0..log.needs.needed.len() {
         let literal = log.needs.needed.at(place).number;
         if log.given.units.at(var(literal)) == NONE {
@@ -447,7 +449,13 @@ pub(crate) fn log_conflict(
     if !is_end || is_step(&log.steps, last, &[]) {
         return;
     }
-    find_needed(&mut log.needs, &log.given.units, view, literals);
+    find_needed(
+        &mut log.needs,
+        &mut log.explained,
+        &log.given.units,
+        view,
+        literals,
+    );
     replace_needed(log, view);
     let from = log.steps.hints.len();
     log.last = add_last(&mut log.steps, &log.needs.needed, last, from, &[]);

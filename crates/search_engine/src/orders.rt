@@ -2,6 +2,7 @@
 
 use crate::closure::{Closure, is_before};
 use crate::encoding::{Clauses, LITERALS, Origin, add_clause};
+use crate::engine::Ranking;
 use crate::known::{Antecedent, Known, assign};
 use crate::literals::{FALSE, NONE, Table, neg, short};
 use crate::solver::{Solver, backjump};
@@ -12,14 +13,15 @@ use aud_order::{Cursor, Shape};
 use aud_witness::{Decision, Fate};
 use std::alloc::Global;
 
-/// The order that was tried last, as rows and as decisions; of each row how many of those stand before it that are not placed yet; and the
-/// clause of an order that was tried in vain.
+/// The order that was tried last, as rows and as decisions; of each row how many of those stand before it that are not placed yet; the
+/// clause of an order that was tried in vain; and the rows in the order of an instant.
 #[derive(Drop)]
 pub(crate) struct Trial {
     rows: Table<usize>,
     pub order: Table<Decision>,
     counts: Table<u32>,
     blocked: Table<u32>,
+    pub ranking: Ranking,
 }
 
 pub(crate) const NO_DECISION: Decision = Decision {
@@ -35,6 +37,7 @@ impl Trial {
             order: Table::new(alloc, NO_DECISION),
             counts: Table::new(alloc, NONE),
             blocked: Table::new(alloc, FALSE),
+            ranking: Ranking::empty(alloc),
         }
     }
 
@@ -44,6 +47,7 @@ impl Trial {
             | self.order.is_short()
             | self.counts.is_short()
             | self.blocked.is_short()
+            | self.ranking.is_short()
     }
 }
 
@@ -121,9 +125,9 @@ fn list_order(trial: &mut Trial, spans: &[Span], closure: &Closure, known: &Know
 }
 
 /// Puts the rows in an order that the search found, a topological one, and notes their decisions.
-pub(crate) fn order_rows(solver: &mut Solver<'_>) {
+pub(crate) fn order_rows(solver: &Solver<'_>, trial: &mut Trial) {
     let spans = &solver.problem.spans[..];
-    list_order(solver.trial, spans, solver.closure, solver.known);
+    list_order(trial, spans, solver.closure, solver.known);
 }
 
 /// The place of the first decision that is not good after those of the cursor, if there is one.
@@ -244,10 +248,9 @@ fn add_listed(clauses: &mut Clauses, known: &mut Known, blocked: &mut Table<u32>
 
 /// The row at the place is not legal after exactly those that commit before it, in this order: the search goes on without that. False
 /// where nothing is left. Those literals of its clause come first that do not fail.
-pub(crate) fn block(solver: &mut Solver<'_>, place: usize) -> bool {
-    let spans = &solver.problem.spans[..];
-    list_blocked(solver.trial, spans, solver.known, place);
+pub(crate) fn block(solver: &mut Solver<'_>, trial: &mut Trial, place: usize) -> bool {
+    list_blocked(trial, &solver.problem.spans, solver.known, place);
     backjump(solver, 0);
-    let (clauses, blocked) = (&mut solver.problem.clauses, &mut solver.trial.blocked);
-    add_listed(clauses, solver.known, blocked)
+    let clauses = &mut solver.problem.clauses;
+    add_listed(clauses, solver.known, &mut trial.blocked)
 }

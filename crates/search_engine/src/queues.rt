@@ -4,7 +4,7 @@ use crate::encoding::{Origin, Role, Variables, add_clause, add_variable, ask};
 use crate::literals::{FALSE, NONE, TRUE, Table, at, neg, number_item, range, short};
 use crate::problem::{Problem, is_large, spend};
 use crate::spans::{Span, before, instant, span_of};
-use crate::sums::{Concurrent, add_all_terms, add_terms, end_sum, find_concurrent, sum_ended};
+use crate::sums::{Gains, Users, add_all_terms, add_terms, end_sum, find_users, sum_ended};
 use std::alloc::Global;
 
 /// What a transaction does on a queue.
@@ -123,17 +123,11 @@ struct Added {
 #[derive(Drop)]
 pub(crate) struct QueueUse {
     object: u16,
-    /// The rows that touch it, and which of them ran beside which.
-    pub rows: Table<usize>,
-    concurrent: Concurrent,
+    pub users: Users,
     /// How many each row takes, and less how many it adds, if it may commit; and both together.
-    takes: Table<i64>,
-    adds: Table<i64>,
-    both: Table<i64>,
-    /// The same of those together that had ended before each row.
-    ended_takes: Table<i64>,
-    ended_adds: Table<i64>,
-    ended_both: Table<i64>,
+    takes: Gains,
+    adds: Gains,
+    both: Gains,
     /// Who adds and who takes each value.
     adders: Table<Holding>,
     takers: Table<Holding>,
@@ -149,14 +143,10 @@ impl QueueUse {
     pub(crate) fn empty(alloc: Global) -> QueueUse {
         QueueUse {
             object: 0,
-            rows: Table::new(alloc, 0),
-            concurrent: Concurrent::empty(alloc),
-            takes: Table::new(alloc, 0),
-            adds: Table::new(alloc, 0),
-            both: Table::new(alloc, 0),
-            ended_takes: Table::new(alloc, 0),
-            ended_adds: Table::new(alloc, 0),
-            ended_both: Table::new(alloc, 0),
+            users: Users::empty(alloc),
+            takes: Gains::empty(alloc),
+            adds: Gains::empty(alloc),
+            both: Gains::empty(alloc),
             adders: Table::new(alloc, NOT_HELD),
             takers: Table::new(alloc, NOT_HELD),
             added: Table::new(alloc, NOT_ADDED),
@@ -169,19 +159,15 @@ impl QueueUse {
     /// Of that queue, before its rows and operations are read.
     pub(crate) fn begin(&mut self, object: u16) {
         self.object = object;
-        self.rows.clear();
+        self.users.rows.clear();
     }
 
     /// Whether some growth was refused.
     pub(crate) fn is_short(&self) -> bool {
-        self.rows.is_short()
-            | self.concurrent.is_short()
+        self.users.is_short()
             | self.takes.is_short()
             | self.adds.is_short()
             | self.both.is_short()
-            | self.ended_takes.is_short()
-            | self.ended_adds.is_short()
-            | self.ended_both.is_short()
             | self.adders.is_short()
             | self.takers.is_short()
             | self.added.is_short()
@@ -412,7 +398,7 @@ fn add_gone(
     guard: Guard,
 ) {
     let added = queue.added.at(known);
-    let rows = &queue.rows;
+    let rows = &queue.users.rows;
     let clause = &mut queue.clause;
     let spans = &problem.spans[..];
     let row = rows.at(added.place);
@@ -461,8 +447,8 @@ fn next_added(added: &mut Table<Added>, known: usize, began: u32) -> usize {
 /// Whether what was added at the place, and all after it, surely was added after the item of the row at the other place.
 fn is_past(queue: &QueueUse, problem: &Problem, known: usize, adder: usize) -> bool {
     let spans = &problem.spans[..];
-    let row = queue.rows.at(queue.added.at(known).place);
-    let last = span_of(spans, queue.rows.at(adder)).last;
+    let row = queue.users.rows.at(queue.added.at(known).place);
+    let last = span_of(spans, queue.users.rows.at(adder)).last;
     (known >= queue.added.len()) | (span_of(spans, row).first > last)
 }
 
@@ -477,8 +463,8 @@ fn added_ahead(
     adder: usize,
 ) -> u32 {
     let added = queue.added.at(known);
-    let row = queue.rows.at(added.place);
-    let ahead = before(&problem.spans, row, queue.rows.at(adder));
+    let row = queue.users.rows.at(added.place);
+    let ahead = before(&problem.spans, row, queue.users.rows.at(adder));
     if (added.place == asked.place) | (added.place == adder) | (ahead == FALSE) {
         return FALSE;
     }
@@ -559,7 +545,7 @@ fn find_others(
 fn find_items(queue: &mut QueueUse, spans: &[Span], own: &[PlacedOp], asked: Demand, value: i64) {
     let found = &mut queue.found;
     find_own(found, own, asked, value);
-    find_others(found, &queue.adders, &queue.rows, spans, asked, value);
+    find_others(found, &queue.adders, &queue.users.rows, spans, asked, value);
 }
 
 /// As many are taken before the row at the place as are added, less what is wanted, where the literal holds.
@@ -571,10 +557,9 @@ fn add_own_place(
     literal: u32,
     origin: Origin,
 ) {
-    let wanted = wanted.wrapping_sub(queue.ended_both.at(place));
+    let wanted = wanted.wrapping_sub(queue.both.ended.at(place));
     let from = problem.sums.terms.len();
-    let rows = queue.rows.items();
-    add_all_terms(problem, &queue.concurrent, rows, &queue.both, place);
+    add_all_terms(problem, &queue.users, &queue.both, place);
     end_sum(&mut problem.sums, from, literal, wanted, origin);
 }
 
@@ -589,8 +574,7 @@ fn add_item(queue: &QueueUse, problem: &mut Problem, asked: Demand, held: Holdin
         add_own_place(queue, problem, place, wanted, guard.literal, origin);
         return;
     }
-    let rows = queue.rows.items();
-    let row = queue.rows.at(adder);
+    let row = queue.users.rows.at(adder);
     let stands = before(&problem.spans, row, asked.take.row);
     let commits = span_of(&problem.spans, row).commits;
     ask(&mut problem.variables, stands);
@@ -598,11 +582,11 @@ fn add_item(queue: &QueueUse, problem: &mut Problem, asked: Demand, held: Holdin
     let law = Origin::ItemStands(guard.item);
     add_clause(&mut problem.clauses, law, &[denied, stands]);
     add_clause(&mut problem.clauses, law, &[denied, commits]);
-    let wanted = wanted.wrapping_sub(queue.ended_takes.at(place));
-    let wanted = wanted.wrapping_sub(queue.ended_adds.at(adder));
+    let wanted = wanted.wrapping_sub(queue.takes.ended.at(place));
+    let wanted = wanted.wrapping_sub(queue.adds.ended.at(adder));
     let from = problem.sums.terms.len();
-    add_all_terms(problem, &queue.concurrent, rows, &queue.takes, place);
-    add_terms(problem, &queue.concurrent, rows, &queue.adds, adder, place);
+    add_all_terms(problem, &queue.users, &queue.takes, place);
+    add_terms(problem, &queue.users, &queue.adds, adder, place);
     end_sum(&mut problem.sums, from, guard.literal, wanted, origin);
 }
 
@@ -610,7 +594,7 @@ fn add_item(queue: &QueueUse, problem: &mut Problem, asked: Demand, held: Holdin
 fn favoured(queue: &QueueUse, spans: &[Span], row: usize) -> usize {
     let own = instant(span_of(spans, row), 15);
     for index in 0..queue.found.len() {
-        let other = queue.rows.at(queue.found.at(index).place);
+        let other = queue.users.rows.at(queue.found.at(index).place);
         if instant(span_of(spans, other), 15) <= own {
             return index;
         }
@@ -628,7 +612,7 @@ fn begin_item(
 ) -> Guard {
     let item = ItemOf {
         take,
-        row: queue.rows.at(held.place),
+        row: queue.users.rows.at(held.place),
         addition: held.index,
         sum: short(problem.sums.sums.len()),
     };
@@ -674,7 +658,7 @@ fn demand_of(queue: &QueueUse, found: PlacedOp, taken: i64, added: i64) -> Deman
     }
     Demand {
         take: TakeOf {
-            row: queue.rows.at(found.place),
+            row: queue.users.rows.at(found.place),
             object: queue.object,
             number,
         },
@@ -708,30 +692,27 @@ fn add_row(queue: &mut QueueUse, problem: &mut Problem, own: &[PlacedOp]) {
     }
 }
 
-/// Reads who adds and who takes what, and how many.
-fn read_ops(queue: &mut QueueUse, spans: &[Span], ops: &[PlacedOp]) {
-    let rows = &queue.rows;
-    let takers = &mut queue.takers;
-    count_ops(&mut queue.takes, &mut queue.adds, rows, spans, ops);
+/// Reads how many each row takes and adds.
+fn read_counts(queue: &mut QueueUse, spans: &[Span], ops: &[PlacedOp]) {
+    let (takes, adds) = (&mut queue.takes.own, &mut queue.adds.own);
+    count_ops(takes, adds, &queue.users.rows, spans, ops);
+    add_counts(&mut queue.both.own, takes, adds);
+}
+
+/// Reads who adds and who takes what.
+fn read_holdings(queue: &mut QueueUse, spans: &[Span], ops: &[PlacedOp]) {
+    let (rows, takers) = (&queue.users.rows, &mut queue.takers);
     list_holdings(&mut queue.adders, takers, rows, spans, ops);
-    add_counts(&mut queue.both, &queue.takes, &queue.adds);
     list_added(&mut queue.added, takers, rows, spans, ops);
 }
 
 /// Finds which of the rows ran beside which, and adds up what those take and add that had ended before each one.
 fn read_ended(queue: &mut QueueUse, spans: &[Span]) {
-    let rows = queue.rows.items();
-    let concurrent = &mut queue.concurrent;
-    find_concurrent(concurrent, spans, rows);
-    sum_ended(
-        &mut queue.ended_takes,
-        concurrent,
-        spans,
-        rows,
-        &queue.takes,
-    );
-    sum_ended(&mut queue.ended_adds, concurrent, spans, rows, &queue.adds);
-    sum_ended(&mut queue.ended_both, concurrent, spans, rows, &queue.both);
+    let users = &mut queue.users;
+    find_users(users, spans);
+    sum_ended(&mut queue.takes, users, spans);
+    sum_ended(&mut queue.adds, users, spans);
+    sum_ended(&mut queue.both, users, spans);
 }
 
 /// Adds what all operations ask, which are in the order of the rows and of their blocks.
@@ -748,7 +729,8 @@ fn add_rows(queue: &mut QueueUse, problem: &mut Problem, ops: &[PlacedOp]) {
 
 /// Adds a queue, whose rows are read: their operations, in the order of the rows and of their blocks.
 pub(crate) fn add_queue(problem: &mut Problem, queue: &mut QueueUse, ops: &[PlacedOp]) {
-    read_ops(queue, &problem.spans, ops);
+    read_counts(queue, &problem.spans, ops);
+    read_holdings(queue, &problem.spans, ops);
     read_ended(queue, &problem.spans);
     add_rows(queue, problem, ops);
 }

@@ -8,7 +8,7 @@ use crate::literals::{TRUE, Table, at, range, short};
 use crate::problem::{Problem, is_large, sort_occurrences, spend, unless_short};
 use crate::queues::{NO_OP, PlacedOp, QueueOp, QueueUse, add_queue};
 use crate::spans::{NOBODY, Span, count_pairs, read_spans};
-use crate::sums::{Concurrent, add_all_terms, end_sum, find_concurrent, sum_ended};
+use crate::sums::{Gains, Users, add_all_terms, end_sum, find_users, sum_ended};
 use aud_event::{Answer, ObjDecl, ObjKind, Op, OutOfMemory};
 use aud_history::TxRow;
 use aud_order::Shape;
@@ -72,10 +72,8 @@ const NO_COUNT: Count = Count {
 #[derive(Drop)]
 struct CounterRoom {
     counts: Table<Count>,
-    rows: Table<usize>,
-    concurrent: Concurrent,
-    gains: Table<i64>,
-    ended: Table<i64>,
+    users: Users,
+    gains: Gains,
 }
 
 /// Room for what the rows do with one object, or with one cell of it.
@@ -94,10 +92,8 @@ impl Room {
             touches: Table::new(alloc, NO_TOUCH),
             counter: CounterRoom {
                 counts: Table::new(alloc, NO_COUNT),
-                rows: Table::new(alloc, 0),
-                concurrent: Concurrent::empty(alloc),
-                gains: Table::new(alloc, 0),
-                ended: Table::new(alloc, 0),
+                users: Users::empty(alloc),
+                gains: Gains::empty(alloc),
             },
             ops: Table::new(alloc, NO_OP),
             queue: QueueUse::empty(alloc),
@@ -108,10 +104,8 @@ impl Room {
     fn is_short(&self) -> bool {
         self.touches.is_short()
             | self.counter.counts.is_short()
-            | self.counter.rows.is_short()
-            | self.counter.concurrent.is_short()
+            | self.counter.users.is_short()
             | self.counter.gains.is_short()
-            | self.counter.ended.is_short()
             | self.ops.is_short()
             | self.queue.is_short()
     }
@@ -264,10 +258,9 @@ fn add_sum(
     };
     let wanted = need
         .saturating_sub(opening)
-        .saturating_sub(room.ended.at(place));
+        .saturating_sub(room.gains.ended.at(place));
     let from = problem.sums.terms.len();
-    let rows = room.rows.items();
-    add_all_terms(problem, &room.concurrent, rows, &room.gains, place);
+    add_all_terms(problem, &room.users, &room.gains, place);
     let terms = problem.sums.terms.len().saturating_sub(from);
     spend(&mut problem.allowance, terms);
     end_sum(&mut problem.sums, from, TRUE, wanted, origin);
@@ -301,9 +294,9 @@ fn list_counts(
 
 /// Finds which of the rows ran beside which, and adds up what those add that had ended before each one.
 fn read_ended(room: &mut CounterRoom, spans: &[Span]) {
-    let (rows, concurrent) = (room.rows.items(), &mut room.concurrent);
-    find_concurrent(concurrent, spans, rows);
-    sum_ended(&mut room.ended, concurrent, spans, rows, &room.gains);
+    let users = &mut room.users;
+    find_users(users, spans);
+    sum_ended(&mut room.gains, users, spans);
 }
 
 /// Adds what is asked of a counter, or of an element of a set, as far as there is room.
@@ -313,7 +306,7 @@ fn add_counts(
     named: (u16, Option<i64>),
     opening: i64,
 ) {
-    let (rows, gains) = (&mut room.rows, &mut room.gains);
+    let (rows, gains) = (&mut room.users.rows, &mut room.gains.own);
     list_counts(&mut problem.counting, rows, gains, &room.counts, opening);
     read_ended(room, &problem.spans);
     for place in 0..room.counts.len() {
@@ -362,7 +355,7 @@ fn add_queue_executions(
     let (queue, ops) = (&mut room.queue, &mut room.ops);
     problem.counting.is_all = false;
     queue.begin(object);
-    list_ops(ops, &mut queue.rows, executions);
+    list_ops(ops, &mut queue.users.rows, executions);
     add_queue(problem, queue, ops.items());
 }
 

@@ -5,13 +5,12 @@ use crate::betweens::{check_commits, propagate_pair, propagate_source};
 use crate::bounds::{clear_waiting, count_terms, propagate_waiting, wake_guarded};
 use crate::closure::{Closure, close, close_spans, reopen};
 use crate::encoding::{Clauses, LITERALS, Role, Variables, append};
-use crate::engine::{Effort, Ranking};
+use crate::engine::Effort;
 use crate::explanation::{View, pair_of};
 use crate::heap::{Heap, heaviest, insert, make_heap, take_heaviest};
 use crate::known::{Antecedent, Conflict, Known, assign, make_room};
-use crate::literals::{NONE, Table, at, neg, short, var};
+use crate::literals::{NONE, TRUE, Table, at, neg, short, var};
 use crate::log::{Log, bytes_logged, log_conflict, log_learned, make_log};
-use crate::orders::Trial;
 use crate::problem::{Problem, bytes_of, unless_short};
 use crate::reduce::reduce;
 use crate::spans::{Span, instant, span_of};
@@ -47,6 +46,8 @@ pub(crate) struct Course {
     best_kept: usize,
     pub tries_best: bool,
     late: Table<Late>,
+    /// Literals that are taken to hold for a while.
+    pub assumed: Table<u32>,
     /// How many conflicts it met, and after how many it looks through what it learned.
     pub conflicts: u64,
     reduce_at: u64,
@@ -66,6 +67,7 @@ impl Course {
             best_kept: 0,
             tries_best: false,
             late: Table::new(alloc, NOT_LATE),
+            assumed: Table::new(alloc, TRUE),
             conflicts: 0,
             reduce_at: REDUCE_EVERY,
             choices: 0,
@@ -76,7 +78,34 @@ impl Course {
 
     /// Whether some growth was refused.
     fn is_short(&self) -> bool {
-        self.best.is_short() | self.late.is_short()
+        self.best.is_short() | self.late.is_short() | self.assumed.is_short()
+    }
+
+    /// Whether something is taken to hold for a while.
+    fn has_assumed(&self) -> bool {
+        !self.assumed.is_empty()
+    }
+}
+
+/// What is learned from conflicts, and what is written down of that.
+#[derive(Drop)]
+pub(crate) struct Learning {
+    analysis: Analysis,
+    pub log: Log,
+}
+
+impl Learning {
+    /// Of no conflict yet. Steps are written down where it says so. It does not allocate.
+    pub(crate) fn empty(alloc: Global, logs: bool) -> Learning {
+        Learning {
+            analysis: Analysis::empty(alloc),
+            log: Log::empty(alloc, logs),
+        }
+    }
+
+    /// Whether some growth was refused.
+    fn is_short(&self) -> bool {
+        self.analysis.is_short() | self.log.is_short()
     }
 }
 
@@ -87,10 +116,7 @@ pub(crate) struct Solver<'a> {
     pub known: &'a mut Known,
     pub closure: &'a mut Closure,
     pub heap: &'a mut Heap,
-    pub analysis: &'a mut Analysis,
-    pub log: &'a mut Log,
-    pub trial: &'a mut Trial,
-    pub ranking: &'a mut Ranking,
+    pub learning: &'a mut Learning,
     pub course: &'a mut Course,
 }
 
@@ -113,10 +139,7 @@ fn is_short(solver: &Solver<'_>) -> bool {
         | solver.known.is_short()
         | solver.closure.is_short()
         | solver.heap.is_short()
-        | solver.analysis.is_short()
-        | solver.log.is_short()
-        | solver.trial.is_short()
-        | solver.ranking.is_short()
+        | solver.learning.is_short()
         | solver.course.is_short()
 }
 
@@ -165,34 +188,39 @@ fn weigh_all(problem: &mut Problem, heap: &mut Heap) {
 }
 
 /// Makes room for the variables, and begins with what real time says, and with the work that reading took.
-fn make_tables(
-    problem: &Problem,
-    known: &mut Known,
-    closure: &mut Closure,
-    heap: &mut Heap,
-    analysis: &mut Analysis,
-) {
+fn make_tables(problem: &Problem, known: &mut Known, closure: &mut Closure, heap: &mut Heap) {
     let count = problem.variables.roles.len();
     close_spans(closure, &problem.spans);
     make_room(known, count);
     make_heap(heap, count);
-    make_marks(analysis, count);
     known.work = problem.allowance.work;
 }
 
-/// Makes room for what is noted of clauses, and watches them.
-fn watch_problem(problem: &mut Problem, log: &mut Log) {
+/// Makes room for what is learned.
+fn make_learning(learning: &mut Learning, problem: &Problem) {
     let count = problem.variables.roles.len();
-    make_log(log, count, problem.clauses.origins.len());
-    watch_all(&mut problem.clauses, count.saturating_mul(2));
+    make_marks(&mut learning.analysis, count);
+    make_log(&mut learning.log, count, problem.clauses.origins.len());
 }
 
-/// Makes room, and decides first what comes first.
-pub(crate) fn prepare(solver: &mut Solver<'_>) {
-    let (known, closure) = (&mut *solver.known, &mut *solver.closure);
-    make_tables(solver.problem, known, closure, solver.heap, solver.analysis);
-    watch_problem(solver.problem, solver.log);
-    weigh_all(solver.problem, solver.heap);
+/// Watches the clauses, and decides first what comes first.
+fn watch_and_weigh(problem: &mut Problem, heap: &mut Heap) {
+    let count = problem.variables.roles.len();
+    watch_all(&mut problem.clauses, count.saturating_mul(2));
+    weigh_all(problem, heap);
+}
+
+/// Makes room for a search of the problem, and decides first what comes first.
+pub(crate) fn prepare(
+    problem: &mut Problem,
+    known: &mut Known,
+    closure: &mut Closure,
+    heap: &mut Heap,
+    learning: &mut Learning,
+) {
+    make_tables(problem, known, closure, heap);
+    make_learning(learning, problem);
+    watch_and_weigh(problem, heap);
 }
 
 /// Follows a literal that holds by real time, by pairs and by cells.
@@ -448,17 +476,20 @@ fn backjump_level(course: &mut Course, level: u32, top: u32) -> u32 {
 
 /// Learns a clause from the conflict, whose highest level is given, and writes down what it follows from, if that is asked for.
 fn learn_clause(
-    analysis: &mut Analysis,
+    problem: &Problem,
+    known: &Known,
     heap: &mut Heap,
-    log: &mut Log,
-    view: &View<'_>,
+    learning: &mut Learning,
     top: u32,
 ) -> Learned {
-    let level = learn(analysis, heap, view, top);
-    let levels = count_levels(analysis, view.known);
+    let view = View { problem, known };
+    let (analysis, log) = (&mut learning.analysis, &mut learning.log);
+    let level = learn(analysis, heap, &view, top);
+    heap.step /= 0.95;
+    let levels = count_levels(analysis, known);
     let mut step = NONE;
     if log.is_on {
-        step = log_learned(log, view, analysis);
+        step = log_learned(log, &view, analysis);
     }
     Learned {
         level,
@@ -469,47 +500,42 @@ fn learn_clause(
 
 /// Learns a clause from the conflict, whose highest level is given, and goes back to where the clause forces a literal.
 fn learn_and_return(solver: &mut Solver<'_>, top: u32) {
-    let view = View {
-        problem: &*solver.problem,
-        known: &*solver.known,
-    };
-    let learned = learn_clause(solver.analysis, solver.heap, solver.log, &view, top);
+    let (problem, known) = (&*solver.problem, &*solver.known);
+    let learned = learn_clause(problem, known, solver.heap, solver.learning, top);
     let level = backjump_level(solver.course, learned.level, top);
     backjump(solver, level);
-    let analysis = &*solver.analysis;
+    let literals = solver.learning.analysis.clause.items();
     add_learned(
         solver.problem,
         solver.known,
         solver.course,
-        analysis.clause.items(),
+        literals,
         learned,
     );
 }
 
-/// Reads what the conflict needs, and gives the highest level of it. The conflict is noted, if that is asked for, or, where `ends` says so, if that
-/// level is the lowest: then the search is at its end.
-fn read_top(
-    analysis: &mut Analysis,
-    log: &mut Log,
-    view: &View<'_>,
+/// Reads what the conflict needs, and gives the highest level of it. The conflict is noted, if that is asked for, or if that level is the lowest
+/// and nothing was learned yet: then the search is at its end, and needs no second one for its steps.
+fn read_needed(
+    problem: &Problem,
+    known: &Known,
+    learning: &mut Learning,
     conflict: Conflict,
-    ends: bool,
 ) -> u32 {
-    let top = read_conflict(analysis, view, conflict);
+    let view = View { problem, known };
+    let (analysis, log) = (&mut learning.analysis, &mut learning.log);
+    let top = read_conflict(analysis, &view, conflict);
+    let ends = problem.clauses.learned.is_empty();
     if log.is_on | (ends & (top == 0)) {
-        log_conflict(log, view, conflict, analysis.todo.items(), top == 0);
+        log_conflict(
+            log,
+            &view,
+            conflict,
+            analysis.explained.literals.items(),
+            top == 0,
+        );
     }
     top
-}
-
-/// Reads what the conflict needs. The highest level of it is given. A search that learned nothing yet needs no second one for its steps.
-fn read_needed(solver: &mut Solver<'_>, conflict: Conflict) -> u32 {
-    let view = View {
-        problem: &*solver.problem,
-        known: &*solver.known,
-    };
-    let ends = view.problem.clauses.learned.is_empty();
-    read_top(solver.analysis, solver.log, &view, conflict, ends)
 }
 
 /// Drops learned clauses, if it is time for that.
@@ -521,22 +547,32 @@ fn reduce_in_time(problem: &mut Problem, known: &mut Known, course: &mut Course)
     }
 }
 
+/// Counts the conflict, notes how far the search came, and reads what the conflict needs, whose highest level is given.
+fn meet(
+    problem: &Problem,
+    known: &Known,
+    learning: &mut Learning,
+    course: &mut Course,
+    conflict: Conflict,
+) -> u32 {
+    note_conflict(course);
+    note_best(course, problem, known, begin_of_last(known));
+    read_needed(problem, known, learning, conflict)
+}
+
 /// Learns from the conflict, and goes back. None where the search goes on.
 fn handle_conflict(solver: &mut Solver<'_>, conflict: Conflict) -> Option<Found> {
-    note_conflict(solver.course);
-    let begun = begin_of_last(solver.known);
-    note_best(solver.course, solver.problem, solver.known, begun);
-    let top = read_needed(solver, conflict);
+    let (problem, known) = (&*solver.problem, &*solver.known);
+    let top = meet(problem, known, solver.learning, solver.course, conflict);
     if top == 0 {
         return Some(Found::NoOrder);
     }
-    if (top == 1) & solver.ranking.has_assumed() {
+    if (top == 1) & solver.course.has_assumed() {
         backjump(solver, 0);
         return Some(Found::NotAssumed);
     }
     backjump(solver, top);
     learn_and_return(solver, top);
-    solver.heap.step /= 0.95;
     reduce_in_time(solver.problem, solver.known, solver.course);
     if is_short(solver) {
         return Some(Found::Spent);
@@ -560,13 +596,14 @@ fn open_level(known: &mut Known) {
     known.levels.add(count);
 }
 
-/// Takes the literals to hold, as far as they are open. False where they cannot all.
-fn assume_all(
+/// Takes the assumed literals to hold, at a level of their own, as far as they are open. False where they cannot all.
+fn assume(
     problem: &mut Problem,
     known: &mut Known,
     closure: &mut Closure,
     assumed: &Table<u32>,
 ) -> bool {
+    open_level(known);
     for place in 0..assumed.len() {
         let literal = assumed.at(place);
         if known.value(literal) == 0 {
@@ -577,13 +614,6 @@ fn assume_all(
         }
     }
     true
-}
-
-/// Takes the assumed literals to hold, at a level of their own. False where they cannot all.
-fn assume(solver: &mut Solver<'_>) -> bool {
-    open_level(solver.known);
-    let assumed = &solver.ranking.assumed;
-    assume_all(solver.problem, solver.known, solver.closure, assumed)
 }
 
 /// Takes the heaviest variable that has no value.
@@ -611,14 +641,14 @@ fn first_literal(course: &Course, problem: &Problem, variable: u32) -> u32 {
 }
 
 /// Decides the next variable. False where none is left.
-fn choose(solver: &mut Solver<'_>) -> bool {
-    let Some(variable) = next_variable(solver.heap, solver.known) else {
+fn choose(problem: &Problem, known: &mut Known, heap: &mut Heap, course: &mut Course) -> bool {
+    let Some(variable) = next_variable(heap, known) else {
         return false;
     };
-    let literal = first_literal(solver.course, solver.problem, variable);
-    solver.course.choices = solver.course.choices.wrapping_add(1);
-    open_level(solver.known);
-    assign(solver.known, literal, Antecedent::Choice);
+    let literal = first_literal(course, problem, variable);
+    course.choices = course.choices.wrapping_add(1);
+    open_level(known);
+    assign(known, literal, Antecedent::Choice);
     true
 }
 
@@ -658,13 +688,13 @@ pub(crate) fn begin(solver: &mut Solver<'_>) -> bool {
     let Some(conflict) = begin_all(solver.problem, solver.known, solver.closure) else {
         return true;
     };
-    read_needed(solver, conflict);
+    read_needed(solver.problem, solver.known, solver.learning, conflict);
     false
 }
 
 /// How many bytes the search takes, about.
 pub(crate) fn bytes_held(solver: &Solver<'_>) -> usize {
-    bytes_of(solver.problem).saturating_add(bytes_logged(&solver.log.steps))
+    bytes_of(solver.problem).saturating_add(bytes_logged(&solver.learning.log.steps))
 }
 
 /// Whether the effort is spent.
@@ -712,15 +742,15 @@ fn pause(solver: &mut Solver<'_>) {
     let count = solver.known.count;
     note_best(solver.course, solver.problem, solver.known, count);
     let mut kept = 0;
-    if !solver.ranking.has_assumed() {
+    if !solver.course.has_assumed() {
         kept = kept_levels(solver.heap, solver.known);
     }
     backjump(solver, kept);
 }
 
 /// Whether the assumed literals are still to be taken to hold.
-fn is_to_assume(known: &Known, ranking: &Ranking) -> bool {
-    known.levels.is_empty() & ranking.has_assumed()
+fn is_to_assume(known: &Known, course: &Course) -> bool {
+    known.levels.is_empty() & course.has_assumed()
 }
 
 /// Searches within the limits, or until a growth is refused.
@@ -734,13 +764,14 @@ pub(crate) fn search(solver: &mut Solver<'_>, limits: Effort) -> Found {
         } else if is_over(solver, limits) {
             pause(solver);
             return Found::Spent;
-        } else if is_to_assume(solver.known, solver.ranking) {
-            if !assume(solver) {
+        } else if is_to_assume(solver.known, solver.course) {
+            let assumed = &solver.course.assumed;
+            if !assume(solver.problem, solver.known, solver.closure, assumed) {
                 note_conflict(solver.course);
                 backjump(solver, 0);
                 return Found::NotAssumed;
             }
-        } else if !choose(solver) {
+        } else if !choose(solver.problem, solver.known, solver.heap, solver.course) {
             return Found::All;
         }
     }

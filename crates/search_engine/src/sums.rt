@@ -100,17 +100,17 @@ impl Sums {
 
 /// For the rows that touch one object, in their order: which of them ran beside each one, and after which each one had ended.
 #[derive(Drop)]
-pub(crate) struct Concurrent {
-    pub starts: Table<usize>,
-    pub others: Table<usize>,
+struct Concurrent {
+    starts: Table<usize>,
+    others: Table<usize>,
     /// The first of the rows that began after it ended.
-    pub ended: Table<usize>,
+    ended: Table<usize>,
     active: Table<usize>,
 }
 
 impl Concurrent {
     /// Of no rows. It does not allocate.
-    pub(crate) fn empty(alloc: Global) -> Concurrent {
+    fn empty(alloc: Global) -> Concurrent {
         Concurrent {
             starts: Table::new(alloc, 0),
             others: Table::new(alloc, 0),
@@ -120,7 +120,7 @@ impl Concurrent {
     }
 
     /// Whether some growth was refused.
-    pub(crate) fn is_short(&self) -> bool {
+    fn is_short(&self) -> bool {
         self.starts.is_short()
             | self.others.is_short()
             | self.ended.is_short()
@@ -128,10 +128,54 @@ impl Concurrent {
     }
 
     /// Those that ran beside the row of that place.
-    pub(crate) fn others_of(&self, place: usize) -> &[usize] {
+    fn others_of(&self, place: usize) -> &[usize] {
         let from = self.starts.at(place);
         self.others
             .range(from, self.starts.at(place.wrapping_add(1)))
+    }
+}
+
+/// The rows that touch one object, in their order, and which of them ran beside which.
+#[derive(Drop)]
+pub(crate) struct Users {
+    pub rows: Table<usize>,
+    concurrent: Concurrent,
+}
+
+impl Users {
+    /// No rows. It does not allocate.
+    pub(crate) fn empty(alloc: Global) -> Users {
+        Users {
+            rows: Table::new(alloc, 0),
+            concurrent: Concurrent::empty(alloc),
+        }
+    }
+
+    /// Whether some growth was refused.
+    pub(crate) fn is_short(&self) -> bool {
+        self.rows.is_short() | self.concurrent.is_short()
+    }
+}
+
+/// By how much each of the rows that touch one object changes a count, and by how much those do together that had ended before each one and commit.
+#[derive(Drop)]
+pub(crate) struct Gains {
+    pub own: Table<i64>,
+    pub ended: Table<i64>,
+}
+
+impl Gains {
+    /// Of no rows. It does not allocate.
+    pub(crate) fn empty(alloc: Global) -> Gains {
+        Gains {
+            own: Table::new(alloc, 0),
+            ended: Table::new(alloc, 0),
+        }
+    }
+
+    /// Whether some growth was refused.
+    pub(crate) fn is_short(&self) -> bool {
+        self.own.is_short() | self.ended.is_short()
     }
 }
 
@@ -162,7 +206,7 @@ fn find_others(concurrent: &mut Concurrent, spans: &[Span], rows: &[usize], plac
 }
 
 /// Finds which of the rows ran beside which.
-pub(crate) fn find_concurrent(concurrent: &mut Concurrent, spans: &[Span], rows: &[usize]) {
+fn find_concurrent(concurrent: &mut Concurrent, spans: &[Span], rows: &[usize]) {
     concurrent.starts.clear();
     concurrent.others.clear();
     concurrent.ended.clear();
@@ -176,20 +220,20 @@ pub(crate) fn find_concurrent(concurrent: &mut Concurrent, spans: &[Span], rows:
     concurrent.starts.add(concurrent.others.len());
 }
 
-/// For each of the rows what those gain together that had ended before it began and commit.
-pub(crate) fn sum_ended(
-    sums: &mut Table<i64>,
-    concurrent: &Concurrent,
-    spans: &[Span],
-    rows: &[usize],
-    gains: &Table<i64>,
-) {
+/// Finds which of the rows ran beside which.
+pub(crate) fn find_users(users: &mut Users, spans: &[Span]) {
+    find_concurrent(&mut users.concurrent, spans, users.rows.items());
+}
+
+/// Adds up what those gain together that had ended before each of the rows began, and commit.
+pub(crate) fn sum_ended(gains: &mut Gains, users: &Users, spans: &[Span]) {
+    let (own, sums) = (&gains.own, &mut gains.ended);
     sums.clear();
-    sums.fill(rows.len().wrapping_add(1));
-    for place in 0..rows.len() {
-        if span_of(spans, rows[place]).commits == TRUE {
-            let first = concurrent.ended.at(place);
-            sums.set(first, sums.at(first).wrapping_add(gains.at(place)));
+    sums.fill(users.rows.len().wrapping_add(1));
+    for place in 0..users.rows.len() {
+        if span_of(spans, users.rows.at(place)).commits == TRUE {
+            let first = users.concurrent.ended.at(place);
+            sums.set(first, sums.at(first).wrapping_add(own.at(place)));
         }
     }
     let mut sum: i64 = 0;
@@ -222,31 +266,24 @@ fn add_term(problem: &mut Problem, row: usize, other: usize, gain: i64) {
 /// stands before the row, and commits.
 pub(crate) fn add_terms(
     problem: &mut Problem,
-    concurrent: &Concurrent,
-    rows: &[usize],
-    gains: &Table<i64>,
+    users: &Users,
+    gains: &Gains,
     place: usize,
     skipped: usize,
 ) {
-    let row = at(rows, place, 0);
-    let others = concurrent.others_of(place);
+    let row = users.rows.at(place);
+    let others = users.concurrent.others_of(place);
     for index in 0..others.len() {
         let other = others[index];
         if other != skipped {
-            add_term(problem, at(rows, other, 0), row, gains.at(other));
+            add_term(problem, users.rows.at(other), row, gains.own.at(other));
         }
     }
 }
 
 /// Adds the terms of all that ran beside the row of that place.
-pub(crate) fn add_all_terms(
-    problem: &mut Problem,
-    concurrent: &Concurrent,
-    rows: &[usize],
-    gains: &Table<i64>,
-    place: usize,
-) {
-    add_terms(problem, concurrent, rows, gains, place, usize::MAX);
+pub(crate) fn add_all_terms(problem: &mut Problem, users: &Users, gains: &Gains, place: usize) {
+    add_terms(problem, users, gains, place, usize::MAX);
 }
 
 /// The greatest sum of amounts that is counted here. The trial of an order still asks for the others.
