@@ -285,14 +285,9 @@ fn sort_needed(needed: &mut Table<Placed>, is_needed: &mut Table<bool>) {
 }
 
 /// Finds what the literals need that hold in any case, themselves too, as far as no step gives it yet; in the order of the trail.
-fn find_needed(
-    needs: &mut Needs,
-    explained: &mut Explained,
-    units: &Table<u32>,
-    view: &View<'_>,
-    literals: &[u32],
-) {
-    let (is_needed, needed) = (&mut needs.is_needed, &mut needs.needed);
+fn find_needed(log: &mut Log, view: &View<'_>, literals: &[u32]) {
+    let (explained, units) = (&mut log.explained, &log.given.units);
+    let (is_needed, needed) = (&mut log.needs.is_needed, &mut log.needs.needed);
     needed.clear();
     explained.literals.clear();
     explained.literals.add_all(literals);
@@ -334,13 +329,7 @@ fn add_unit(log: &mut Log, view: &View<'_>, literal: u32, forced: u32) -> u32 {
 
 /// Adds the steps that the literals hold in any case, and those of what they need.
 fn log_units(log: &mut Log, view: &View<'_>, literals: &[u32]) {
-    find_needed(
-        &mut log.needs,
-        &mut log.explained,
-        &log.given.units,
-        view,
-        literals,
-    );
+    find_needed(log, view, literals);
     for place in 0..log.needs.needed.len() {
         let literal = log.needs.needed.at(place).number;
         if log.given.units.at(var(literal)) == NONE {
@@ -449,13 +438,7 @@ pub(crate) fn log_conflict(
     if !is_end || is_step(&log.steps, last, &[]) {
         return;
     }
-    find_needed(
-        &mut log.needs,
-        &mut log.explained,
-        &log.given.units,
-        view,
-        literals,
-    );
+    find_needed(log, view, literals);
     replace_needed(log, view);
     let from = log.steps.hints.len();
     log.last = add_last(&mut log.steps, &log.needs.needed, last, from, &[]);

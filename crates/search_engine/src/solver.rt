@@ -548,7 +548,7 @@ fn reduce_in_time(problem: &mut Problem, known: &mut Known, course: &mut Course)
 }
 
 /// Counts the conflict, notes how far the search came, and reads what the conflict needs, whose highest level is given.
-fn meet(
+fn meet_conflict(
     problem: &Problem,
     known: &Known,
     learning: &mut Learning,
@@ -563,7 +563,7 @@ fn meet(
 /// Learns from the conflict, and goes back. None where the search goes on.
 fn handle_conflict(solver: &mut Solver<'_>, conflict: Conflict) -> Option<Found> {
     let (problem, known) = (&*solver.problem, &*solver.known);
-    let top = meet(problem, known, solver.learning, solver.course, conflict);
+    let top = meet_conflict(problem, known, solver.learning, solver.course, conflict);
     if top == 0 {
         return Some(Found::NoOrder);
     }
